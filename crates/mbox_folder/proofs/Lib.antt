@@ -1,0 +1,6 @@
+pub mod Cutting
+pub mod Days
+mod Driving
+pub mod FirstPlace
+pub mod Letters
+pub mod Reading

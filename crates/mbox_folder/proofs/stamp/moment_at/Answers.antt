@@ -1,0 +1,10 @@
+use Rattle.std.proofs.Common.{arith}
+use Rattle.std.proofs.lemmas.Int.{ints, clamps}
+use Rattle.mbox_folder.specs.Stamp.{IsMidnight, IsOffset}
+use Rattle.mbox_folder.proofs.stamp.moment_at.Goals as goal
+
+pub returns : goal.returns
+returns c =
+    let start_in : IsMidnight c.args.start = c.requires.start in
+    let offset_in : IsOffset c.args.offset = c.requires.offset in
+    omega (arith, ints, clamps)

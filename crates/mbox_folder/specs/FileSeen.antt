@@ -1,0 +1,37 @@
+-- What one whole read of a mailbox has seen.
+use Rattle.std.specs.Prelude.{◌≡◌, ◌≤◌, ℕ, List, [], ◌∷◌, Option, Some, None, Result, Ok, Err, length}
+use Rattle.disk_model.specs.Tree.{TreeNode, node_at}
+use Rattle.disk_model.specs.Journal.{Past, NoForeign}
+use Rattle.disk_model.specs.State.{tree_at, tree_after}
+use Rattle.disk_model.specs.declared.answers.FileRead.{FileRead}
+use Rattle.folder_core.specs.declared.error.ScanError.{ScanError}
+use Rattle.folder_core.specs.declared.error.ScanError.TheVariants.{Missing, NotMailbox, TooMany, TooLarge, Unfinished, ArchiveFull, Fault, NoMemory}
+use Rattle.folder_core.specs.Reads.{bytes_of, bytes_refusal, mbox_refusal, stamps_of}
+
+-- the file is what stands there, of a length that is allowed, or the refusal is that of what stands there
+abbrev pub IsRead : Result FileRead ScanError → Option TreeNode → Type 0
+IsRead (Ok file) there =
+    (bytes_of there ≡ file.bytes.items) × (stamps_of there ≡ file.stat.stamp ∷ [])
+    × ((letters : ℕ) → mbox_refusal letters there ≡ bytes_refusal letters file.bytes.items)
+IsRead (Err Fault) there = Unit {0}
+IsRead (Err NoMemory) there = Unit {0}
+IsRead (Err why) there = (letters : ℕ) → mbox_refusal letters there ≡ Some why
+
+-- it stood there at one mark between these two pasts, and where no others acted between them it stands there now
+pub record FileSeen (result : Result FileRead ScanError) (path : List ℕ) (old new : Past) : Type 0 where
+  pub mark : ℕ
+  pub from : length old.journal ≤ mark
+  pub to : mark ≤ length new.journal
+  pub is : IsRead result (node_at (tree_at new mark) path)
+  pub alone : NoForeign old new → tree_at new mark ≡ tree_after new
+
+-- an error that a read of the file may have
+abbrev pub IsFileError : ScanError → Type 0
+IsFileError Missing = Unit {0}
+IsFileError (NotMailbox place) = place ≡ 0
+IsFileError (TooLarge size) = Unit {0}
+IsFileError Fault = Unit {0}
+IsFileError NoMemory = Unit {0}
+IsFileError (TooMany count) = ⊥
+IsFileError Unfinished = ⊥
+IsFileError ArchiveFull = ⊥

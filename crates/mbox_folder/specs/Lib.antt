@@ -1,0 +1,5 @@
+pub mod Stamp
+pub mod Place
+pub mod Told
+pub mod FileSeen
+pub mod ListedFile

@@ -1,0 +1,19 @@
+-- What the messages of a file make of an archive.
+use Rattle.std.specs.Prelude.{◌≡◌, ◌++◌, ℕ, List, length, Option, Some, None, Result, Ok, Err}
+use Rattle.folder_core.specs.declared.error.ScanError.{ScanError}
+use Rattle.folder_core.specs.declared.error.ScanError.TheVariants.{NoMemory}
+use Rattle.folder_core.specs.declared.listing.Listed.{Listed}
+use Rattle.folder_core.specs.Letters.{Mail}
+use Rattle.folder_core.specs.Mbox.{raw_messages}
+use Rattle.folder_core.specs.Reads.{bytes_refusal, letters_from, listed_from}
+
+-- the letters of the file stand at the end of the archive, and these are their listing
+pub record IsListedFile (bytes : List ℕ) (archive new_archive : List Mail) (came : List Listed) : Type 0 where
+  pub taken : bytes_refusal (length archive) bytes ≡ None
+  pub letters : new_archive ≡ archive ++ letters_from (length archive) (raw_messages bytes)
+  pub listed : came ≡ listed_from (length archive) (raw_messages bytes)
+
+-- the file is not listed, for this cause or for want of memory
+abbrev pub IsUnlisted : List ℕ → ℕ → ScanError → Type 0
+IsUnlisted bytes letters NoMemory = Unit {0}
+IsUnlisted bytes letters why = bytes_refusal letters bytes ≡ Some why

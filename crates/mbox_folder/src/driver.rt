@@ -1,0 +1,112 @@
+ghost use Rattle.std.specs.Prelude.{◌≡◌, ◌≤◌, ◌<◌, ◌+◌, ◌∷◌, [], length, map, take, IfOk, IfErr, OnErr, IsErrOf};
+ghost use Rattle.mail_base.specs.Faults.{Rose};
+ghost use Rattle.mail_base.specs.declared.kind.Kind.TheVariants.{Mbox};
+ghost use Rattle.disk_model.specs.Judge.{GoesOn};
+ghost use Rattle.disk_model.specs.Looking.{LooksOnly};
+ghost use Rattle.folder_core.specs.Letters.{plain_letter};
+ghost use Rattle.folder_core.specs.Reads.{most_letters, most_messages};
+ghost use Rattle.folder_core.specs.Scanned.{ListsNew, Saw};
+ghost use Rattle.mbox_folder.specs.ListedFile.{IsListedFile, IsUnlisted};
+
+use crate::listing::list_file;
+use crate::read::read_file;
+use disk_model::{Device, Disk, FileRead};
+use folder_core::{Archive, Driver, Found, Known, Listing, ScanError};
+use mail_base::{Ids, Kind, Stamps};
+use std::alloc::Global;
+
+/// Reads mailboxes in one file (mbox(5)).
+#[derive(Drop)]
+pub struct MboxDriver;
+
+impl Driver for MboxDriver {
+    ghost sort = { λ driver. Mbox };
+
+    fn kind(&self) -> Kind {
+        Kind::Mbox
+    }
+
+    fn scan(
+        &self,
+        alloc: Global,
+        dev: &mut Device,
+        known: &mut Known,
+        archive: &mut Archive,
+    ) -> Result<Found, ScanError> {
+        scan_file(alloc, &mut *dev.disk, known, archive)
+    }
+}
+
+/// Reads a mailbox of which nothing is listed yet, as the driver's `scan`.
+fn scan_file(
+    alloc: Global,
+    disk: &mut dyn Disk,
+    known: &mut Known,
+    archive: &mut Archive,
+) -> Result<Found, ScanError>
+    ensures saw { GoesOn (Saw Mbox (map plain_letter archive.old.items) (map plain_letter archive.new.items) known.new result)
+        (seen disk.old).told (seen disk.new).told }
+    ensures lists { IfOk result (λ found. ListsNew found (map plain_letter archive.old.items) (map plain_letter archive.new.items)
+        known.old known.new) }
+    ensures err_archive { OnErr result (archive.new.items ≡ archive.old.items) }
+    ensures err_known { OnErr result (known.new ≡ known.old) }
+    ensures full { IsErrOf result ScanError.ArchiveFull → most_letters < length archive.old.items + (most_messages + 1) }
+    ensures looks { LooksOnly (seen disk.old).told (seen disk.new).told }
+    ensures marks { (seen disk.old).marks ≤ (seen disk.new).marks }
+    ensures faults { (seen disk.old).faults ≤ (seen disk.new).faults }
+    ensures cause { IsErrOf result ScanError.Fault → Rose (seen disk.old).faults (seen disk.new).faults }
+{
+    let file = match read_file(alloc, disk, known.path()) {
+        Ok(file) => file,
+        Err(why) => return Err(why),
+    };
+    let letters = archive.len();
+    match list_known(alloc, file, known, archive) {
+        Ok(found) => Ok(found),
+        Err(why) => {
+            archive.shorten(letters);
+            Err(why)
+        }
+    }
+}
+
+/// Lists a file that was read. After a refusal letters may stand behind those that were there.
+fn list_known(
+    alloc: Global,
+    file: FileRead,
+    known: &mut Known,
+    archive: &mut Archive,
+) -> Result<Found, ScanError>
+    ensures listed { IfOk result (λ found. IsListedFile file.bytes.items
+        (map plain_letter archive.old.items) (map plain_letter archive.new.items) found.came.items) }
+    ensures gone { IfOk result (λ found. found.gone.items ≡ []) }
+    ensures reflagged { IfOk result (λ found. found.reflagged.items ≡ []) }
+    ensures known { IfOk result (λ found. known.new ≡ record known.old {
+      listing = found.came.items;
+      bytes = file.bytes.items;
+      stamps = file.stat.stamp ∷ [];
+    }) }
+    ensures unknown { OnErr result (known.new ≡ known.old) }
+    ensures unlisted { IfErr result (IsUnlisted file.bytes.items (length (map plain_letter archive.old.items))) }
+    ensures front { take (length archive.old.items) archive.new.items ≡ archive.old.items }
+{
+    let came = match list_file(alloc, file.bytes.as_slice(), archive) {
+        Ok(came) => came,
+        Err(why) => return Err(why),
+    };
+    let mut stamps = Stamps::new(alloc);
+    if stamps.push(file.stat.stamp).is_err() {
+        return Err(ScanError::NoMemory);
+    }
+    match came.as_slice().to_vec(alloc) {
+        Ok(listing) => {
+            known.put(Listing::from_vec(listing), file.bytes, stamps);
+            Ok(Found {
+                gone: Ids::new(alloc),
+                came,
+                reflagged: Listing::new(alloc),
+            })
+        }
+        Err(_) => Err(ScanError::NoMemory),
+    }
+}

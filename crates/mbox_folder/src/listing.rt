@@ -1,0 +1,108 @@
+ghost use Rattle.std.specs.Prelude.{◌≡◌, ◌≤◌, ◌+◌, ◌++◌, ◌^◌, ◌<◌, length, map, take, IfOk, IfErr};
+ghost use Rattle.folder_core.specs.Letters.{plain_letter};
+ghost use Rattle.folder_core.specs.Mbox.{raw_messages, regions as regions_lem, status};
+ghost use Rattle.folder_core.specs.Reads.{count_refusal as count_refusal_lem, letters_from, listed_from, mbox_letter, most_letters};
+ghost use Rattle.mbox_folder.specs.ListedFile.{IsListedFile, IsUnlisted};
+
+use crate::lines::first_line;
+use crate::postmark::read_postmark;
+use crate::regions::{CutError, cut_regions};
+use crate::status::read_status;
+use crate::stripped::core_of;
+use folder_core::{Archive, Letter, Listed, Listing, Region, ScanError};
+use mail_base::{Bytes, Id, NoMemory};
+use std::alloc::Global;
+
+/// The most messages that are listed.
+const MOST_MESSAGES: usize = 65_535;
+
+/// The most letters of an archive.
+const MOST_LETTERS: usize = 4_294_967_295;
+
+/// Adds the letters of a file to an archive, and answers their listing. After a refusal letters may stand behind those
+/// that were there.
+pub fn list_file(alloc: Global, bytes: &[u8], archive: &mut Archive) -> Result<Listing, ScanError>
+    ensures listed { IfOk result (λ came. IsListedFile bytes.now (map plain_letter archive.old.items)
+        (map plain_letter archive.new.items) came.items) }
+    ensures unlisted { IfErr result (IsUnlisted bytes.now (length archive.old.items)) }
+    ensures front { take (length archive.old.items) archive.new.items ≡ archive.old.items }
+{
+    let regions = match cut_regions(alloc, bytes) {
+        Ok(regions) => regions,
+        Err(CutError::NotMailbox) => return Err(ScanError::NotMailbox(0)),
+        Err(CutError::NoMemory) => return Err(ScanError::NoMemory),
+    };
+    match count_refusal(archive.len(), regions.len()) {
+        Some(why) => return Err(why),
+        None => {}
+    }
+    match list_messages(alloc, bytes, regions.as_slice(), archive) {
+        Ok(came) => Ok(came),
+        Err(NoMemory) => Err(ScanError::NoMemory),
+    }
+}
+
+/// Why so many messages are not listed beside an archive.
+fn count_refusal(letters: usize, count: usize) -> Option<ScanError>
+    ensures { result ≡ count_refusal_lem letters count }
+{
+    if count > MOST_MESSAGES {
+        return Some(ScanError::TooMany(count as u64));
+    }
+    if letters > MOST_LETTERS - count {
+        return Some(ScanError::ArchiveFull);
+    }
+    None
+}
+
+/// Adds the letters of the messages to an archive, and answers their listing.
+fn list_messages(
+    alloc: Global,
+    bytes: &[u8],
+    regions: &[Region],
+    archive: &mut Archive,
+) -> Result<Listing, NoMemory>
+    requires cut { regions.now ≡ regions_lem bytes.now }
+    requires few { length archive.old.items + length regions.now ≤ most_letters }
+    ensures letters { IfOk result (λ came. map plain_letter archive.new.items
+        ≡ map plain_letter archive.old.items ++ letters_from (length archive.old.items) (raw_messages bytes.now)) }
+    ensures listed { IfOk result (λ came. came.items ≡ listed_from (length archive.old.items) (raw_messages bytes.now)) }
+    ensures front { take (length archive.old.items) archive.new.items ≡ archive.old.items }
+{
+    let mut came = Listing::new(alloc);
+    came.reserve(regions.len())?;
+    let mut left = regions;
+    while let [region, rest @ ..] = left {
+        let raw = &bytes[region.start..region.end];
+        let id = archive.len() as u32;
+        let letter = letter_of(alloc, raw, id)?;
+        came.push(listed(raw, id))?;
+        archive.push(letter)?;
+        left = rest;
+    }
+    Ok(came)
+}
+
+/// The letter of a message.
+fn letter_of(alloc: Global, raw: &[u8], id: u32) -> Result<Letter, NoMemory>
+    ensures { IfOk result (λ letter. plain_letter letter ≡ mbox_letter id raw.now) }
+{
+    let postmark = first_line(raw);
+    Ok(Letter {
+        order: u64::from(id),
+        key: Bytes::new(alloc),
+        core: core_of(alloc, raw)?,
+        text_at: postmark.len(),
+        received: read_postmark(postmark).unwrap_or(0),
+    })
+}
+
+fn listed(raw: &[u8], id: u32) -> Listed
+    ensures id { result.id.0 ≡ id }
+    ensures flags { result.flags ≡ status raw.now }
+{
+    Listed {
+        id: Id(id),
+        flags: read_status(raw),
+    }
+}

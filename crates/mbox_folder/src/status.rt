@@ -1,0 +1,124 @@
+ghost use Rattle.std.specs.Prelude.{◌≡◌, [], ◌∷◌, ◌&&◌, ◌||◌, List, ℕ, codes};
+ghost use Rattle.std.specs.Str.{str_eq_ignore_ascii_case};
+ghost use Rattle.bstr.specs.Text.{lines_of};
+ghost use Rattle.mail_base.specs.Lines.{fields_of, header_block};
+ghost use Rattle.folder_core.specs.Mbox as spec;
+ghost use Rattle.mbox_folder.specs.Told.{has, told_by};
+
+use bstr::ByteSlice;
+use mail_base::{Flags, Kind, colon_of, is_continuation, is_empty_line};
+
+/// A field, as far as it holds flags.
+#[derive(Clone, Copy)]
+enum StatusField {
+    Status,
+    XStatus,
+    Other,
+}
+
+impl StatusField {
+    ghost use Rattle.mbox_folder.specs.Told.{is_status, is_x_status};
+
+    fn named(name: &[u8]) -> Self
+        ensures status { is_status result ≡ str_eq_ignore_ascii_case name.now (codes "Status") }
+        ensures x_status { is_x_status result ≡ str_eq_ignore_ascii_case name.now (codes "X-Status") }
+    {
+        if name.eq_ignore_ascii_case(b"Status") {
+            StatusField::Status
+        } else if name.eq_ignore_ascii_case(b"X-Status") {
+            StatusField::XStatus
+        } else {
+            StatusField::Other
+        }
+    }
+}
+
+/// The flags that lines of a header block told, and the field that the next line may continue.
+#[derive(Clone, Copy)]
+struct Told {
+    field: StatusField,
+    flags: Flags,
+}
+
+impl Told {
+    const NOTHING: Told = Told {
+        field: StatusField::Other,
+        flags: Flags {
+            seen: false,
+            aged: false,
+            replied: false,
+            flagged: false,
+            passed: false,
+            draft: false,
+            trashed: false,
+        },
+    };
+
+    ghost use Rattle.mbox_folder.specs.Told.{is_status, is_x_status};
+
+    /// What is told with a further line of the block.
+    fn with_line(self, line: &[u8]) -> Told
+        ensures { (lines : List (List ℕ)) → told_by result lines ≡ told_by self (line.now ∷ lines) }
+    {
+        match colon_of(line) {
+            Some(at) => self.with_text(StatusField::named(&line[..at]), &line[at + 1..]),
+            None if is_continuation(line) => self.with_text(self.field, line),
+            None => self,
+        }
+    }
+
+    /// What is told with more text of that field.
+    fn with_text(self, field: StatusField, text: &[u8]) -> Told
+        ensures field { result.field ≡ field }
+        ensures flags { result.flags ≡ record self.flags {
+          seen = self.flags.seen || (is_status field && has 82 text.now);
+          aged = self.flags.aged || (is_status field && has 79 text.now);
+          replied = self.flags.replied || (is_x_status field && has 65 text.now);
+          flagged = self.flags.flagged || (is_x_status field && has 70 text.now);
+        } }
+    {
+        let mut flags = self.flags;
+        match field {
+            StatusField::Status => {
+                flags.seen = flags.seen || holds(text, b'R');
+                flags.aged = flags.aged || holds(text, b'O');
+            }
+            StatusField::XStatus => {
+                flags.replied = flags.replied || holds(text, b'A');
+                flags.flagged = flags.flagged || holds(text, b'F');
+            }
+            StatusField::Other => {}
+        }
+        Told { field, flags }
+    }
+}
+
+fn holds(text: &[u8], letter: u8) -> bool
+    ensures { result ≡ has letter text.now }
+{
+    text.iter().any(|b| *b == letter)
+}
+
+/// What the header block tells that stands behind the first line.
+fn read_block(region: &[u8]) -> Told
+    ensures { told_by result [] ≡ spec.told_flags (fields_of (header_block (spec.behind_first (lines_of region.now)))) }
+{
+    let mut lines = region.lines_with_terminator();
+    let _ = lines.next();
+    let mut told = Told::NOTHING;
+    for line in lines {
+        if is_empty_line(line) {
+            return told;
+        }
+        told = told.with_line(line);
+    }
+    told
+}
+
+/// The flags of a message by the fields Status and X-Status of its header block, made normal.
+#[tactic(auto, unfolding(folder_core::specs::Mbox::status))]
+pub fn read_status(region: &[u8]) -> Flags
+    ensures { result ≡ spec.status region.now }
+{
+    read_block(region).flags.stored(Kind::Mbox)
+}

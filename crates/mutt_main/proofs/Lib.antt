@@ -1,0 +1,6 @@
+pub mod Cuts
+pub mod Going
+pub mod Looked
+pub mod Numbers
+pub mod Printing
+pub mod Whole

@@ -1,0 +1,15 @@
+pub mod Words
+pub mod Events
+pub mod Place
+pub mod Keys
+pub mod Subject
+pub mod Screen
+pub mod Runs
+pub mod Moments
+pub mod Taken
+pub mod Printed
+pub mod Notes
+pub mod Happened
+pub mod Opening
+pub mod Session
+pub mod Reading

@@ -1,0 +1,71 @@
+//! The program: a mail reader in the manner of Mutt.
+#![tactic(auto)]
+
+mod cursor;
+mod environment;
+mod event;
+mod folder;
+mod key;
+mod moment;
+mod note;
+mod open;
+mod opened;
+mod opening;
+mod options;
+mod place;
+mod row;
+mod run;
+mod screen;
+mod session;
+mod show;
+mod status;
+mod subject;
+mod turn;
+mod words;
+
+use crate::environment::command_words;
+use crate::event::{Events, Trace};
+use crate::run::run;
+use crate::status::Status;
+use disk_model::{Device, RealDisk};
+use folder_core::{Archive, Drivers};
+use mail_base::{RealClock, StdSink, StdSource};
+use mbox_folder::MboxDriver;
+use std::io;
+use std::process::ExitCode;
+
+fn main(rt: HostRuntime) -> io::Result<ExitCode> {
+    let status = match started(&rt) {
+        Ok(status) => status,
+        Err(_) => Status::NoMemory,
+    };
+    Ok(ExitCode::from(status.number()))
+}
+
+/// Runs the reader on the words, the streams, the disk and the clock of this process.
+fn started(rt: &HostRuntime) -> io::Result<Status> {
+    let alloc = rt.alloc();
+    let Ok(words) = command_words(alloc, rt) else {
+        return Ok(Status::NoMemory);
+    };
+    let mut dev = Device::new(Box::new(alloc, RealDisk::new(rt.clone()?))?);
+    let mut drivers = Drivers::new(alloc);
+    if drivers.add(Box::new(alloc, MboxDriver)?).is_err() {
+        return Ok(Status::NoMemory);
+    }
+    let mut trace = Trace {
+        archive: Archive::new(alloc),
+        events: Events::new(alloc),
+    };
+    Ok(run(
+        alloc,
+        &words,
+        &mut StdSource::new(rt.reader()),
+        &mut StdSink::new(rt.stdout()),
+        &mut StdSink::new(rt.stderr()),
+        &mut dev,
+        &mut drivers,
+        &mut RealClock::new(rt.clone()?),
+        &mut trace,
+    ))
+}
