@@ -1,8 +1,7 @@
 -- What a scan has seen, by what its read has seen.
-use Rattle.std.proofs.Common.{◌≡◌, ◌+◌, ◌<◌, ◌++◌, ℕ, Bool, true, false, List, [], ◌∷◌, Option, Some, None, Result, Ok, Err, length, map, nat_lt, if◌then◌else◌, refl, sym, ◌∙◌, ap, subst, arith}
+use Rattle.std.proofs.Common.{◌≡◌, ◌+◌, ◌<◌, ◌++◌, ℕ, Bool, true, false, List, [], ◌∷◌, Option, Some, None, Ok}
+use Rattle.std.proofs.Common.{Err, length, map, nat_lt, if◌then◌else◌, refl, sym, ◌∙◌, ap, subst, arith}
 use Rattle.std.proofs.lemmas.Bool.{ltb-false, ltb-true}
-use Rattle.mail_base.specs.declared.kind.Id.{Id}
-use Rattle.mail_base.specs.declared.kind.Kind.{Kind}
 use Rattle.mail_base.specs.declared.kind.Kind.TheVariants.{Mbox}
 use Rattle.disk_model.specs.Tree.{TreeNode, node_at}
 use Rattle.disk_model.specs.Journal.{Past}
@@ -10,15 +9,17 @@ use Rattle.disk_model.specs.Judge.{GoesOn}
 use Rattle.disk_model.specs.State.{tree_at}
 use Rattle.disk_model.specs.declared.answers.FileRead.{FileRead}
 use Rattle.folder_core.specs.declared.error.ScanError.{ScanError}
-use Rattle.folder_core.specs.declared.error.ScanError.TheVariants.{Missing, NotMailbox, TooMany, TooLarge, Unfinished, ArchiveFull, Fault, NoMemory}
+use Rattle.folder_core.specs.declared.error.ScanError.TheVariants.{Missing, NotMailbox, TooMany, TooLarge, Unfinished}
+use Rattle.folder_core.specs.declared.error.ScanError.TheVariants.{ArchiveFull, Fault, NoMemory}
 use Rattle.folder_core.specs.declared.listing.Found.{Found}
 use Rattle.folder_core.specs.declared.listing.Listed.{Listed}
 use Rattle.folder_core.specs.Known.{KnownFolder}
 use Rattle.folder_core.specs.Letters.{Mail}
-use Rattle.folder_core.specs.Mbox.{begins_mailbox, raw_messages, status}
-use Rattle.folder_core.specs.Reads.{bytes_refusal, count_refusal, letters_from, listed_from, most_letters, most_messages}
+use Rattle.folder_core.specs.Mbox.{begins_mailbox, raw_messages}
+use Rattle.folder_core.specs.Reads.{bytes_refusal, count_refusal, letters_from, listed_from, most_letters}
+use Rattle.folder_core.specs.Reads.{most_messages}
 use Rattle.folder_core.specs.Scanned.{IsScanned, ListsNew, Saw, ids_from}
-use Rattle.mbox_folder.specs.FileSeen.{FileSeen, IsFileError, IsRead}
+use Rattle.mbox_folder.specs.FileSeen.{FileSeen, IsRead}
 use Rattle.mbox_folder.specs.ListedFile.{IsListedFile, IsUnlisted}
 
 -- A listed file was seen.
@@ -26,7 +27,8 @@ use Rattle.mbox_folder.specs.ListedFile.{IsListedFile, IsUnlisted}
 abbrev pub known_file : KnownFolder → List Listed → FileRead → KnownFolder
 known_file known came file = record known { listing = came; bytes = file.bytes.items; stamps = file.stat.stamp ∷ [] }
 
-saw_listed : (file : FileRead) (found : Found) (archive new_archive : List Mail) (known : KnownFolder) (old new : Option Past)
+saw_listed : (file : FileRead) (found : Found) (archive new_archive : List Mail) (known : KnownFolder)
+    (old new : Option Past)
     → IsListedFile file.bytes.items archive new_archive found.came.items
     → GoesOn (FileSeen (Ok file) known.path) old new
     → GoesOn (Saw Mbox archive new_archive (known_file known found.came.items file) (Ok found)) old new
@@ -46,14 +48,15 @@ saw_listed file found archive new_archive known (Some past) (Some next) listed s
   alone = seen.alone;
 }
 
-pub saw_found : (file : FileRead) (found : Found) (archive new_archive : List Mail) (known new_known : KnownFolder) (old new : Option Past)
+pub saw_found : (file : FileRead) (found : Found) (archive new_archive : List Mail) (known new_known : KnownFolder)
+    (old new : Option Past)
     → IsListedFile file.bytes.items archive new_archive found.came.items
     → new_known ≡ known_file known found.came.items file
     → GoesOn (FileSeen (Ok file) known.path) old new
     → GoesOn (Saw Mbox archive new_archive new_known (Ok found)) old new
 saw_found file found archive new_archive known new_known old new listed put seen =
     subst (λ (k : KnownFolder). GoesOn (Saw Mbox archive new_archive k (Ok found)) old new) (sym put)
-        (saw_listed file found archive new_archive known old new listed seen)
+    (saw_listed file found archive new_archive known old new listed seen)
 
 -- A refusal was seen.
 
@@ -80,7 +83,8 @@ saw_unread why archive new_archive known (Some past) (Some next) seen = record {
   alone = seen.alone;
 }
 
-list_tells : (why : ScanError) (file : FileRead) (tree : List TreeNode) (archive new_archive : List Mail) (known : KnownFolder)
+list_tells : (why : ScanError) (file : FileRead) (tree : List TreeNode) (archive new_archive : List Mail)
+    (known : KnownFolder)
     → IsUnlisted file.bytes.items (length archive) why → IsRead (Ok file) (node_at tree known.path)
     → IsScanned Mbox tree archive new_archive known (Err why)
 list_tells Missing file tree archive new_archive known told is = is.2 (length archive) ∙ told
@@ -92,7 +96,8 @@ list_tells ArchiveFull file tree archive new_archive known told is = is.2 (lengt
 list_tells Fault file tree archive new_archive known told is = tt
 list_tells NoMemory file tree archive new_archive known told is = tt
 
-saw_known : (why : ScanError) (file : FileRead) (archive new_archive : List Mail) (known : KnownFolder) (old new : Option Past)
+saw_known : (why : ScanError) (file : FileRead) (archive new_archive : List Mail) (known : KnownFolder)
+    (old new : Option Past)
     → IsUnlisted file.bytes.items (length archive) why
     → GoesOn (FileSeen (Ok file) known.path) old new → GoesOn (Saw Mbox archive new_archive known (Err why)) old new
 saw_known why file archive new_archive known None new told seen = tt
@@ -105,26 +110,35 @@ saw_known why file archive new_archive known (Some past) (Some next) told seen =
   alone = seen.alone;
 }
 
-pub saw_unlisted : (why : ScanError) (file : FileRead) (archive new_archive : List Mail) (known new_known : KnownFolder) (old new : Option Past)
+pub saw_unlisted : (why : ScanError) (file : FileRead) (archive new_archive : List Mail) (known new_known : KnownFolder)
+    (old new : Option Past)
     → new_known ≡ known → IsUnlisted file.bytes.items (length archive) why
     → GoesOn (FileSeen (Ok file) known.path) old new → GoesOn (Saw Mbox archive new_archive new_known (Err why)) old new
 saw_unlisted why file archive new_archive known new_known old new same told seen =
     subst (λ (k : KnownFolder). GoesOn (Saw Mbox archive new_archive k (Err why)) old new) (sym same)
-        (saw_known why file archive new_archive known old new told seen)
+    (saw_known why file archive new_archive known old new told seen)
 
 -- A file is refused for want of ids only where they may run out.
-full_count : (letters count : ℕ) → count_refusal letters count ≡ Some ArchiveFull → most_letters < letters + (most_messages + 1)
+full_count : (letters count : ℕ) → count_refusal letters count ≡ Some ArchiveFull
+    → most_letters < letters + (most_messages + 1)
 full_count letters count is = many (nat_lt most_messages count) refl is
   where
     many : (t : Bool) → nat_lt most_messages count ≡ t
-        → (if t then Some (TooMany count) else (if nat_lt most_letters (letters + count) then Some ArchiveFull else None)) ≡ Some ArchiveFull
+        → (if t then Some (TooMany count) else
+        (if nat_lt most_letters (letters + count) then Some ArchiveFull else None)) ≡ Some ArchiveFull
         → most_letters < letters + (most_messages + 1)
     many true over is = absurd (cc)
     many false over is = out (nat_lt most_letters (letters + count)) refl is
       where
-        out : (u : Bool) → nat_lt most_letters (letters + count) ≡ u → (if u then Some ArchiveFull else None) ≡ Some ArchiveFull
+        out : (u : Bool) → nat_lt most_letters (letters + count) ≡ u
+            → (if u then Some ArchiveFull else None) ≡ Some ArchiveFull
             → most_letters < letters + (most_messages + 1)
-        out true past is = omega (arith, ltb-false most_messages count over, ltb-true most_letters (letters + count) past)
+        out true past is = omega (
+          arith,
+          ltb-false most_messages count over,
+          ltb-true most_letters (letters + count)
+              past,
+        )
         out false past is = absurd (cc)
 
 pub full_unlisted : (letters : ℕ) (bytes : List ℕ) (why : ScanError) → why ≡ ArchiveFull → IsUnlisted bytes letters why
@@ -132,19 +146,23 @@ pub full_unlisted : (letters : ℕ) (bytes : List ℕ) (why : ScanError) → why
 full_unlisted letters bytes why full told =
     begun (begins_mailbox bytes) refl (subst (λ (e : ScanError). IsUnlisted bytes letters e) full told)
   where
-    begun : (t : Bool) → begins_mailbox bytes ≡ t → bytes_refusal letters bytes ≡ Some ArchiveFull → most_letters < letters + (most_messages + 1)
+    begun : (t : Bool) → begins_mailbox bytes ≡ t → bytes_refusal letters bytes ≡ Some ArchiveFull
+        → most_letters < letters + (most_messages + 1)
     begun true begins is = full_count letters (length (raw_messages bytes))
-        (sym (ap (λ (b : Bool). if b then count_refusal letters (length (raw_messages bytes)) else Some (NotMailbox 0)) begins) ∙ is)
+        (sym (ap (λ (b : Bool). if b then count_refusal letters (length (raw_messages bytes)) else Some (NotMailbox 0))
+        begins) ∙ is)
     begun false begins is =
         let no : Some (NotMailbox 0) ≡ Some ArchiveFull =
-        sym (ap (λ (b : Bool). if b then count_refusal letters (length (raw_messages bytes)) else Some (NotMailbox 0)) begins) ∙ is in absurd (cc)
+        sym (ap (λ (b : Bool). if b then count_refusal letters (length (raw_messages bytes)) else Some (NotMailbox 0))
+        begins) ∙ is in absurd (cc)
 
 -- Listed messages are new, and their letters stand behind the others.
 each_letter : (id : ℕ) (raws : List (List ℕ)) → length (letters_from id raws) ≡ length (listed_from id raws)
 each_letter id [] = refl
 each_letter id (raw ∷ raws) = omega (arith, each_letter (id + 1) raws)
 
-new_ids : (id : ℕ) (raws : List (List ℕ)) → map (λ listed. listed.id) (listed_from id raws) ≡ ids_from id (listed_from id raws)
+new_ids : (id : ℕ) (raws : List (List ℕ))
+    → map (λ listed. listed.id) (listed_from id raws) ≡ ids_from id (listed_from id raws)
 new_ids id [] = refl
 new_ids id (raw ∷ raws) = ap (λ ids. record { 0 = id } ∷ ids) (new_ids (id + 1) raws)
 
@@ -161,5 +179,6 @@ lists_new file found archive new_archive known new_known listed gone reflagged p
   added = letters_from (length archive) (raw_messages file.bytes.items);
   archived = listed.letters;
   each = each_letter (length archive) (raw_messages file.bytes.items) ∙ ap length (sym listed.listed);
-  kept = subst (λ (k : KnownFolder). k ≡ record known { listing = found.came.items; bytes = k.bytes; stamps = k.stamps }) (sym put) refl;
+  kept = subst (λ (k : KnownFolder). k ≡ record known
+      { listing = found.came.items; bytes = k.bytes; stamps = k.stamps }) (sym put) refl;
 }

@@ -1,5 +1,6 @@
 -- What stands before the first blank of a text and behind it.
-use Rattle.std.proofs.Common.{◌≡◌, ◌+◌, ◌<◌, ◌≤◌, ℕ, zero, suc, Bool, true, false, cond, List, [], ◌∷◌, Some, None, length, take, drop, position, refl, sym, ap, ◌∙◌, arith, take_all}
+use Rattle.std.proofs.Common.{◌≡◌, ◌+◌, ◌<◌, ◌≤◌, ℕ, zero, suc, Bool, true, false, cond, List, [], ◌∷◌, Some, None}
+use Rattle.std.proofs.Common.{length, take, drop, position, refl, sym, ap, ◌∙◌, arith, take_all}
 use Rattle.std.specs.List.{before_first, after_first, position_or_len, prefix_len}
 use Rattle.std.specs.Prelude.{if◌then◌else◌, not, slice_index}
 use Rattle.std.proofs.lemmas.List.{drop_all}

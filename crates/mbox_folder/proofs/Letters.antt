@@ -1,5 +1,7 @@
 -- Letters in unfolded fields, and the flags that a header block tells line by line.
-use Rattle.std.proofs.Common.{◌≡◌, ◌+◌, ◌-◌, ◌<◌, ℕ, zero, suc, Bool, true, false, cond, ◌&&◌, ◌||◌, ◌==◌, List, [], ◌∷◌, ◌++◌, map, Option, Some, None, length, take, drop, slice_index, unwrap_or, refl, sym, ap, ◌∙◌, arith}
+use Rattle.std.proofs.Common.{◌≡◌, ◌+◌, ◌-◌, ◌<◌, ℕ, zero, suc, Bool, true, false, cond, ◌&&◌, ◌||◌, ◌==◌, List, []}
+use Rattle.std.proofs.Common.{◌∷◌, ◌++◌, map, Option, Some, None, length, take, drop, slice_index, unwrap_or, refl, sym}
+use Rattle.std.proofs.Common.{ap, ◌∙◌, arith}
 use Rattle.std.specs.Prelude.{if◌then◌else◌, is_some, nat_lt, codes}
 use Rattle.std.specs.List.{concat, list_any}
 use Rattle.std.specs.Str.{str_eq_ignore_ascii_case}
@@ -7,7 +9,8 @@ use Rattle.std.proofs.lemmas.Bool.{cond-true, cond-false}
 use Rattle.std.proofs.lemmas.Bool.Decides.{nat_tests}
 use Rattle.bstr.specs.Text.{without_terminator, no_cr}
 use Rattle.mail_base.specs.declared.flags.Flags.{Flags}
-use Rattle.mail_base.specs.Lines.{is_blank, is_continuation, colon_of, behind_colon, without_blanks, unfolded, more_text, continuations, fields_of, HeaderField}
+use Rattle.mail_base.specs.Lines.{is_blank, is_continuation, colon_of, behind_colon, without_blanks, unfolded}
+use Rattle.mail_base.specs.Lines.{more_text, continuations, fields_of, HeaderField}
 use Rattle.folder_core.specs.Mbox.{holds}
 use Rattle.mbox_folder.specs.Told.{has, lines_hold, told_by, is_status, is_x_status}
 use Rattle.mbox_folder.specs.declared.status.StatusField.{StatusField}

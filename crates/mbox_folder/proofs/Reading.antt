@@ -1,10 +1,11 @@
 -- What one whole read of a mailbox has seen.
-use Rattle.std.proofs.Common.{◌≡◌, ◌≤◌, ℕ, Bool, true, false, List, [], ◌∷◌, Option, Some, None, Result, Ok, Err, length, nat_lt, if◌then◌else◌, refl, sym, ◌∙◌, ap, subst, arith}
+use Rattle.std.proofs.Common.{◌≡◌, ℕ, Bool, true, false, List, [], ◌∷◌, Option, Some, None, Result, Ok, Err}
+use Rattle.std.proofs.Common.{length, nat_lt, if◌then◌else◌, refl, sym, ◌∙◌, ap, subst, arith}
 use Rattle.disk_model.specs.Tree.{TreeNode, node_at}
-use Rattle.disk_model.specs.Journal.{Past, ReadAll, NoForeign}
+use Rattle.disk_model.specs.Journal.{Past, ReadAll}
 use Rattle.disk_model.specs.Judge.{Called, GoesOn, IsJudged, OneStep, read_at, read_node, read_of, stat_node}
-use Rattle.disk_model.specs.Looking.{HasLooked, LooksOnly}
-use Rattle.disk_model.specs.State.{tree_at, tree_after}
+use Rattle.disk_model.specs.Looking.{LooksOnly}
+use Rattle.disk_model.specs.State.{tree_at}
 use Rattle.disk_model.specs.declared.answers.Stat.{Stat}
 use Rattle.disk_model.specs.declared.answers.FileRead.{FileRead}
 use Rattle.disk_model.specs.declared.answers.DiskError.{DiskError}
@@ -13,7 +14,8 @@ use Rattle.disk_model.proofs.Looking.{looked_longer}
 use Rattle.disk_model.proofs.Marks.{length_longer, met_at, tree_at-length, tree_at-looked, tree_after-looked}
 use Rattle.folder_core.specs.Reads.{bytes_refusal, file_refusal, most_bytes}
 use Rattle.folder_core.specs.declared.error.ScanError.{ScanError}
-use Rattle.folder_core.specs.declared.error.ScanError.TheVariants.{Missing as NoFolder, NotMailbox, TooLarge, Fault as FolderFault, NoMemory as WantOfMemory}
+use Rattle.folder_core.specs.declared.error.ScanError.TheVariants.{Missing as NoFolder, NotMailbox, TooLarge}
+use Rattle.folder_core.specs.declared.error.ScanError.TheVariants.{Fault as FolderFault, NoMemory as WantOfMemory}
 use Rattle.mbox_folder.specs.FileSeen.{FileSeen, IsRead}
 
 -- What stands at the path, by the answer of the read.
@@ -39,11 +41,13 @@ file_ok : (file : FileRead) (path bytes : List ℕ) (stamp : ℕ)
 file_ok file path bytes stamp is = by_length (nat_lt most_bytes (length bytes)) refl is
   where
     by_length : (t : Bool) → nat_lt most_bytes (length bytes) ≡ t
-        → ◌≡◌ {A = Result ReadPair DiskError} (Ok (file.stat, file.bytes.items)) (if t then Err (Long (length bytes)) else Ok (stat_node (Some bytes) stamp, bytes))
+        → ◌≡◌ {A = Result ReadPair DiskError} (Ok (file.stat, file.bytes.items))
+        (if t then Err (Long (length bytes)) else Ok (stat_node (Some bytes) stamp, bytes))
         → IsRead (Ok file) (Some (plain_node path bytes stamp))
     by_length true long is = absurd (cc)
     by_length false long is =
-        let same : ◌≡◌ {A = ReadPair} (file.stat, file.bytes.items) (stat_node (Some bytes) stamp, bytes) = ok_pair _ _ is in
+        let same : ◌≡◌ {A = ReadPair} (file.stat, file.bytes.items) (stat_node (Some bytes) stamp, bytes) = ok_pair _ _
+        is in
         let content : file.bytes.items ≡ bytes = pair_bytes _ _ same in (
           sym content,
           ap (λ (s : Stat). s.stamp ∷ []) (sym (pair_stat _ _ same)),
@@ -60,60 +64,77 @@ by_bytes P node folder file = pick node.bytes refl
   where
     pick : (b : Option (List ℕ)) → node.bytes ≡ b → P node
     pick None is = folder is
-    pick (Some bytes) is = subst (λ (b : Option (List ℕ)). P (record { path = node.path; bytes = b; stamp = node.stamp })) (sym is) (file bytes is)
+    pick (Some bytes) is = subst (λ (b : Option (List ℕ)). P (record {
+      path = node.path;
+      bytes = b;
+      stamp = node.stamp;
+    })) (sym is) (file bytes is)
 
-read_same : (node : TreeNode) (b : Option (List ℕ)) → node.bytes ≡ b → read_at (Some node) most_bytes ≡ read_node b node.stamp most_bytes
+read_same : (node : TreeNode) (b : Option (List ℕ)) → node.bytes ≡ b
+    → read_at (Some node) most_bytes ≡ read_node b node.stamp most_bytes
 read_same node b is = ap (λ (c : Option (List ℕ)). read_node c node.stamp most_bytes) is
 
 node_ok : (file : FileRead) (there : Option TreeNode)
-    → ◌≡◌ {A = Result ReadPair DiskError} (Ok (file.stat, file.bytes.items)) (read_at there most_bytes) → IsRead (Ok file) there
+    → ◌≡◌ {A = Result ReadPair DiskError} (Ok (file.stat, file.bytes.items)) (read_at there most_bytes)
+    → IsRead (Ok file) there
 node_ok file None is = absurd (cc)
 node_ok file (Some node) is = by_bytes (λ (n : TreeNode). IsRead (Ok file) (Some n)) node
-    (λ folder. let no : ◌≡◌ {A = Result ReadPair DiskError} (Ok (file.stat, file.bytes.items)) (Err WrongNode) = is ∙ read_same node None folder in absurd (cc))
+    (λ folder. let no : ◌≡◌ {A = Result ReadPair DiskError} (Ok (file.stat, file.bytes.items)) (Err WrongNode) = is
+    ∙ read_same node None folder in absurd (cc))
     (λ bytes some. file_ok file node.path bytes node.stamp (is ∙ read_same node (Some bytes) some))
 
-node_missing : (there : Option TreeNode) → ◌≡◌ {A = Result ReadPair DiskError} (Err Missing) (read_at there most_bytes) → IsRead (Err NoFolder) there
+node_missing : (there : Option TreeNode) → ◌≡◌ {A = Result ReadPair DiskError} (Err Missing) (read_at there most_bytes)
+    → IsRead (Err NoFolder) there
 node_missing None is = λ letters. refl
 node_missing (Some node) is = by_bytes (λ (n : TreeNode). IsRead (Err NoFolder) (Some n)) node
-    (λ folder. let no : ◌≡◌ {A = Result ReadPair DiskError} (Err Missing) (Err WrongNode) = is ∙ read_same node None folder in absurd (cc))
+    (λ folder. let no : ◌≡◌ {A = Result ReadPair DiskError} (Err Missing) (Err WrongNode) = is
+    ∙ read_same node None folder in absurd (cc))
     (λ bytes some. by_length bytes (nat_lt most_bytes (length bytes)) (is ∙ read_same node (Some bytes) some))
   where
     by_length : (bytes : List ℕ) (t : Bool)
-        → ◌≡◌ {A = Result ReadPair DiskError} (Err Missing) (if t then Err (Long (length bytes)) else Ok (stat_node (Some bytes) node.stamp, bytes))
+        → ◌≡◌ {A = Result ReadPair DiskError} (Err Missing)
+        (if t then Err (Long (length bytes)) else Ok (stat_node (Some bytes) node.stamp, bytes))
         → IsRead (Err NoFolder) (Some (plain_node node.path bytes node.stamp))
     by_length bytes true is = absurd (cc)
     by_length bytes false is = absurd (cc)
 
-node_wrong : (there : Option TreeNode) → ◌≡◌ {A = Result ReadPair DiskError} (Err WrongNode) (read_at there most_bytes) → IsRead (Err (NotMailbox 0)) there
+node_wrong : (there : Option TreeNode) → ◌≡◌ {A = Result ReadPair DiskError} (Err WrongNode) (read_at there most_bytes)
+    → IsRead (Err (NotMailbox 0)) there
 node_wrong None is = absurd (cc)
 node_wrong (Some node) is = by_bytes (λ (n : TreeNode). IsRead (Err (NotMailbox 0)) (Some n)) node
     (λ folder letters. ap (file_refusal letters) folder)
     (λ bytes some. by_length bytes (nat_lt most_bytes (length bytes)) (is ∙ read_same node (Some bytes) some))
   where
     by_length : (bytes : List ℕ) (t : Bool)
-        → ◌≡◌ {A = Result ReadPair DiskError} (Err WrongNode) (if t then Err (Long (length bytes)) else Ok (stat_node (Some bytes) node.stamp, bytes))
+        → ◌≡◌ {A = Result ReadPair DiskError} (Err WrongNode)
+        (if t then Err (Long (length bytes)) else Ok (stat_node (Some bytes) node.stamp, bytes))
         → IsRead (Err (NotMailbox 0)) (Some (plain_node node.path bytes node.stamp))
     by_length bytes true is = absurd (cc)
     by_length bytes false is = absurd (cc)
 
-node_long : (size : ℕ) (there : Option TreeNode) → ◌≡◌ {A = Result ReadPair DiskError} (Err (Long size)) (read_at there most_bytes) → IsRead (Err (TooLarge size)) there
+node_long : (size : ℕ) (there : Option TreeNode)
+    → ◌≡◌ {A = Result ReadPair DiskError} (Err (Long size)) (read_at there most_bytes)
+    → IsRead (Err (TooLarge size)) there
 node_long size None is = absurd (cc)
 node_long size (Some node) is = by_bytes (λ (n : TreeNode). IsRead (Err (TooLarge size)) (Some n)) node
-    (λ folder. let no : ◌≡◌ {A = Result ReadPair DiskError} (Err (Long size)) (Err WrongNode) = is ∙ read_same node None folder in absurd (cc))
+    (λ folder. let no : ◌≡◌ {A = Result ReadPair DiskError} (Err (Long size)) (Err WrongNode) = is
+    ∙ read_same node None folder in absurd (cc))
     (λ bytes some. by_length bytes (nat_lt most_bytes (length bytes)) refl (is ∙ read_same node (Some bytes) some))
   where
     by_length : (bytes : List ℕ) (t : Bool) → nat_lt most_bytes (length bytes) ≡ t
-        → ◌≡◌ {A = Result ReadPair DiskError} (Err (Long size)) (if t then Err (Long (length bytes)) else Ok (stat_node (Some bytes) node.stamp, bytes))
+        → ◌≡◌ {A = Result ReadPair DiskError} (Err (Long size))
+        (if t then Err (Long (length bytes)) else Ok (stat_node (Some bytes) node.stamp, bytes))
         → IsRead (Err (TooLarge size)) (Some (plain_node node.path bytes node.stamp))
     by_length bytes true long is = let same : size ≡ length bytes = cc in
         λ letters. ap (λ (b : Bool). if b then Some (TooLarge (length bytes)) else bytes_refusal letters bytes) long
-            ∙ ap (λ (n : ℕ). Some (TooLarge n)) (sym same)
+        ∙ ap (λ (n : ℕ). Some (TooLarge n)) (sym same)
     by_length bytes false long is = absurd (cc)
 
 -- What the whole read has seen.
 
 -- a read that tells of the file has seen it
-file_told : (answer : Result ReadPair DiskError) (result : Result FileRead ScanError) (path : List ℕ) (old new : Option Past)
+file_told : (answer : Result ReadPair DiskError) (result : Result FileRead ScanError) (path : List ℕ)
+    (old new : Option Past)
     → GoesOn (OneStep answer (ReadAll path most_bytes) (λ tree. read_of tree path most_bytes)) old new
     → LooksOnly old new
     → ((there : Option TreeNode) → IsJudged answer (read_at there most_bytes) → IsRead result there)
@@ -135,36 +156,46 @@ file_told answer result path (Some past) (Some next) step looks tells =
 abbrev ReadCalled : Result ReadPair DiskError → List ℕ → Option Past → Option Past → Type 0
 ReadCalled answer path old new = Called answer (ReadAll path most_bytes) (λ tree. read_of tree path most_bytes) old new
 
-pub ok_seen : (file : FileRead) (path : List ℕ) (old new : Option Past) → ReadCalled (Ok (file.stat, file.bytes.items)) path old new
+pub ok_seen : (file : FileRead) (path : List ℕ) (old new : Option Past)
+    → ReadCalled (Ok (file.stat, file.bytes.items)) path old new
     → LooksOnly old new → GoesOn (FileSeen (Ok file) path) old new
 ok_seen file path old new step looks = file_told (Ok (file.stat, file.bytes.items)) (Ok file) path old new step looks
     (λ there judged. node_ok file there judged)
 
-called_as : (e f : DiskError) (path : List ℕ) (old new : Option Past) → e ≡ f → ReadCalled (Err e) path old new → ReadCalled (Err f) path old new
+called_as : (e f : DiskError) (path : List ℕ) (old new : Option Past) → e ≡ f → ReadCalled (Err e) path old new
+    → ReadCalled (Err f) path old new
 called_as e f path old new is step = subst (λ (x : DiskError). ReadCalled (Err x) path old new) is step
 
-pub missing_seen : (e : DiskError) (path : List ℕ) (old new : Option Past) → e ≡ Missing → ReadCalled (Err e) path old new
+pub missing_seen : (e : DiskError) (path : List ℕ) (old new : Option Past) → e ≡ Missing
+    → ReadCalled (Err e) path old new
     → LooksOnly old new → GoesOn (FileSeen (Err NoFolder) path) old new
 missing_seen e path old new is step looks =
-    file_told (Err Missing) (Err NoFolder) path old new (called_as e Missing path old new is step) looks (λ there judged. node_missing there judged)
+    file_told (Err Missing) (Err NoFolder) path old new (called_as e Missing path old new is step) looks
+    (λ there judged. node_missing there judged)
 
-pub wrong_seen : (e : DiskError) (path : List ℕ) (old new : Option Past) → e ≡ WrongNode → ReadCalled (Err e) path old new
+pub wrong_seen : (e : DiskError) (path : List ℕ) (old new : Option Past) → e ≡ WrongNode
+    → ReadCalled (Err e) path old new
     → LooksOnly old new → GoesOn (FileSeen (Err (NotMailbox 0)) path) old new
 wrong_seen e path old new is step looks =
-    file_told (Err WrongNode) (Err (NotMailbox 0)) path old new (called_as e WrongNode path old new is step) looks (λ there judged. node_wrong there judged)
+    file_told (Err WrongNode) (Err (NotMailbox 0)) path old new (called_as e WrongNode path old new is step) looks
+    (λ there judged. node_wrong there judged)
 
-pub long_seen : (e : DiskError) (size : ℕ) (path : List ℕ) (old new : Option Past) → e ≡ Long size → ReadCalled (Err e) path old new
+pub long_seen : (e : DiskError) (size : ℕ) (path : List ℕ) (old new : Option Past) → e ≡ Long size
+    → ReadCalled (Err e) path old new
     → LooksOnly old new → GoesOn (FileSeen (Err (TooLarge size)) path) old new
 long_seen e size path old new is step looks =
-    file_told (Err (Long size)) (Err (TooLarge size)) path old new (called_as e (Long size) path old new is step) looks (λ there judged. node_long size there judged)
+    file_told (Err (Long size)) (Err (TooLarge size)) path old new (called_as e (Long size) path old new is step) looks
+    (λ there judged. node_long size there judged)
 
 pub fault_seen : (e : DiskError) (path : List ℕ) (old new : Option Past) → e ≡ Fault → ReadCalled (Err e) path old new
     → LooksOnly old new → GoesOn (FileSeen (Err FolderFault) path) old new
 fault_seen e path old new is step looks =
-    file_told (Err Fault) (Err FolderFault) path old new (called_as e Fault path old new is step) looks (λ there judged. tt)
+    file_told (Err Fault) (Err FolderFault) path old new (called_as e Fault path old new is step) looks
+    (λ there judged. tt)
 
 -- for want of memory nothing was called
-pub memory_seen : (e : DiskError) (path : List ℕ) (old new : Option Past) → e ≡ NoMemory → ReadCalled (Err e) path old new
+pub memory_seen : (e : DiskError) (path : List ℕ) (old new : Option Past) → e ≡ NoMemory
+    → ReadCalled (Err e) path old new
     → LooksOnly old new → GoesOn (FileSeen (Err WantOfMemory) path) old new
 memory_seen e path None new is step looks = tt
 memory_seen e path (Some past) None is step looks = absurd looks

@@ -1,5 +1,5 @@
 -- What the messages of a file make of an archive.
-use Rattle.std.specs.Prelude.{◌≡◌, ◌++◌, ℕ, List, length, Option, Some, None, Result, Ok, Err}
+use Rattle.std.specs.Prelude.{◌≡◌, ◌++◌, ℕ, List, length, Some, None}
 use Rattle.folder_core.specs.declared.error.ScanError.{ScanError}
 use Rattle.folder_core.specs.declared.error.ScanError.TheVariants.{NoMemory}
 use Rattle.folder_core.specs.declared.listing.Listed.{Listed}

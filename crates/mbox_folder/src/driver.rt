@@ -44,13 +44,16 @@ fn scan_file(
     known: &mut Known,
     archive: &mut Archive,
 ) -> Result<Found, ScanError>
-    ensures saw { GoesOn (Saw Mbox (map plain_letter archive.old.items) (map plain_letter archive.new.items) known.new result)
+    ensures saw { GoesOn (Saw Mbox (map plain_letter archive.old.items) (map plain_letter archive.new.items) known.new
+        result)
         (seen disk.old).told (seen disk.new).told }
-    ensures lists { IfOk result (λ found. ListsNew found (map plain_letter archive.old.items) (map plain_letter archive.new.items)
+    ensures lists { IfOk result (λ found. ListsNew found (map plain_letter archive.old.items) (map plain_letter
+        archive.new.items)
         known.old known.new) }
     ensures err_archive { OnErr result (archive.new.items ≡ archive.old.items) }
     ensures err_known { OnErr result (known.new ≡ known.old) }
-    ensures full { IsErrOf result ScanError.ArchiveFull → most_letters < length archive.old.items + (most_messages + 1) }
+    ensures full { IsErrOf result ScanError.ArchiveFull
+        → most_letters < length archive.old.items + (most_messages + 1) }
     ensures looks { LooksOnly (seen disk.old).told (seen disk.new).told }
     ensures marks { (seen disk.old).marks ≤ (seen disk.new).marks }
     ensures faults { (seen disk.old).faults ≤ (seen disk.new).faults }

@@ -1,7 +1,8 @@
 ghost use Rattle.std.specs.Prelude.{◌≡◌, ◌≤◌, ◌+◌, ◌++◌, ◌^◌, ◌<◌, length, map, take, IfOk, IfErr};
 ghost use Rattle.folder_core.specs.Letters.{plain_letter};
 ghost use Rattle.folder_core.specs.Mbox.{raw_messages, regions as regions_lem, status};
-ghost use Rattle.folder_core.specs.Reads.{count_refusal as count_refusal_lem, letters_from, listed_from, mbox_letter, most_letters};
+ghost use Rattle.folder_core.specs.Reads.{count_refusal as count_refusal_lem, letters_from, listed_from, mbox_letter};
+ghost use Rattle.folder_core.specs.Reads.{most_letters};
 ghost use Rattle.mbox_folder.specs.ListedFile.{IsListedFile, IsUnlisted};
 
 use crate::lines::first_line;

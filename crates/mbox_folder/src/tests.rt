@@ -1,6 +1,12 @@
 use crate::plain::{plain_core, plain_regions, plain_status};
-use crate::{CutError, Region, core_of, cut_regions, first_line, read_postmark, read_status};
-use mail_base::Flags;
+use crate::{
+    CutError, MboxDriver, Region, core_of, cut_regions, first_line, read_postmark, read_status,
+};
+use disk_model::{Device, MemoryDisk, Node, Script, Tree, is_tree};
+use folder_core::{Archive, Driver, Known, ScanError};
+use mail_base::{Bytes, Flags, Id, Kind, Numbers};
+use std::alloc::Global;
+use std::process::Abort;
 use std::test::Fail;
 
 /// Lines and the moments of those that are postmarks.
@@ -247,5 +253,115 @@ fn agrees_with_the_plain_program(rt: HostRuntime) -> Result<(), Fail> {
         let marks = plain_status(rt.alloc(), region)?;
         assert_eq!(rt; read_status(region), flags_of(marks), "at {region:?}");
     }
+    Ok(())
+}
+
+const MAILBOX: &[u8] = b"From a Thu Jan  1 00:00:10 1970\nSubject: one\nStatus: R\n\nfirst\n\n\
+    From b Thu Jan  1 00:01 1970\nX-Status: F\nSubject: two\n\nsecond\n\n\
+    From c Fri Jan 2 00:00:00 +0100 1970\nSubject: three\n\nthird\n";
+
+/// Its messages: the id, whether seen, aged, replied and flagged, the core, where the text begins, and the moment.
+const LETTERS: [(u32, [bool; 4], &[u8], usize, i64); 3] = [
+    (
+        0,
+        [true, true, false, false],
+        b"From a Thu Jan  1 00:00:10 1970\nSubject: one\n\nfirst\n",
+        32,
+        10,
+    ),
+    (
+        1,
+        [false, false, false, true],
+        b"From b Thu Jan  1 00:01 1970\nSubject: two\n\nsecond\n",
+        29,
+        60,
+    ),
+    (
+        2,
+        [false, false, false, false],
+        b"From c Fri Jan 2 00:00:00 +0100 1970\nSubject: three\n\nthird\n",
+        37,
+        82_800,
+    ),
+];
+
+fn node(alloc: Global, path: &str, bytes: Option<&[u8]>) -> Result<Node, Fail> {
+    let bytes = match bytes {
+        Some(bytes) => Some(Bytes::copy_of(alloc, bytes)?),
+        None => None,
+    };
+    Ok(Node {
+        path: Bytes::copy_of(alloc, path.as_bytes())?,
+        bytes,
+    })
+}
+
+/// A disk with a mailbox, an empty file, a file of other text and a folder, of which call 5 fails.
+fn disk(rt: &impl Abort, alloc: Global) -> Result<MemoryDisk, Fail> {
+    let mut tree = Tree::new(alloc);
+    tree.push(node(alloc, "mail", Some(MAILBOX))?)?;
+    tree.push(node(alloc, "empty", Some(b""))?)?;
+    tree.push(node(alloc, "other", Some(b"Hello\n"))?)?;
+    tree.push(node(alloc, "folder", None)?)?;
+    assert!(rt; is_tree(&tree));
+    let mut fails = Numbers::new(alloc);
+    fails.push(5)?;
+    let disk = MemoryDisk::new(alloc, tree, Script::new(alloc), fails, None)?;
+    Ok(disk)
+}
+
+#[test]
+fn a_mailbox_is_listed(rt: HostRuntime) -> Result<(), Fail> {
+    let alloc = rt.alloc();
+    let mut dev = Device::new(Box::new(alloc, disk(&rt, alloc)?)?);
+    let mut known = Known::new(alloc, "mail", Kind::Mbox)?;
+    let mut archive = Archive::new(alloc);
+    let found = MboxDriver.scan(alloc, &mut dev, &mut known, &mut archive)?;
+    assert_eq!(rt; (found.gone.len(), found.reflagged.len()), (0, 0));
+    assert_eq!(rt; (found.came.len(), archive.len()), (3, 3));
+    for (id, marks, core, text_at, received) in LETTERS {
+        let listed = found.came.get(id as usize).expect(&rt, "a message");
+        assert_eq!(rt; listed.id, Id(id), "message {id}");
+        assert_eq!(rt; listed.flags, flags_of(marks), "message {id}");
+        let letter = archive.get(id as usize).expect(&rt, "a letter");
+        assert_eq!(rt; letter.order, u64::from(id), "message {id}");
+        assert_eq!(rt; letter.key.len(), 0, "message {id}");
+        assert_eq!(rt; letter.core.as_slice(), core, "message {id}");
+        assert_eq!(rt; letter.text_at, text_at, "message {id}");
+        assert_eq!(rt; letter.received, received, "message {id}");
+    }
+    assert_eq!(rt; known.listing().as_slice(), found.came.as_slice());
+    assert_eq!(rt; known.bytes().as_slice(), MAILBOX);
+    assert_eq!(rt; known.stamps().as_slice(), [1].as_slice());
+    Ok(())
+}
+
+#[test]
+fn each_path_is_scanned_or_refused(rt: HostRuntime) -> Result<(), Fail> {
+    let alloc = rt.alloc();
+    let mut dev = Device::new(Box::new(alloc, disk(&rt, alloc)?)?);
+    let mut archive = Archive::new(alloc);
+    // What is scanned, and how many letters and stamps there are then.
+    let rows: [(&str, &str, Result<usize, ScanError>, usize, usize); 7] = [
+        ("a mailbox", "mail", Ok(3), 3, 1),
+        ("an empty file", "empty", Ok(0), 3, 1),
+        ("other text", "other", Err(ScanError::NotMailbox(0)), 3, 0),
+        ("nothing", "none", Err(ScanError::Missing), 3, 0),
+        ("a folder", "folder", Err(ScanError::NotMailbox(0)), 3, 0),
+        ("a failing read", "mail", Err(ScanError::Fault), 3, 0),
+        ("the read behind it", "mail", Ok(3), 6, 1),
+    ];
+    for (name, path, wanted, letters, stamps) in rows {
+        let mut known = Known::new(alloc, path, Kind::Mbox)?;
+        let scanned = MboxDriver.scan(alloc, &mut dev, &mut known, &mut archive);
+        let came = scanned.map(|found| found.came.len());
+        assert_eq!(rt; came, wanted, "{name}");
+        assert_eq!(rt; known.listing().len(), wanted.unwrap_or(0), "{name}");
+        assert_eq!(rt; known.stamps().len(), stamps, "{name}");
+        assert_eq!(rt; archive.len(), letters, "{name}");
+    }
+    let last = archive.get(5).expect(&rt, "the last letter");
+    assert_eq!(rt; last.order, 5);
+    assert_eq!(rt; dev.faults(), 1);
     Ok(())
 }

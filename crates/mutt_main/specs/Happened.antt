@@ -1,12 +1,12 @@
 -- What the events of a run say of the disk.
-use Rattle.std.specs.Prelude.{◌≡◌, ◌≤◌, ◌⊎◌, ℕ, List, [], ◌∷◌, length, take, Some, None, Ok, Err}
+use Rattle.std.specs.Prelude.{◌≡◌, ◌≤◌, ◌⊎◌, ℕ, List, [], ◌∷◌, Some, None, Ok, Err}
 use Rattle.mail_base.specs.Faults.{Rose}
 use Rattle.mail_base.specs.declared.kind.Kind.{Kind}
 use Rattle.disk_model.specs.Journal.{Past, NoForeign}
 use Rattle.disk_model.specs.Seen.{Seen}
 use Rattle.disk_model.specs.State.{tree_at, tree_after}
 use Rattle.folder_core.specs.declared.error.ScanError.{ScanError}
-use Rattle.folder_core.specs.declared.error.ScanError.TheVariants.{Missing, NotMailbox, TooMany, TooLarge, Unfinished, ArchiveFull, Fault, NoMemory}
+use Rattle.folder_core.specs.declared.error.ScanError.TheVariants.{ArchiveFull, Fault, NoMemory}
 use Rattle.folder_core.specs.declared.listing.Listed.{Listed}
 use Rattle.folder_core.specs.Kinds.{kind_at}
 use Rattle.folder_core.specs.Letters.{Mail}
@@ -18,7 +18,8 @@ use Rattle.mutt_main.specs.declared.event.OpenFault.TheVariants.{Taken, NoDriver
 
 -- Between two marks the path was looked at and was of this kind, and then the folder held what came: its letters are
 -- the archive. Where no others acted, it holds the same at the second mark.
-pub record WasOpened (archive : List Mail) (path : List ℕ) (kind : Kind) (came : List Listed) (before after : ℕ) (old new : Past) : Type 0 where
+pub record WasOpened (archive : List Mail) (path : List ℕ) (kind : Kind) (came : List Listed) (before after : ℕ)
+    (old new : Past) : Type 0 where
   pub look : ℕ
   pub seen : ℕ
   pub from : before ≤ look

@@ -1,14 +1,16 @@
 -- What is told on the fault stream.
-use Rattle.std.specs.Prelude.{◌≡◌, ℕ, List, [], ◌∷◌, ◌++◌, codes, Option}
+use Rattle.std.specs.Prelude.{ℕ, List, [], ◌∷◌, ◌++◌, codes, Option}
 use Rattle.std.specs.Fmt.{decimal}
 use Rattle.std.specs.Io.KnownBytes.{Appends, Keeps}
 use Rattle.mail_base.specs.Streams.{Sent}
 use Rattle.folder_core.specs.declared.error.ScanError.{ScanError}
-use Rattle.folder_core.specs.declared.error.ScanError.TheVariants.{Missing, NotMailbox, TooMany, TooLarge, Unfinished, ArchiveFull, Fault, NoMemory}
+use Rattle.folder_core.specs.declared.error.ScanError.TheVariants.{Missing, NotMailbox, TooMany, TooLarge, Unfinished}
+use Rattle.folder_core.specs.declared.error.ScanError.TheVariants.{ArchiveFull, Fault, NoMemory}
 use Rattle.mutt_main.specs.declared.event.OpenFault.{OpenFault}
 use Rattle.mutt_main.specs.declared.event.OpenFault.TheVariants.{Taken, NoDriver, Folder}
 use Rattle.mutt_main.specs.declared.status.Status.{Status}
-use Rattle.mutt_main.specs.declared.status.Status.TheVariants.{Done, Usage, NotOpened, DiskFault, KeysFault, OutFault, NoMemory as WantOfMemory, TooManyKeys}
+use Rattle.mutt_main.specs.declared.status.Status.TheVariants.{Done, Usage, NotOpened, DiskFault, KeysFault, OutFault}
+use Rattle.mutt_main.specs.declared.status.Status.TheVariants.{NoMemory as WantOfMemory, TooManyKeys}
 
 -- a text with a number in parentheses
 abbrev pub numbered : List ℕ → ℕ → List ℕ

@@ -1,5 +1,5 @@
 -- What the opening of a folder does to a run that has no event yet.
-use Rattle.std.specs.Prelude.{◌≡◌, ◌≤◌, ℕ, ℤ, List, [], length, Option, Result, Ok, Err}
+use Rattle.std.specs.Prelude.{◌≡◌, ℕ, ℤ, List, [], length, Option, Result, Ok, Err}
 use Rattle.mail_base.specs.declared.kind.Kind.{Kind}
 use Rattle.disk_model.specs.Journal.{Past}
 use Rattle.disk_model.specs.Judge.{GoesOn}
@@ -9,7 +9,7 @@ use Rattle.folder_core.specs.declared.error.ScanError.TheVariants.{ArchiveFull}
 use Rattle.mutt_main.specs.Words.{Choice}
 use Rattle.mutt_main.specs.Events.{Happening}
 use Rattle.mutt_main.specs.Place.{View}
-use Rattle.mutt_main.specs.Runs.{Stage, Unopened, Reading, Over, IsRunFrom, after_events, screens_from}
+use Rattle.mutt_main.specs.Runs.{Unopened, Reading, IsRunFrom, after_events, screens_from}
 use Rattle.mutt_main.specs.Moments.{IsStart, pressed_moments}
 use Rattle.mutt_main.specs.Taken.{pressed_keys}
 use Rattle.mutt_main.specs.Printed.{EndsAs, IsOpened}
@@ -18,7 +18,8 @@ use Rattle.mutt_main.specs.declared.event.OpenFault.{OpenFault}
 use Rattle.mutt_main.specs.declared.event.OpenFault.TheVariants.{Taken, NoDriver, Folder}
 use Rattle.mutt_main.specs.declared.opened.Opened.{Opened}
 use Rattle.mutt_main.specs.declared.status.Status.{Status}
-use Rattle.mutt_main.specs.declared.status.Status.TheVariants.{Done, Usage, NotOpened, DiskFault, KeysFault, OutFault, NoMemory, TooManyKeys}
+use Rattle.mutt_main.specs.declared.status.Status.TheVariants.{Done, Usage, NotOpened, DiskFault, KeysFault, OutFault}
+use Rattle.mutt_main.specs.declared.status.Status.TheVariants.{NoMemory, TooManyKeys}
 
 -- what was read at a path, or why not, as the journal shows it
 abbrev pub WasLooked : List Mail → List ℕ → Result Opened OpenFault → Past → Past → Type 0
@@ -28,7 +29,8 @@ WasLooked archive path (Err why) old new =
     WasRefused path why (length old.journal) (length new.journal) new
 
 -- events of an opening alone: they are a run, and what they say is true
-pub record Opens (choice : Choice) (start : ℤ) (Has : Kind → Type 0) (archive : List Mail) (events : List Happening) (old new : Seen) : Type 0 where
+pub record Opens (choice : Choice) (start : ℤ) (Has : Kind
+    → Type 0) (archive : List Mail) (events : List Happening) (old new : Seen) : Type 0 where
   pub run : IsRunFrom choice Unopened events
   pub start_is : IsStart start events
   pub no_keys : pressed_keys events ≡ []

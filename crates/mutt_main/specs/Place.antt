@@ -1,6 +1,5 @@
 -- Where the reader stands: the listing, the cursor, the message line and the size of the screen.
-use Rattle.std.specs.Prelude.{◌==◌, ◌+◌, ◌-◌, ℕ, Bool, not, ◌&&◌, List, length, nat_lt, Option, Some, None, position, if◌then◌else◌}
-use Rattle.mail_base.specs.declared.flags.Flags.{Flags}
+use Rattle.std.specs.Prelude.{◌-◌, ℕ, Bool, not, ◌&&◌, List, length, Option, Some, None, position}
 use Rattle.folder_core.specs.declared.listing.Listed.{Listed}
 use Rattle.mutt_main.specs.declared.place.MessageLine.{MessageLine}
 use Rattle.mutt_main.specs.declared.place.MessageLine.TheVariants.{Blank}

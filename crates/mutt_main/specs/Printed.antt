@@ -1,19 +1,19 @@
 -- What is printed, and how a run ends.
-use Rattle.std.specs.Prelude.{◌≡◌, ◌<◌, ◌≤◌, ◌⊎◌, ℕ, List, [], ◌∷◌, length, Option, Result, Ok, Err}
+use Rattle.std.specs.Prelude.{◌≡◌, ◌<◌, ◌≤◌, ℕ, List, [], ◌∷◌, length, Option, Result, Ok, Err}
 use Rattle.std.specs.Io.KnownBytes.{Appends, IsAtEnd}
 use Rattle.std.specs.List.{concat}
 use Rattle.mail_base.specs.Streams.{Sent}
-use Rattle.folder_core.specs.declared.error.ScanError.{ScanError}
-use Rattle.folder_core.specs.declared.error.ScanError.TheVariants.{Missing, NotMailbox, TooMany, TooLarge, Unfinished, ArchiveFull, Fault, NoMemory}
+use Rattle.folder_core.specs.declared.error.ScanError.TheVariants.{Missing, NotMailbox, TooMany, TooLarge, Unfinished}
+use Rattle.folder_core.specs.declared.error.ScanError.TheVariants.{ArchiveFull, Fault, NoMemory}
 use Rattle.mutt_main.specs.Words.{Choice}
 use Rattle.mutt_main.specs.Events.{Happening, KeyPressed, FolderOpened, FolderRefused}
 use Rattle.mutt_main.specs.Runs.{Stage, Unopened, Reading, Over, after_events}
 use Rattle.mutt_main.specs.Taken.{most_keys, pressed_keys}
-use Rattle.mutt_main.specs.declared.event.Marks.{Marks}
 use Rattle.mutt_main.specs.declared.event.OpenFault.{OpenFault}
 use Rattle.mutt_main.specs.declared.event.OpenFault.TheVariants.{Taken, NoDriver, Folder}
 use Rattle.mutt_main.specs.declared.status.Status.{Status}
-use Rattle.mutt_main.specs.declared.status.Status.TheVariants.{Done, Usage, NotOpened, DiskFault, KeysFault, OutFault, NoMemory as WantOfMemory, TooManyKeys}
+use Rattle.mutt_main.specs.declared.status.Status.TheVariants.{Done, Usage, NotOpened, DiskFault, KeysFault, OutFault}
+use Rattle.mutt_main.specs.declared.status.Status.TheVariants.{NoMemory as WantOfMemory, TooManyKeys}
 
 -- how long the last of some screens is
 abbrev pub last_length : List (List ℕ) → ℕ

@@ -1,5 +1,5 @@
 -- A run from the opening of its folder on.
-use Rattle.std.specs.Prelude.{◌≡◌, ℕ, ℤ, List, ◌∷◌, Option}
+use Rattle.std.specs.Prelude.{ℕ, ℤ, List, Option}
 use Rattle.mail_base.specs.declared.kind.Kind.{Kind}
 use Rattle.disk_model.specs.Judge.{GoesOn}
 use Rattle.disk_model.specs.Seen.{Seen}
@@ -15,7 +15,9 @@ use Rattle.mutt_main.specs.declared.status.Status.{Status}
 
 -- The events are a run that ends with this status; their keys and moments were taken, their screens were printed, and
 -- what they say is true.
-pub record Reads (choice : Choice) (start : ℤ) (Has : Kind → Type 0) (archive : List Mail) (status : Status) (events : List Happening) (old new : Seen) (out out' keys keys' : Option (List ℕ)) (clock clock' : Option (List ℤ)) : Type 0 where
+pub record Reads (choice : Choice) (start : ℤ) (Has : Kind
+    → Type 0) (archive : List Mail) (status : Status) (events : List Happening) (old new : Seen)
+    (out out' keys keys' : Option (List ℕ)) (clock clock' : Option (List ℤ)) : Type 0 where
   pub run : IsRunFrom choice Unopened events
   pub ends : EndsAs choice status events keys'
   pub taken : TakesKeys keys keys' events

@@ -1,5 +1,5 @@
 -- A run: what it wishes next, and what an event makes of it.
-use Rattle.std.specs.Prelude.{◌≡◌, ◌+◌, ℕ, List, [], ◌∷◌, ◌++◌, Option, Some, None}
+use Rattle.std.specs.Prelude.{◌≡◌, ℕ, List, [], ◌∷◌, ◌++◌, Option, Some, None}
 use Rattle.folder_core.specs.Letters.{Mail}
 use Rattle.mutt_main.specs.Words.{Choice, folder_of}
 use Rattle.mutt_main.specs.Events.{Happening, KeyPressed, FolderOpened, FolderRefused}
@@ -30,7 +30,8 @@ Answers choice Over event = ⊥
 
 -- the stage after an event
 abbrev pub after_event : Choice → Stage → Happening → Stage
-after_event choice Unopened (FolderOpened path kind moment came marks) = Reading (first_view choice.rows choice.cols came)
+after_event choice Unopened (FolderOpened path kind moment came marks) = Reading
+    (first_view choice.rows choice.cols came)
 after_event choice Unopened (FolderRefused path why marks) = Over
 after_event choice Unopened (KeyPressed key moment) = Unopened
 after_event choice (Reading view) (KeyPressed key moment) = stage_of (after_key view key)

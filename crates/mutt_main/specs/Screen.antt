@@ -1,7 +1,7 @@
 -- The screen: computed from scratch from the listing and the place.
-use Rattle.std.specs.Prelude.{◌==◌, ◌+◌, ◌-◌, ◌*◌, ◌/◌, ℕ, Bool, List, [], ◌∷◌, ◌++◌, codes, count_by, length, take, drop, map, replicate, pos, slice_get, unwrap_or, if◌then◌else◌}
+use Rattle.std.specs.Prelude.{◌==◌, ◌+◌, ◌-◌, ◌*◌, ◌/◌, ℕ, Bool, List, [], ◌∷◌, ◌++◌, codes, count_by, length, take}
+use Rattle.std.specs.Prelude.{drop, replicate, pos, slice_get, unwrap_or, if◌then◌else◌}
 use Rattle.std.specs.Fmt.{decimal}
-use Rattle.std.specs.List.{concat}
 use Rattle.mail_base.specs.declared.flags.Flags.{Flags}
 use Rattle.folder_core.specs.declared.listing.Listed.{Listed}
 use Rattle.folder_core.specs.Letters.{Mail}
@@ -54,7 +54,8 @@ page view = take (page_size view) (drop (page_start view) view.listing)
 -- the status line: how many messages there are, how many are new and how many are marked deleted
 abbrev pub status_line : View → List ℕ
 status_line view =
-    take view.cols (codes "- " ++ decimal (length view.listing) ++ codes " n" ++ decimal (count_by is_new view.listing) ++ codes " d0")
+    take view.cols (codes "- " ++ decimal (length view.listing) ++ codes " n" ++ decimal (count_by is_new view.listing)
+    ++ codes " d0")
 
 abbrev pub message_text : MessageLine → List ℕ
 message_text Blank = []

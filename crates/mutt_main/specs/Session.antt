@@ -17,7 +17,8 @@ use Rattle.mutt_main.specs.declared.key.Key.{Key}
 use Rattle.mutt_main.specs.declared.place.Next.{Next}
 use Rattle.mutt_main.specs.declared.place.Next.TheVariants.{Go, Quit}
 use Rattle.mutt_main.specs.declared.status.Status.{Status}
-use Rattle.mutt_main.specs.declared.status.Status.TheVariants.{Done, Usage, NotOpened, DiskFault, KeysFault, OutFault, NoMemory, TooManyKeys}
+use Rattle.mutt_main.specs.declared.status.Status.TheVariants.{Done, Usage, NotOpened, DiskFault, KeysFault, OutFault}
+use Rattle.mutt_main.specs.declared.status.Status.TheVariants.{NoMemory, TooManyKeys}
 
 -- a key was pressed: it ended the run, or the next screen was printed, or but for a rest of it
 abbrev pub Turned : Result Next Status → List Mail → View → View → Key → Option (List ℕ) → Option (List ℕ) → Type 0
@@ -29,7 +30,8 @@ Turned (Err status) archive view next key out out' =
 
 -- Keys were pressed from a place on: the events, the screens but for a rest of the last, the bytes and the moments that
 -- were taken.
-pub record Went (choice : Choice) (archive : List Mail) (view : View) (stage : Stage) (old new : List Happening) (out out' keys keys' : Option (List ℕ)) (clock clock' : Option (List ℤ)) (rest : List ℕ) : Type 0 where
+pub record Went (choice : Choice) (archive : List Mail) (view : View) (stage : Stage) (old new : List Happening)
+    (out out' keys keys' : Option (List ℕ)) (clock clock' : Option (List ℤ)) (rest : List ℕ) : Type 0 where
   pub more : List Happening
   pub events : new ≡ old ++ more
   pub run : IsRunFrom choice (Reading view) more
@@ -53,7 +55,8 @@ EndsKeys (NotOpened why) stage count left rest = ⊥
 EndsKeys DiskFault stage count left rest = ⊥
 
 -- keys were pressed from a place on, until the run ended with this status
-pub record GoesToEnd (choice : Choice) (archive : List Mail) (view : View) (status : Status) (old new : List Happening) (out out' keys keys' : Option (List ℕ)) (clock clock' : Option (List ℤ)) : Type 0 where
+pub record GoesToEnd (choice : Choice) (archive : List Mail) (view : View) (status : Status) (old new : List Happening)
+    (out out' keys keys' : Option (List ℕ)) (clock clock' : Option (List ℤ)) : Type 0 where
   pub stage : Stage
   pub rest : List ℕ
   pub went : Went choice archive view stage old new out out' keys keys' clock clock' rest

@@ -1,5 +1,6 @@
 -- The raw subject of a letter (RFC 5322, section 3.6.5).
-use Rattle.std.specs.Prelude.{ℕ, Bool, ◌&&◌, nat_le, List, [], map, drop, find, Option, Some, None, codes, if◌then◌else◌}
+use Rattle.std.specs.Prelude.{ℕ, Bool, ◌&&◌, nat_le, List, [], map, drop, find, Option, Some, None, codes}
+use Rattle.std.specs.Prelude.{if◌then◌else◌}
 use Rattle.std.specs.Str.{str_eq_ignore_ascii_case}
 use Rattle.bstr.specs.Text.{lines_of, without_terminator}
 use Rattle.mail_base.specs.Lines.{behind_colon, header_block, is_field, name_of, without_blanks}

@@ -1,5 +1,6 @@
 -- The command line: `-f FOLDER`, `--rows=N` and `--cols=N`. The last of a repeated word counts.
-use Rattle.std.specs.Prelude.{◌≡◌, ◌+◌, ℕ, Bool, ◌&&◌, nat_eq, nat_le, nat_lt, List, [], ◌∷◌, Option, Some, None, Result, Ok, Err, codes, drop, length, map, option_map, if◌then◌else◌}
+use Rattle.std.specs.Prelude.{◌≡◌, ℕ, Bool, ◌&&◌, nat_eq, nat_le, nat_lt, List, [], ◌∷◌, Option, Some, None}
+use Rattle.std.specs.Prelude.{Result, Ok, Err, codes, drop, length, if◌then◌else◌}
 use Rattle.std.specs.List.{starts_with}
 use Rattle.std.specs.Result.{result_unwrap_or}
 use Rattle.std.specs.Str.{all_ascii_digits, bytes_eq, is_utf8, IsUtf8}
@@ -61,7 +62,8 @@ abbrev pub after_word : Choice → List ℕ → Option Choice
 after_word choice word =
     if starts_with nat_eq word (codes "-f") then with_folder choice (drop 2 word)
     else (if starts_with nat_eq word (codes "--rows=") then with_rows choice (number_in 6 200 (drop 7 word))
-    else (if starts_with nat_eq word (codes "--cols=") then with_cols choice (number_in 20 500 (drop 7 word)) else None))
+    else (if starts_with nat_eq word (codes "--cols=") then with_cols choice (number_in 20 500 (drop 7 word)) else
+    None))
 
 -- the choice after a word that holds its own value, or that word
 abbrev pub next_choice : Option Choice → (Choice → Result Choice (List ℕ)) → List ℕ → Result Choice (List ℕ)

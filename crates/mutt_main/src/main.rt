@@ -20,6 +20,8 @@ mod session;
 mod show;
 mod status;
 mod subject;
+#[cfg(test)]
+mod tests;
 mod turn;
 mod words;
 

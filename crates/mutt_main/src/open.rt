@@ -32,15 +32,18 @@ pub fn open(
     requires events { trace.old.events.items ≡ [] }
     requires tall { 6 ≤ options.now.rows }
     requires text { IsText options.now.folder }
-    ensures opens { Opens (plain_options options.now) moment (λ kind. Any (λ d. sort (d.vtable, d.value) ≡ kind) drivers.now.list.items)
+    ensures opens { Opens (plain_options options.now) moment
+        (λ kind. Any (λ d. sort (d.vtable, d.value) ≡ kind) drivers.now.list.items)
         (map plain_letter trace.new.archive.items) (plain_events trace.new.events.items)
         (seen (dev.old.disk.vtable, dev.old.disk.value)) (seen (dev.new.disk.vtable, dev.new.disk.value)) }
-    ensures shown { IfOk result (λ place. IsShown (plain_options options.now) (plain_events trace.new.events.items) (plain_place place)) }
+    ensures shown { IfOk result (λ place. IsShown (plain_options options.now) (plain_events trace.new.events.items)
+        (plain_place place)) }
     ensures tall { IfOk result (λ place. 6 ≤ place.rows) }
     ensures ends { IfErr result (λ status. IsEnd (plain_options options.now) (map plain_letter trace.new.archive.items)
         (plain_events trace.new.events.items) status) }
     ensures which { IfErr result IsOpenEnd }
-    ensures looks { LooksOnly (seen (dev.old.disk.vtable, dev.old.disk.value)).told (seen (dev.new.disk.vtable, dev.new.disk.value)).told }
+    ensures looks { LooksOnly (seen (dev.old.disk.vtable, dev.old.disk.value)).told
+        (seen (dev.new.disk.vtable, dev.new.disk.value)).told }
 {
     let path = folder_path(options);
     if trace.events.reserve(1).is_err() {

@@ -49,27 +49,34 @@ pub fn run<K: Source, O: Sink, E: Sink, C: Clock>(
 
     // The events are a run, and it ends as the status says.
     ensures run { IsRunFrom (chosen (plain_words words.now.items)) Unopened (plain_events trace.new.events.items) }
-    ensures ends { EndsAs (chosen (plain_words words.now.items)) result (plain_events trace.new.events.items) (K.left keys.new) }
+    ensures ends { EndsAs (chosen (plain_words words.now.items)) result (plain_events trace.new.events.items)
+        (K.left keys.new) }
     ensures keys { TakesKeys (K.left keys.old) (K.left keys.new) (plain_events trace.new.events.items) }
     ensures moments { Clocked (C.moments clock.old) (C.moments clock.new) (plain_events trace.new.events.items) }
 
     // What is printed and told.
-    ensures out { Prints result (screens_from (chosen (plain_words words.now.items)) (map plain_letter trace.new.archive.items) Unopened
+    ensures out { Prints result (screens_from (chosen (plain_words words.now.items)) (map plain_letter
+        trace.new.archive.items) Unopened
         (plain_events trace.new.events.items)) (O.written out.old) (O.written out.new) }
-    ensures errs { TellsNote (folder_of (chosen (plain_words words.now.items))) result (E.written errs.old) (E.written errs.new) }
+    ensures errs { TellsNote (folder_of (chosen (plain_words words.now.items))) result (E.written errs.old)
+        (E.written errs.new) }
 
     // What the events say of the disk is true.
-    ensures happened { GoesOn (AllHappened (map plain_letter trace.new.archive.items) (plain_events trace.new.events.items))
+    ensures happened { GoesOn (AllHappened (map plain_letter trace.new.archive.items) (plain_events
+        trace.new.events.items))
         (seen (dev.old.disk.vtable, dev.old.disk.value)).told (seen (dev.new.disk.vtable, dev.new.disk.value)).told }
     ensures counted { AllCounted (λ kind. Any (λ d. sort (d.vtable, d.value) ≡ kind) drivers.old.list.items)
-        (seen (dev.old.disk.vtable, dev.old.disk.value)) (seen (dev.new.disk.vtable, dev.new.disk.value)) (plain_events trace.new.events.items) }
-    ensures looks { LooksOnly (seen (dev.old.disk.vtable, dev.old.disk.value)).told (seen (dev.new.disk.vtable, dev.new.disk.value)).told }
+        (seen (dev.old.disk.vtable, dev.old.disk.value)) (seen (dev.new.disk.vtable, dev.new.disk.value))
+        (plain_events trace.new.events.items) }
+    ensures looks { LooksOnly (seen (dev.old.disk.vtable, dev.old.disk.value)).told
+        (seen (dev.new.disk.vtable, dev.new.disk.value)).told }
 
     // A fault is answered only where its count rose.
     ensures disk_cause { result ≡ DiskFault → Rose (seen (dev.old.disk.vtable, dev.old.disk.value)).faults
         (seen (dev.new.disk.vtable, dev.new.disk.value)).faults }
     ensures keys_cause { result ≡ KeysFault → Rose (K.faults keys.old) (K.faults keys.new) }
-    ensures out_cause { result ≡ OutFault → Rose (O.faults out.old) (O.faults out.new) ⊎ Rose (E.faults errs.old) (E.faults errs.new) }
+    ensures out_cause { result ≡ OutFault
+        → Rose (O.faults out.old) (O.faults out.new) ⊎ Rose (E.faults errs.old) (E.faults errs.new) }
 {
     let moment = now(clock);
     match read_words(alloc, words) {
@@ -100,11 +107,14 @@ fn read<K: Source, O: Sink, C: Clock>(
     requires events { trace.old.events.items ≡ [] }
     requires tall { 6 ≤ options.now.rows }
     requires text { IsText options.now.folder }
-    ensures reading { Reads (plain_options options.now) moment (λ kind. Any (λ d. sort (d.vtable, d.value) ≡ kind) drivers.now.list.items)
+    ensures reading { Reads (plain_options options.now) moment
+        (λ kind. Any (λ d. sort (d.vtable, d.value) ≡ kind) drivers.now.list.items)
         (map plain_letter trace.new.archive.items) result (plain_events trace.new.events.items)
         (seen (dev.old.disk.vtable, dev.old.disk.value)) (seen (dev.new.disk.vtable, dev.new.disk.value))
-        (O.written out.old) (O.written out.new) (K.left keys.old) (K.left keys.new) (C.moments clock.old) (C.moments clock.new) }
-    ensures looks { LooksOnly (seen (dev.old.disk.vtable, dev.old.disk.value)).told (seen (dev.new.disk.vtable, dev.new.disk.value)).told }
+        (O.written out.old) (O.written out.new) (K.left keys.old) (K.left keys.new) (C.moments clock.old)
+        (C.moments clock.new) }
+    ensures looks { LooksOnly (seen (dev.old.disk.vtable, dev.old.disk.value)).told
+        (seen (dev.new.disk.vtable, dev.new.disk.value)).told }
     ensures no_usage { IsNoUsage result }
     ensures keys_cause { result ≡ KeysFault → Rose (K.faults keys.old) (K.faults keys.new) }
     ensures out_cause { result ≡ OutFault → Rose (O.faults out.old) (O.faults out.new) }

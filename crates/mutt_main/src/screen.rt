@@ -1,4 +1,5 @@
-ghost use Rattle.std.specs.Prelude.{◌≡◌, ◌≤◌, ◌<◌, ◌+◌, ◌^◌, ◌++◌, ◌∷◌, [], count_by, length, map, replicate, take, IfOk, OnOk};
+ghost use Rattle.std.specs.Prelude.{◌≡◌, ◌≤◌, ◌<◌, ◌+◌, ◌^◌, ◌++◌, ◌∷◌, [], count_by, length, map, replicate, take};
+ghost use Rattle.std.specs.Prelude.{IfOk, OnOk};
 ghost use Rattle.folder_core.specs.Letters.{plain_letter};
 ghost use Rattle.mutt_main.specs.Place.{is_new as is_new_lem, plain_place};
 ghost use Rattle.mutt_main.specs.Screen as spec;
@@ -69,7 +70,8 @@ fn put_rows(
     requires tall { 6 ≤ place.now.rows }
     requires small { spec.page_start (plain_place place.now) + length page.now < 2 ^ 64 }
     ensures { OnOk result (out.new.items ≡ out.old.items ++ spec.printed_lines (spec.index_rows
-        (map plain_letter archive.now.items) place.now.cols place.now.cursor (spec.page_start (plain_place place.now)) page.now)) }
+        (map plain_letter archive.now.items) place.now.cols place.now.cursor (spec.page_start (plain_place place.now))
+        page.now)) }
 {
     let mut number = page_start(place);
     let mut left = page;

@@ -27,9 +27,11 @@ pub fn session<K: Source, O: Sink, C: Clock>(
     trace: &mut Trace,
 ) -> Status
     requires { 6 ≤ place.old.rows }
-    ensures went { (choice : Choice) → GoesToEnd choice (map plain_letter trace.old.archive.items) (plain_place place.old) result
+    ensures went { (choice : Choice)
+        → GoesToEnd choice (map plain_letter trace.old.archive.items) (plain_place place.old) result
         (plain_events trace.old.events.items) (plain_events trace.new.events.items)
-        (O.written out.old) (O.written out.new) (K.left keys.old) (K.left keys.new) (C.moments clock.old) (C.moments clock.new) }
+        (O.written out.old) (O.written out.new) (K.left keys.old) (K.left keys.new) (C.moments clock.old)
+        (C.moments clock.new) }
     ensures archive { trace.new.archive ≡ trace.old.archive }
     ensures keys_cause { result ≡ KeysFault → Rose (K.faults keys.old) (K.faults keys.new) }
     ensures out_cause { result ≡ OutFault → Rose (O.faults out.old) (O.faults out.new) }

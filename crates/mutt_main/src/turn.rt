@@ -31,7 +31,8 @@ pub fn turn<O: Sink, C: Clock>(
         ≡ plain_events trace.old.events.items ++ KeyPressed (Char byte) moment ∷ [])
         × Gives (C.moments clock.old) (C.moments clock.new) (moment ∷ []) }
     ensures archive { trace.new.archive ≡ trace.old.archive }
-    ensures turned { Turned result (map plain_letter trace.old.archive.items) (plain_place place.old) (plain_place place.new)
+    ensures turned { Turned result (map plain_letter trace.old.archive.items) (plain_place place.old)
+        (plain_place place.new)
         (Char byte) (O.written out.old) (O.written out.new) }
     ensures rows { place.new.rows ≡ place.old.rows }
     ensures which { IfErr result (λ status. (status ≡ Status.OutFault) ⊎ (status ≡ Status.NoMemory)) }

@@ -1,4 +1,5 @@
-use Rattle.std.proofs.Common.{rules, ◌≡◌, ◌≤◌, ◌+◌, ◌++◌, ◌^◌, ◌<◌, length, map, take, ℕ, List, [], ◌∷◌, refl, sym, ◌∙◌, ap, arith, subst, append-nil, slice_index_or, take_all}
+use Rattle.std.proofs.Common.{◌≡◌, ◌≤◌, ◌++◌, ◌<◌, length, map, ℕ, List, [], ◌∷◌, refl, sym, ◌∙◌}
+use Rattle.std.proofs.Common.{ap, arith, append-nil, slice_index_or, take_all}
 use Rattle.folder_core.specs.declared.region.Region.{Region}
 use Rattle.folder_core.specs.declared.listing.Listed.{Listed}
 use Rattle.folder_core.specs.Letters.{Mail, plain_letter}
@@ -11,14 +12,16 @@ pub loop-left-init : goal.loop-left-init
 loop-left-init c = record {
   cover = (0, Cover-same c.args.bytes.now c.args.regions.now c.requires.cut);
   letters = refl;
-  listed = ap (λ (came : List Listed). came ++ listed_from (length c.args.archive.now.items) (map (in_region c.args.bytes.now) c.args.regions.now))
+  listed = ap (λ (came : List Listed). came ++ listed_from (length c.args.archive.now.items)
+      (map (in_region c.args.bytes.now) c.args.regions.now))
       (c.in_ok-reserve.ensures.items ∙ c.new-came.ensures);
   few = refl;
   front = take_all (length c.args.archive.now.items) c.args.archive.now.items (omega arith);
 }
 
 -- the messages are those of the regions
-whole : (bytes : List ℕ) (items : List Region) → items ≡ regions bytes → map (in_region bytes) items ≡ raw_messages bytes
+whole : (bytes : List ℕ) (items : List Region) → items ≡ regions bytes
+    → map (in_region bytes) items ≡ raw_messages bytes
 whole bytes items same = ap (map (in_region bytes)) same ∙ map-regions bytes
 
 no_letters : (items : List Mail) (id : ℕ) (bytes : List ℕ) (left : List Region) → length left < 1
@@ -33,16 +36,19 @@ nothing_listed items id bytes (region ∷ left) none = absurd (omega arith)
 
 pub returns-clause-letters : goal.returns-clause-letters
 returns-clause-letters c =
-    sym (no_letters (map plain_letter c.loop-left.archive.items) (length c.loop-left.archive.items) c.args.bytes.now c.loop-left.left.now c.in_default.len_below)
+    sym (no_letters (map plain_letter c.loop-left.archive.items) (length c.loop-left.archive.items) c.args.bytes.now
+    c.loop-left.left.now c.in_default.len_below)
     ∙ c.loop-left.invariant.letters
     ∙ ap (λ raws. map plain_letter c.args.archive.now.items ++ letters_from (length c.args.archive.now.items) raws)
-        (whole c.args.bytes.now c.args.regions.now c.requires.cut)
+    (whole c.args.bytes.now c.args.regions.now c.requires.cut)
 
 pub returns-clause-listed : goal.returns-clause-listed
 returns-clause-listed c =
-    sym (nothing_listed c.loop-left.came.items (length c.loop-left.archive.items) c.args.bytes.now c.loop-left.left.now c.in_default.len_below)
+    sym (nothing_listed c.loop-left.came.items (length c.loop-left.archive.items) c.args.bytes.now c.loop-left.left.now
+    c.in_default.len_below)
     ∙ c.loop-left.invariant.listed
-    ∙ ap (λ raws. listed_from (length c.args.archive.now.items) raws) (whole c.args.bytes.now c.args.regions.now c.requires.cut)
+    ∙ ap (λ raws. listed_from (length c.args.archive.now.items) raws)
+    (whole c.args.bytes.now c.args.regions.now c.requires.cut)
 
 -- the first region ends in the file
 first_ends : (end : ℕ) (left : List Region) → 1 ≤ length left → ((from : ℕ) × Cover from end left)
@@ -51,4 +57,5 @@ first_ends end [] some h = absurd (omega arith)
 first_ends end (region ∷ left) some h = Cover-le region.end end left h.1.2
 
 pub slice_bounds-raw-end : goal.slice_bounds-raw-end
-slice_bounds-raw-end c = first_ends (length c.args.bytes.now) c.loop-left.left.now c.in-len1-up.len_at_least c.loop-left.invariant.cover
+slice_bounds-raw-end c = first_ends (length c.args.bytes.now) c.loop-left.left.now c.in-len1-up.len_at_least
+    c.loop-left.invariant.cover

@@ -11,7 +11,10 @@ returns-then-not-has-clause-looked g c = kind_told _ _ _ _ c.in-Ok.ensures.kind
 pub returns-in-Ok-scan-clause-looked : goal.returns-in-Ok-scan-clause-looked
 returns-in-Ok-scan-clause-looked g c =
     found_told c.in-Ok.kind _ _ _ _ c.in-Ok-scan.found _ _ _ (ap (map plain_letter) c.requires)
-    (ap (λ (k : KnownFolder). k.path) (c.in-Ok-scan.ensures.lists.kept ∙ ap (λ (k : KnownFolder). record k { listing = c.in-Ok-scan.found.came.items; bytes = c.scan.new.known.bytes; stamps = c.scan.new.known.stamps }) c.in-Ok-new.ensures))
+    (ap (λ (k : KnownFolder). k.path) (c.in-Ok-scan.ensures.lists.kept
+    ∙ ap (λ (k : KnownFolder). record k
+    { listing = c.in-Ok-scan.found.came.items; bytes = c.scan.new.known.bytes; stamps = c.scan.new.known.stamps })
+    c.in-Ok-new.ensures))
     c.in-Ok.ensures.kind c.in-Ok.ensures.looks c.in-Ok-scan.ensures.looks c.in-Ok-scan.ensures.saw
 
 pub returns-in-Ok-scan-clause-looks : goal.returns-in-Ok-scan-clause-looks

@@ -8,10 +8,13 @@ use Rattle.mutt_main.proofs.run.run.Goals as goal
 
 pub returns-in-Ok-clause-moments : goal.returns-in-Ok-clause-moments
 returns-in-Ok-clause-moments g c =
-    clocked _ _ _ _ _ _ c.now-moment.ensures.gives (let fits : FitsSigned w64 c.now-moment.result = omega (arith, signed_arith, c.now-moment.ensures.range) in simp to_z-of_z) c.read-status.ensures.reading.start_is c.read-status.ensures.reading.given
+    clocked _ _ _ _ _ _ c.now-moment.ensures.gives
+    (let fits : FitsSigned w64 c.now-moment.result = omega (arith, signed_arith, c.now-moment.ensures.range) in simp
+    to_z-of_z) c.read-status.ensures.reading.start_is c.read-status.ensures.reading.given
 
 pub returns-in-Err-Usage-clause-out : goal.returns-in-Err-Usage-clause-out
-returns-in-Err-Usage-clause-out g c = prints_none _ (chosen (plain_words c.args.words.now.items)) _ _ _ (ap plain_events c.requires.events)
+returns-in-Err-Usage-clause-out g c = prints_none _ (chosen (plain_words c.args.words.now.items)) _ _ _
+    (ap plain_events c.requires.events)
 
 pub returns-in-Err-NoMemory-clause-words : goal.returns-in-Err-NoMemory-clause-words
 returns-in-Err-NoMemory-clause-words g c = chosen_memory _

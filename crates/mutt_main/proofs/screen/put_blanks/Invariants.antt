@@ -1,5 +1,4 @@
-use Rattle.std.proofs.Common.{◌≡◌, ◌++◌, [], replicate}
-use Rattle.mutt_main.specs.Screen.{printed_lines}
+use Rattle.std.proofs.Common.{◌≡◌, ◌++◌, replicate}
 use Rattle.mutt_main.proofs.screen.put_blanks.Given as goal
 
 abbrev pub invariant-loop-turn : goal.invariant-loop-turn

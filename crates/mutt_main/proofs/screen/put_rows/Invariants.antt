@@ -6,8 +6,11 @@ use Rattle.mutt_main.proofs.screen.put_rows.Given as goal
 
 abbrev pub invariant-loop-left : goal.invariant-loop-left
 invariant-loop-left l = record {
-  put : l.out.items ++ printed_lines (index_rows (map plain_letter l.archive.items) l.place.cols l.place.cursor l.number l.left)
-      ≡ l.initial.out.items ++ printed_lines (index_rows (map plain_letter l.archive.items) l.place.cols l.place.cursor (page_start (plain_place l.place)) l.page);
+  put : l.out.items ++ printed_lines
+      (index_rows (map plain_letter l.archive.items) l.place.cols l.place.cursor l.number l.left)
+      ≡ l.initial.out.items ++ printed_lines
+      (index_rows (map plain_letter l.archive.items) l.place.cols l.place.cursor (page_start (plain_place l.place))
+      l.page);
   small : l.number + length l.left ≡ page_start (plain_place l.place) + length l.page;
 }
 
