@@ -87,7 +87,12 @@ fn words_of(alloc: Global, text: &str) -> Result<Words, Fail> {
     Ok(words)
 }
 
-fn device(rt: &impl Abort, alloc: Global, stands: Stands, fails: Numbers) -> Result<Device, Fail> {
+fn memory_disk(
+    rt: &impl Abort,
+    alloc: Global,
+    stands: Stands,
+    fails: Numbers,
+) -> Result<MemoryDisk, Fail> {
     let mut tree = Tree::new(alloc);
     let bytes = match stands {
         Stands::File(bytes) => Some(Bytes::copy_of(alloc, bytes)?),
@@ -101,7 +106,7 @@ fn device(rt: &impl Abort, alloc: Global, stands: Stands, fails: Numbers) -> Res
     }
     assert!(rt; is_tree(&tree));
     let disk = MemoryDisk::new(alloc, tree, Script::new(alloc), fails, None)?;
-    Ok(Device::new(Box::new(alloc, disk)?))
+    Ok(disk)
 }
 
 fn ended_run(
@@ -112,6 +117,7 @@ fn ended_run(
     keys: &[u8],
     fails: Fails,
 ) -> Result<Ended, Fail> {
+    let disk = memory_disk(rt, alloc, stands, numbers(alloc, fails.disk)?)?;
     let mut drivers = Drivers::new(alloc);
     drivers.add(Box::new(alloc, MboxDriver)?)?;
     let mut out = MemorySink::new(alloc, 100_000, numbers(alloc, fails.out)?)?;
@@ -126,7 +132,7 @@ fn ended_run(
         &mut MemorySource::new(Bytes::copy_of(alloc, keys)?, numbers(alloc, fails.keys)?),
         &mut out,
         &mut errs,
-        &mut device(rt, alloc, stands, numbers(alloc, fails.disk)?)?,
+        &mut Device::new(Box::new(alloc, disk)?),
         &mut drivers,
         &mut MemoryClock::new(Series::new(alloc)),
         &mut trace,
