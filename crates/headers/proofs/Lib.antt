@@ -1,0 +1,10 @@
+pub mod EncodedText
+pub mod FieldLemmas
+pub mod IdLemmas
+pub mod PlaceLemmas
+pub mod PlainFields
+pub mod PlainPeople
+pub mod PlainText
+pub mod RoundElement
+pub mod ShownText
+pub mod SubjectLemmas

@@ -1,0 +1,8 @@
+use Rattle.headers.proofs.PlainText.{plain_text_stays, utf8_stays}
+use Rattle.headers.proofs.laws.plain_text_stays.Goals as goal
+
+pub returns-clause-text : goal.returns-clause-text
+returns-clause-text c = plain_text_stays
+
+pub returns-clause-utf8 : goal.returns-clause-utf8
+returns-clause-utf8 c = utf8_stays

@@ -1,0 +1,14 @@
+pub mod Blocks
+pub mod Charsets
+pub mod Dates
+pub mod EncodedWords
+pub mod Headers
+pub mod Ids
+pub mod Laws
+pub mod Marks
+pub mod People
+pub mod Places
+pub mod Plain
+pub mod Subjects
+pub mod Texts
+pub mod Views

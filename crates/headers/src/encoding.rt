@@ -1,0 +1,96 @@
+ghost use Rattle.std.specs.Prelude.{◌≡◌, ◌+◌, ◌*◌, nat_lt, if◌then◌else◌, option_map, IfOk};
+ghost use Rattle.std.specs.Result.{result_ok};
+ghost use Rattle.std.specs.Char.{digit_value};
+ghost use Rattle.base64.specs.GeneralPurpose.{decode_of};
+ghost use Rattle.base64.specs.Engines.{standard};
+ghost use Rattle.headers.specs.EncodedWords as spec;
+
+use base64::DecodeAllocError;
+use base64::engine::general_purpose::STANDARD;
+use mail_base::NoMemory;
+use std::alloc::Global;
+
+/// How the text of an encoded word is written (RFC 2047, section 4).
+#[derive(Clone, Copy, Debug, PartialEq, Eq)]
+pub enum Encoding {
+    Base64,
+    Quoted,
+}
+
+impl Encoding {
+    /// The encoding that a letter names, in either case.
+    pub fn from_letter(letter: u8) -> Option<Encoding>
+        ensures { result ≡ spec.encoding_of letter }
+    {
+        match letter {
+            b'B' | b'b' => Some(Encoding::Base64),
+            b'Q' | b'q' => Some(Encoding::Quoted),
+            _ => None,
+        }
+    }
+
+    /// The bytes of a text, unless it is malformed.
+    pub fn decode(self, alloc: Global, text: &[u8]) -> Result<Option<Vec<u8>>, NoMemory>
+        ensures { IfOk result (λ o. option_map (λ v. v.items) o ≡ spec.bytes_of self text.now) }
+    {
+        match self {
+            Encoding::Base64 => decode_base64(alloc, text),
+            Encoding::Quoted => decode_quoted(alloc, text),
+        }
+    }
+}
+
+fn hex_value(digit: u8) -> Option<u8>
+    ensures { result ≡ (if nat_lt (digit_value digit) 16 then Some (digit_value digit) else None) }
+{
+    let value = char::from(digit).to_digit(16)?;
+    Some(value as u8)
+}
+
+fn escaped(text: &[u8]) -> Option<(u8, &[u8])>
+    ensures { option_map (λ p. (p.0, p.1.now)) result ≡ spec.escaped text.now }
+{
+    let [high, low, rest @ ..] = text else {
+        return None;
+    };
+    let high = hex_value(*high)?;
+    let low = hex_value(*low)?;
+    Some((high * 16 + low, rest))
+}
+
+// The byte that stands at the front of a text of the "Q" encoding, and what follows it.
+fn quoted_byte(first: u8, rest: &[u8]) -> Option<(u8, &[u8])>
+    ensures { option_map (λ p. (p.0, p.1.now)) result ≡ spec.quoted_byte first rest.now }
+{
+    match first {
+        b'_' => Some((b' ', rest)),
+        b'=' => escaped(rest),
+        byte => Some((byte, rest)),
+    }
+}
+
+fn decode_quoted(alloc: Global, text: &[u8]) -> Result<Option<Vec<u8>>, NoMemory>
+    ensures { IfOk result (λ o. option_map (λ v. v.items) o ≡ spec.quoted_from 0 text.now) }
+{
+    let mut bytes = Vec::new(alloc);
+    let mut left = text;
+    while let [first, rest @ ..] = left {
+        let Some((byte, rest)) = quoted_byte(*first, rest) else {
+            return Ok(None);
+        };
+        bytes.push(byte)?;
+        left = rest;
+    }
+    Ok(Some(bytes))
+}
+
+fn decode_base64(alloc: Global, text: &[u8]) -> Result<Option<Vec<u8>>, NoMemory>
+    ensures { IfOk result
+        (λ o. option_map (λ v. v.items) o ≡ result_ok (decode_of standard text.now)) }
+{
+    match STANDARD.decode(alloc, text) {
+        Ok(bytes) => Ok(Some(bytes)),
+        Err(DecodeAllocError::DecodeError(_)) => Ok(None),
+        Err(DecodeAllocError::OutOfMemory) => Err(NoMemory),
+    }
+}

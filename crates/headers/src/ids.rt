@@ -1,0 +1,49 @@
+ghost use Rattle.std.specs.Prelude.{◌≡◌, ◌++◌, ◌<◌, IfOk, OnOk, IfSome, option_map, length};
+ghost use Rattle.headers.specs.Ids as spec;
+ghost use Rattle.headers.specs.Views.{found_id_view, plain_names};
+
+use crate::text::split_once;
+use mail_base::{Bytes, Names, NoMemory};
+use std::alloc::Global;
+
+/// What stands in the brackets of a message id, and behind it.
+#[derive(Clone, Copy, Debug)]
+pub struct FoundId<'a> {
+    pub inside: &'a [u8],
+    pub rest: &'a [u8],
+}
+
+impl<'a> FoundId<'a> {
+    /// The first message id of a text: from the first `<` up to the next `>`.
+    pub fn find(text: &'a [u8]) -> Option<FoundId<'a>>
+        ensures value { option_map found_id_view result ≡ spec.first_id text.now }
+        ensures shorter { IfSome result (λ f. length f.rest.now < length text.now) }
+    {
+        let (_, tail) = split_once(b'<', text)?;
+        let (inside, rest) = split_once(b'>', tail)?;
+        Some(FoundId { inside, rest })
+    }
+}
+
+/// The id with its brackets.
+pub fn bracketed(alloc: Global, inside: &[u8]) -> Result<Bytes, NoMemory>
+    ensures { IfOk result (λ b. b.items ≡ spec.id_of inside.now) }
+{
+    let mut id = Bytes::new(alloc);
+    id.push(b'<')?;
+    id.append(inside)?;
+    id.push(b'>')?;
+    Ok(id)
+}
+
+/// Adds the message ids of a text at the end of the list.
+pub fn add_ids(alloc: Global, names: &mut Names, text: &[u8]) -> Result<(), NoMemory>
+    ensures { OnOk result (plain_names names.new ≡ plain_names names.old ++ spec.ids text.now) }
+{
+    let mut left = text;
+    while let Some(found) = FoundId::find(left) {
+        names.push(bracketed(alloc, found.inside)?)?;
+        left = found.rest;
+    }
+    Ok(())
+}
