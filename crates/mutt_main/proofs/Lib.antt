@@ -1,6 +1,7 @@
-pub mod Cuts
+pub mod Fitting
 pub mod Going
 pub mod Looked
 pub mod Numbers
 pub mod Printing
 pub mod Whole
+pub mod Completing

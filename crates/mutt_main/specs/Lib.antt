@@ -2,6 +2,7 @@ pub mod Words
 pub mod Events
 pub mod Place
 pub mod Keys
+pub mod Columns
 pub mod Subject
 pub mod Screen
 pub mod Runs
@@ -13,3 +14,4 @@ pub mod Happened
 pub mod Opening
 pub mod Session
 pub mod Reading
+pub mod Complete

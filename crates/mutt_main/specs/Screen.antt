@@ -1,12 +1,13 @@
 -- The screen: computed from scratch from the listing and the place.
-use Rattle.std.specs.Prelude.{◌==◌, ◌+◌, ◌-◌, ◌*◌, ◌/◌, ℕ, Bool, List, [], ◌∷◌, ◌++◌, codes, count_by, length, take}
-use Rattle.std.specs.Prelude.{drop, replicate, pos, slice_get, unwrap_or, if◌then◌else◌}
+use Rattle.std.specs.Prelude.{◌==◌, ◌+◌, ◌-◌, ◌*◌, ◌/◌, ℕ, Bool, List, [], ◌∷◌, ◌++◌, codes, count_by, length}
+use Rattle.std.specs.Prelude.{take, drop, replicate, pos, slice_get, unwrap_or, if◌then◌else◌}
 use Rattle.std.specs.Fmt.{decimal}
 use Rattle.mail_base.specs.declared.flags.Flags.{Flags}
 use Rattle.folder_core.specs.declared.listing.Listed.{Listed}
 use Rattle.folder_core.specs.Letters.{Mail}
 use Rattle.mutt_main.specs.declared.place.MessageLine.{MessageLine}
 use Rattle.mutt_main.specs.declared.place.MessageLine.TheVariants.{Blank, NoMessages, NoUndeleted, NotBound}
+use Rattle.mutt_main.specs.Columns.{cut}
 use Rattle.mutt_main.specs.Place.{View, is_new}
 use Rattle.mutt_main.specs.Subject.{subject_of}
 
@@ -27,10 +28,10 @@ status_chars flags = read_char flags ∷ 32 ∷ (if flags.flagged then 33 else 3
 abbrev pub cursor_mark : Bool → List ℕ
 cursor_mark here = if here then codes "->" else codes "  "
 
--- a message's row: mark, number, status and subject, cut at the columns
+-- a message's row: mark, number, status and decoded subject, cut at the columns
 abbrev pub index_row : List Mail → ℕ → ℕ → ℕ → Listed → List ℕ
 index_row archive cols cursor place listed =
-    take cols (cursor_mark (place == cursor) ++ decimal (place + 1) ++ 32 ∷ []
+    cut cols (cursor_mark (place == cursor) ++ decimal (place + 1) ++ 32 ∷ []
     ++ status_chars listed.flags ++ 32 ∷ [] ++ subject_of (letter_at archive listed.id.0))
 
 -- the rows of messages that stand one after the other, from a place on
@@ -54,7 +55,7 @@ page view = take (page_size view) (drop (page_start view) view.listing)
 -- the status line: how many messages there are, how many are new and how many are marked deleted
 abbrev pub status_line : View → List ℕ
 status_line view =
-    take view.cols (codes "- " ++ decimal (length view.listing) ++ codes " n" ++ decimal (count_by is_new view.listing)
+    cut view.cols (codes "- " ++ decimal (length view.listing) ++ codes " n" ++ decimal (count_by is_new view.listing)
     ++ codes " d0")
 
 abbrev pub message_text : MessageLine → List ℕ
@@ -68,7 +69,7 @@ abbrev pub screen_lines : List Mail → View → List (List ℕ)
 screen_lines archive view =
     index_rows archive view.cols view.cursor (page_start view) (page view)
     ++ replicate (page_size view - length (page view)) []
-    ++ status_line view ∷ take view.cols (message_text view.message) ∷ []
+    ++ status_line view ∷ cut view.cols (message_text view.message) ∷ []
 
 -- lines as they are printed, each with its LF
 abbrev pub printed_lines : List (List ℕ) → List ℕ

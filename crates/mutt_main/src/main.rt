@@ -1,6 +1,7 @@
 //! The program: a mail reader in the manner of Mutt.
 #![tactic(auto)]
 
+mod columns;
 mod cursor;
 mod environment;
 mod event;

@@ -3,7 +3,6 @@ ghost use Rattle.mail_base.specs.Faults.{Rose};
 ghost use Rattle.mutt_main.specs.Notes as spec;
 
 use crate::event::OpenFault;
-use crate::row::append_number;
 use crate::status::Status;
 use folder_core::ScanError;
 use mail_base::{Bytes, NoMemory, Sink};
@@ -96,7 +95,7 @@ fn append_numbered(
     ensures { OnOk result (text.new.items ≡ text.old.items ++ spec.numbered front.now number) }
 {
     text.append(front)?;
-    append_number(alloc, text, number as usize)?;
+    text.append(number.to_string(alloc)?.as_bytes())?;
     text.append(b")")?;
     Ok(())
 }

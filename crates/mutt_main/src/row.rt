@@ -1,12 +1,13 @@
-ghost use Rattle.std.specs.Prelude.{◌≡◌, ◌≤◌, ◌<◌, ◌+◌, ◌^◌, ◌++◌, map, drop, take, IfOk, OnOk};
+ghost use Rattle.std.specs.Prelude.{◌≡◌, ◌<◌, ◌+◌, ◌^◌, ◌++◌, map, IfOk, OnOk};
 ghost use Rattle.std.specs.Fmt.{decimal};
 ghost use Rattle.folder_core.specs.Letters.{plain_letter};
 ghost use Rattle.mutt_main.specs.Screen as spec;
-ghost use Rattle.mutt_main.specs.Subject as subject;
+ghost use Rattle.mutt_main.specs.Subject.{subject_of};
 
+use crate::columns::cut;
 use crate::subject::text_subject;
 use folder_core::{Archive, Listed};
-use mail_base::{Bytes, Flags, Id, NoMemory};
+use mail_base::{Bytes, Flags, Id, Line, NoMemory};
 use std::alloc::Global;
 
 /// A message's row in the index: mark, number, status and subject, cut at the columns.
@@ -22,35 +23,36 @@ pub fn index_row(
     ensures { IfOk result (λ row. row.items
         ≡ spec.index_row (map plain_letter archive.now.items) cols cursor place listed.now) }
 {
-    let mut row = Bytes::new(alloc);
+    let mut row = Line::new(alloc);
     row.append(cursor_mark(place == cursor))?;
     append_number(alloc, &mut row, place + 1)?;
     row.push(b' ')?;
-    row.append(&status_chars(listed.flags))?;
+    append_status(&mut row, listed.flags)?;
     row.push(b' ')?;
-    append_cut(&mut row, letter_subject(archive, listed.id), cols)?;
-    Ok(row)
+    let subject = letter_subject(alloc, archive, listed.id)?;
+    row.append(text_of(&subject))?;
+    cut(alloc, text_of(&row), cols)
 }
 
-fn cursor_mark(here: bool) -> &'static [u8]
+fn cursor_mark(here: bool) -> &'static str
     ensures { result.now ≡ spec.cursor_mark here }
 {
-    if here { b"->" } else { b"  " }
+    if here { "->" } else { "  " }
 }
 
-/// The three status characters: N for new, O for old and unread, r for replied; a blank; ! for flagged.
-fn status_chars(flags: Flags) -> [u8; 3]
-    ensures { result ≡ spec.status_chars flags }
+/// Adds the three status characters: N for new, O for old and unread, r for replied; a blank; ! for flagged.
+fn append_status(row: &mut Line, flags: Flags) -> Result<(), NoMemory>
+    ensures { OnOk result (row.new.items ≡ row.old.items ++ spec.status_chars flags) }
 {
-    [
-        read_char(flags),
-        b' ',
-        if flags.flagged { b'!' } else { b' ' },
-    ]
+    row.push(read_char(flags))?;
+    row.push(b' ')?;
+    row.push(if flags.flagged { b'!' } else { b' ' })?;
+    Ok(())
 }
 
 fn read_char(flags: Flags) -> u8
-    ensures { result ≡ spec.read_char flags }
+    ensures value { result ≡ spec.read_char flags }
+    ensures ascii { result < 128 }
 {
     match (flags.seen, flags.replied, flags.aged) {
         (true, true, _) => b'r',
@@ -61,50 +63,33 @@ fn read_char(flags: Flags) -> u8
 }
 
 /// The subject of an id's letter; empty where the archive has none.
-fn letter_subject(archive: &Archive, id: Id) -> &[u8]
-    ensures { result.now ≡ (let letter = spec.letter_at (map plain_letter archive.now.items) id.0 in
-        subject.text_subject (drop letter.text_at letter.core)) }
+fn letter_subject(alloc: Global, archive: &Archive, id: Id) -> Result<Line, NoMemory>
+    ensures { IfOk result (λ subject. subject.items
+        ≡ subject_of (spec.letter_at (map plain_letter archive.now.items) id.0)) }
 {
     match archive.get(id.0 as usize) {
-        Some(letter) => text_subject(letter.core.as_slice().get(letter.text_at..).unwrap_or(b"")),
-        None => text_subject(b""),
+        Some(letter) => {
+            let text = letter.core.as_slice().get(letter.text_at..).unwrap_or(b"");
+            text_subject(alloc, text)
+        }
+        None => text_subject(alloc, b""),
     }
 }
 
 /// Adds a number in decimal digits.
-pub fn append_number(alloc: Global, row: &mut Bytes, number: usize) -> Result<(), NoMemory>
-    ensures { OnOk result (row.new.items ≡ row.old.items ++ decimal number) }
+pub fn append_number(alloc: Global, line: &mut Line, number: usize) -> Result<(), NoMemory>
+    ensures { OnOk result (line.new.items ≡ line.old.items ++ decimal number) }
 {
     let digits = number.to_string(alloc)?;
-    row.append(digits.as_bytes())?;
-    Ok(())
+    line.append(&digits)
 }
 
-/// Adds shown text, and cuts the row at the columns.
-fn append_cut(row: &mut Bytes, text: &[u8], cols: usize) -> Result<(), NoMemory>
-    ensures { OnOk result (row.new.items ≡ take cols (row.old.items ++ map subject.shown_byte text.now)) }
+/// A line as text.
+pub fn text_of(line: &Line) -> &str
+    ensures { result.now ≡ line.now.items }
 {
-    append_shown(row, &text[..text.len().min(cols)])?;
-    row.shorten(row.len().min(cols));
-    Ok(())
-}
-
-/// Adds text in which a byte that is not printable ASCII shows as a question mark.
-fn append_shown(row: &mut Bytes, text: &[u8]) -> Result<(), NoMemory>
-    ensures { OnOk result (row.new.items ≡ row.old.items ++ map subject.shown_byte text.now) }
-{
-    for byte in text {
-        row.push(shown_byte(*byte))?;
-    }
-    Ok(())
-}
-
-fn shown_byte(byte: u8) -> u8
-    ensures { result ≡ subject.shown_byte byte }
-{
-    if 32 <= byte && byte <= 126 {
-        byte
-    } else {
-        b'?'
+    match str::from_utf8(line.as_slice()) {
+        Ok(text) => text,
+        Err(_) => unreachable!(),
     }
 }

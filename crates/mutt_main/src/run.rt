@@ -3,6 +3,7 @@ ghost use Rattle.mail_base.specs.Faults.{Rose};
 ghost use Rattle.disk_model.specs.Judge.{GoesOn};
 ghost use Rattle.disk_model.specs.Looking.{LooksOnly};
 ghost use Rattle.folder_core.specs.Letters.{plain_letter};
+ghost use Rattle.mutt_main.specs.Complete.{IsPlainEnd, NamesReadable};
 ghost use Rattle.mutt_main.specs.Events.{plain_events};
 ghost use Rattle.mutt_main.specs.Happened.{AllCounted, AllHappened};
 ghost use Rattle.mutt_main.specs.Moments.{Clocked};
@@ -77,6 +78,15 @@ pub fn run<K: Source, O: Sink, E: Sink, C: Clock>(
     ensures keys_cause { result ≡ KeysFault → Rose (K.faults keys.old) (K.faults keys.new) }
     ensures out_cause { result ≡ OutFault
         → Rose (O.faults out.old) (O.faults out.new) ⊎ Rose (E.faults errs.old) (E.faults errs.new) }
+
+    // With a readable folder and no fault the keys are read to their end.
+    ensures complete { NamesReadable (λ kind. Any (λ d. sort (d.vtable, d.value) ≡ kind) drivers.old.list.items)
+        (choice_of (plain_words words.now.items))
+        (seen (dev.old.disk.vtable, dev.old.disk.value)) (seen (dev.new.disk.vtable, dev.new.disk.value))
+        → ¬ (Rose (seen (dev.old.disk.vtable, dev.old.disk.value)).faults
+        (seen (dev.new.disk.vtable, dev.new.disk.value)).faults)
+        → ¬ (Rose (K.faults keys.old) (K.faults keys.new)) → ¬ (Rose (O.faults out.old) (O.faults out.new))
+        → ¬ (Rose (E.faults errs.old) (E.faults errs.new)) → IsPlainEnd result }
 {
     let moment = now(clock);
     match read_words(alloc, words) {

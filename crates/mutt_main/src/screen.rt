@@ -1,14 +1,16 @@
-ghost use Rattle.std.specs.Prelude.{◌≡◌, ◌≤◌, ◌<◌, ◌+◌, ◌^◌, ◌++◌, ◌∷◌, [], count_by, length, map, replicate, take};
+ghost use Rattle.std.specs.Prelude.{◌≡◌, ◌≤◌, ◌<◌, ◌+◌, ◌^◌, ◌++◌, ◌∷◌, [], count_by, length, map, replicate};
 ghost use Rattle.std.specs.Prelude.{IfOk, OnOk};
 ghost use Rattle.folder_core.specs.Letters.{plain_letter};
+ghost use Rattle.mutt_main.specs.Columns as columns;
 ghost use Rattle.mutt_main.specs.Place.{is_new as is_new_lem, plain_place};
 ghost use Rattle.mutt_main.specs.Screen as spec;
 
+use crate::columns::cut;
 use crate::cursor::is_new;
 use crate::place::{MessageLine, Place};
-use crate::row::{append_number, index_row};
+use crate::row::{append_number, index_row, text_of};
 use folder_core::{Archive, Listed};
-use mail_base::{Bytes, NoMemory};
+use mail_base::{Bytes, Line, NoMemory};
 use std::alloc::Global;
 
 /// The bytes of a screen: exactly `rows` lines, each with its LF, then form feed and LF.
@@ -23,7 +25,8 @@ pub fn screen(alloc: Global, archive: &Archive, place: &Place) -> Result<Bytes, 
     put_blanks(&mut out, page_size(place) - page.len())?;
     let status = status_line(alloc, place)?;
     put_line(&mut out, status.as_slice())?;
-    put_line(&mut out, cut(message_text(place.message), place.cols))?;
+    let message = message_line(alloc, place)?;
+    put_line(&mut out, message.as_slice())?;
     out.append(b"\x0c\n")?;
     Ok(out)
 }
@@ -113,14 +116,13 @@ fn put_line(out: &mut Bytes, line: &[u8]) -> Result<(), NoMemory>
 fn status_line(alloc: Global, place: &Place) -> Result<Bytes, NoMemory>
     ensures { IfOk result (λ line. line.items ≡ spec.status_line (plain_place place.now)) }
 {
-    let mut line = Bytes::new(alloc);
-    line.append(b"- ")?;
+    let mut line = Line::new(alloc);
+    line.append("- ")?;
     append_number(alloc, &mut line, place.listing.len())?;
-    line.append(b" n")?;
+    line.append(" n")?;
     append_number(alloc, &mut line, new_messages(place.listing.as_slice()))?;
-    line.append(b" d0")?;
-    line.shorten(line.len().min(place.cols as usize));
-    Ok(line)
+    line.append(" d0")?;
+    cut(alloc, text_of(&line), place.cols as usize)
 }
 
 fn new_messages(listing: &[Listed]) -> usize
@@ -129,20 +131,19 @@ fn new_messages(listing: &[Listed]) -> usize
     listing.iter().filter(|listed| is_new(listed)).count()
 }
 
-fn message_text(message: MessageLine) -> &'static [u8]
+fn message_line(alloc: Global, place: &Place) -> Result<Bytes, NoMemory>
+    ensures { IfOk result (λ line. line.items ≡ columns.cut place.now.cols (spec.message_text place.now.message)) }
+{
+    cut(alloc, message_text(place.message), place.cols as usize)
+}
+
+fn message_text(message: MessageLine) -> &'static str
     ensures { result.now ≡ spec.message_text message }
 {
     match message {
-        MessageLine::Blank => b"",
-        MessageLine::NoMessages => b"There are no messages.",
-        MessageLine::NoUndeleted => b"No undeleted messages.",
-        MessageLine::NotBound => b"Key is not bound.",
+        MessageLine::Blank => "",
+        MessageLine::NoMessages => "There are no messages.",
+        MessageLine::NoUndeleted => "No undeleted messages.",
+        MessageLine::NotBound => "Key is not bound.",
     }
-}
-
-/// The front of a line that fits the columns.
-fn cut(line: &[u8], cols: u16) -> &[u8]
-    ensures { result.now ≡ take cols line.now }
-{
-    &line[..line.len().min(cols as usize)]
 }

@@ -40,10 +40,10 @@ const USUAL: &str = "-f in --rows=6 --cols=60";
 
 /// What stands at `in`.
 #[derive(Clone, Copy)]
-enum Stands {
+enum Stands<'a> {
     Nothing,
     Folder,
-    File(&'static [u8]),
+    File(&'a [u8]),
 }
 
 /// The numbers of the calls that fail, each from 0.
@@ -90,7 +90,7 @@ fn words_of(alloc: Global, text: &str) -> Result<Words, Fail> {
 fn memory_disk(
     rt: &impl Abort,
     alloc: Global,
-    stands: Stands,
+    stands: Stands<'_>,
     fails: Numbers,
 ) -> Result<MemoryDisk, Fail> {
     let mut tree = Tree::new(alloc);
@@ -113,7 +113,7 @@ fn ended_run(
     rt: &impl Abort,
     alloc: Global,
     words: &Words,
-    stands: Stands,
+    stands: Stands<'_>,
     keys: &[u8],
     fails: Fails,
 ) -> Result<Ended, Fail> {
@@ -149,10 +149,18 @@ fn played(
     rt: &impl Abort,
     alloc: Global,
     words: &str,
-    stands: Stands,
+    stands: Stands<'_>,
     keys: &[u8],
 ) -> Result<Ended, Fail> {
     ended_run(rt, alloc, &words_of(alloc, words)?, stands, keys, NO_FAILS)
+}
+
+/// A mailbox of one message, with these lines as its header block.
+fn letter_of(alloc: Global, fields: &[u8]) -> Result<Vec<u8>, Fail> {
+    let mut file = b"From a Thu Jan 1 00:00 1970\n".to_vec(alloc)?;
+    file.extend_from_slice(fields)?;
+    file.extend_from_slice(b"\n\n")?;
+    Ok(file)
 }
 
 /// The line of a screen, both counted from 0.
@@ -250,46 +258,95 @@ fn the_cursor_starts_at_what_is_new(rt: HostRuntime) -> Result<(), Fail> {
     Ok(())
 }
 
+// At 20 columns a subject has 12.
+const NARROW: &str = "-f in --rows=6 --cols=20";
+
 #[test]
-fn subjects_are_shown_in_one_line(rt: HostRuntime) -> Result<(), Fail> {
-    let rows: [(&str, &str, &[u8], &[u8]); 4] = [
+fn subjects_are_decoded_and_cut_by_columns(rt: HostRuntime) -> Result<(), Fail> {
+    let rows: [(&str, &str, &str, &str); 13] = [
+        ("none", USUAL, "To: a", "->1 N   "),
         (
-            "a control byte",
+            "control bytes",
             USUAL,
-            b"From a Thu Jan 1 00:00 1970\nSubject: a\tb\x1b[m\n\n",
-            b"->1 N   a?b?[m",
+            "Subject: a\tb\x1b[m\x7f",
+            "->1 N   a?b?[m?",
         ),
         (
-            "past ASCII",
+            "a coded word",
             USUAL,
-            b"From a Thu Jan 1 00:00 1970\nSubject: \xc3\xa9\n\n",
-            b"->1 N   ??",
+            "Subject: =?utf-8?Q?=C3=A9?=",
+            "->1 N   é",
+        ),
+        ("UTF-8 as it is", USUAL, "Subject: é", "->1 N   é"),
+        (
+            "a coded bell",
+            USUAL,
+            "Subject: =?utf-8?Q?a=07b?=",
+            "->1 N   a?b",
+        ),
+        ("a folded one", USUAL, "Subject: a\n  b", "->1 N   a b"),
+        (
+            "the first counts",
+            USUAL,
+            "Subject: a\nSubject: b",
+            "->1 N   a",
         ),
         (
             "longer than the line",
-            "-f in --rows=6 --cols=20",
-            b"From a Thu Jan 1 00:00 1970\nSubject: 12345678901234567890\n\n",
-            b"->1 N   123456789012",
+            NARROW,
+            "Subject: 12345678901234567890",
+            "->1 N   123456789012",
         ),
         (
-            "no subject",
-            USUAL,
-            b"From a Thu Jan 1 00:00 1970\nTo: a\n\n",
-            b"->1 N   ",
+            "wide characters and one blank",
+            "-f in --rows=6 --cols=21",
+            "Subject: 日日日日日日日日日日",
+            "->1 N   日日日日日日 ",
+        ),
+        (
+            "a combining mark at the end",
+            NARROW,
+            "Subject: 12345678901e\u{301}z",
+            "->1 N   12345678901e\u{301}",
+        ),
+        (
+            "an emoji that does not fit",
+            NARROW,
+            "Subject: 12345678901😀",
+            "->1 N   12345678901 ",
+        ),
+        (
+            "a joiner, which takes no column",
+            NARROW,
+            "Subject: 123456789👩\u{200d}👩",
+            "->1 N   123456789👩\u{200d} ",
+        ),
+        (
+            "no column left",
+            NARROW,
+            "Subject: 123456789012😀",
+            "->1 N   123456789012",
         ),
     ];
-    for (name, words, file, wanted) in rows {
-        let left = played(&rt, rt.alloc(), words, Stands::File(file), b"q")?;
-        assert_eq!(rt; line(&left.out, 0, 0), wanted, "{name}");
+    for (name, words, field, wanted) in rows {
+        let file = letter_of(rt.alloc(), field.as_bytes())?;
+        let left = played(&rt, rt.alloc(), words, Stands::File(&file), b"q")?;
+        assert_eq!(rt; line(&left.out, 0, 0), wanted.as_bytes(), "{name}");
     }
+    let file = letter_of(rt.alloc(), b"Subject: a\xc3(\xff")?;
+    let left = played(&rt, rt.alloc(), USUAL, Stands::File(&file), b"q")?;
+    assert_eq!(rt;
+        line(&left.out, 0, 0),
+        b"->1 N   a?(?".as_slice(),
+        "malformed bytes"
+    );
     Ok(())
 }
 
 #[test]
 fn forty_messages_are_paged(rt: HostRuntime) -> Result<(), Fail> {
     let alloc = rt.alloc();
-    let file: &'static [u8] = FORTY;
-    let left = played(&rt, alloc, USUAL, Stands::File(file), b"jjjjjjjjj")?;
+    let left = played(&rt, alloc, USUAL, Stands::File(FORTY), b"jjjjjjjjj")?;
     assert_eq!(rt; left.letters, 40);
     assert_eq!(rt; line(&left.out, 0, 0), b"->1 N   s".as_slice());
     assert_eq!(rt; line(&left.out, 3, 3), b"->4 N   s".as_slice());
@@ -301,7 +358,7 @@ fn forty_messages_are_paged(rt: HostRuntime) -> Result<(), Fail> {
 
 #[test]
 fn a_folder_that_is_not_opened_is_told(rt: HostRuntime) -> Result<(), Fail> {
-    let rows: [(&str, &str, Stands, &[u8]); 6] = [
+    let rows: [(&str, &str, Stands<'_>, &[u8]); 6] = [
         (
             "no mailbox",
             USUAL,
