@@ -40,7 +40,8 @@ impl Encoding {
     }
 }
 
-fn hex_value(digit: u8) -> Option<u8>
+/// The value of a hexadecimal digit, in either case.
+pub fn hex_value(digit: u8) -> Option<u8>
     ensures { result ≡ (if nat_lt (digit_value digit) 16 then Some (digit_value digit) else None) }
 {
     let value = char::from(digit).to_digit(16)?;
@@ -84,7 +85,8 @@ fn decode_quoted(alloc: Global, text: &[u8]) -> Result<Option<Vec<u8>>, NoMemory
     Ok(Some(bytes))
 }
 
-fn decode_base64(alloc: Global, text: &[u8]) -> Result<Option<Vec<u8>>, NoMemory>
+/// The bytes of a text in base64 (RFC 4648, section 4), unless it is malformed.
+pub fn decode_base64(alloc: Global, text: &[u8]) -> Result<Option<Vec<u8>>, NoMemory>
     ensures { IfOk result
         (λ o. option_map (λ v. v.items) o ≡ result_ok (decode_of standard text.now)) }
 {

@@ -21,6 +21,7 @@ mod text;
 mod words;
 
 pub use charset::{Charset, is_same_name};
+pub use encoding::{decode_base64, hex_value};
 pub use field::{Field, Fields, read_fields};
 pub use header::{Header, read_header};
 pub use laws::{plain_text_stays, written_fields_are_read, written_people_are_read};

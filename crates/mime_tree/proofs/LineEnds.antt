@@ -1,0 +1,279 @@
+-- Where a text breaks into lines, and a text without its last line end.
+use Rattle.std.proofs.Common.{◌≡◌, ◌≢◌, ℕ, zero, suc, ◌+◌, ◌-◌, ◌<◌, ◌≤◌, Bool, true, false, cond, nat_lt, ◌&&◌}
+use Rattle.std.proofs.Common.{◌==◌, List, [], ◌∷◌, ◌++◌, length, take, drop, slice_index, refl, sym, ap, subst, ◌∙◌}
+use Rattle.std.proofs.Common.{arith, inr, ⊎_elim, length-append, length-drop, length-take-le, get_or-take}
+use Rattle.std.proofs.Common.{take-append-drop, Option, codes}
+use Rattle.std.specs.List.{concat}
+use Rattle.std.proofs.Math.Seq.{take-append-add}
+use Rattle.std.proofs.lemmas.Bool.{cases_Bool, cases_eq, cases_lt, cond-true, cond-false, eq-eqb, eqb-true, ne_eqb}
+use Rattle.std.proofs.lemmas.List.{append-nil, drop-drop, get_or-append-add, length-take, take_all}
+use Rattle.std.proofs.lemmas.Bool.Decides.{nat_tests}
+use Rattle.bstr.specs.Text.{line_len, lines_of, no_cr, without_terminator}
+use Rattle.bstr.proofs.lemmas.LineLemmas.{EndsLine, line_len-bounds, lines-nil, lines-step, lines-append, lines-one}
+use Rattle.bstr.proofs.lemmas.RestLemmas.{concat-lines_of}
+use Rattle.mime_tree.specs.Texts.{behind_text}
+use Rattle.mime_tree.specs.DashLines.{behind_dashes, dash_lines, dash_lines_with}
+
+-- a text with no line feed before its last byte
+record IsLine (s : List ℕ) : Type 0 where
+  some : 0 < length s
+  none : (k : ℕ) → k + 1 < length s → slice_index s k ≢ 10
+
+line_len_next : (b : ℕ) (rest : List ℕ) → b ≢ 10 → line_len (b ∷ rest) ≡ suc (line_len rest)
+unfolding line_len
+line_len_next b rest other = cond-false _ _ _ (ne_eqb b 10 other)
+
+line_len_feed : (b : ℕ) (rest : List ℕ) → b ≡ 10 → line_len (b ∷ rest) ≡ 1
+unfolding line_len
+line_len_feed b rest is = cond-true _ _ _ (eq-eqb b 10 is)
+
+line_len_none : line_len [] ≡ 0
+unfolding line_len
+line_len_none = refl
+
+-- a line that more follows ends in a line feed
+line_ends : (s : List ℕ) → line_len s < length s → slice_index s (line_len s - 1) ≡ 10
+line_ends [] less = absurd (omega arith)
+line_ends (b ∷ rest) less = ⊎_elim
+    (λ is. ap (λ n. slice_index (b ∷ rest) (n - 1)) (line_len_feed b rest is) ∙ is)
+    (λ other.
+    let next = line_len_next b rest other in
+    let shorter : line_len rest < length rest = omega (arith, next, less) in
+    let bounds = line_len-bounds rest (omega arith) in
+    let place : line_len (b ∷ rest) - 1 ≡ suc (line_len rest - 1) = omega (arith, next, bounds.0) in
+    ap (slice_index (b ∷ rest)) place ∙ line_ends rest shorter)
+    (cases_eq b 10)
+
+-- a line has no line feed before its last byte
+line_before : (s : List ℕ) (k : ℕ) → k + 1 < line_len s → slice_index s k ≢ 10
+line_before [] k less = absurd (omega (arith, line_len_none))
+line_before (b ∷ rest) zero less = λ is. absurd (omega (arith, line_len_feed b rest is, less))
+line_before (b ∷ rest) (suc k) less = ⊎_elim
+    (λ is. absurd (omega (arith, line_len_feed b rest is, less)))
+    (λ other. line_before rest k (omega (arith, line_len_next b rest other, less)))
+    (cases_eq b 10)
+
+-- the first line of a text
+first_line : (s : List ℕ) → 0 < length s → IsLine (take (line_len s) s)
+first_line s some =
+    let bounds = line_len-bounds s some in
+    let size = length-take-le (line_len s) s bounds.1 in
+    record {
+      some = omega (arith, size, bounds.0);
+      none = λ k less is. line_before s k (omega (arith, size, less))
+          (sym (get_or-take (line_len s) s k 0 (omega (arith, size, less))) ∙ is);
+    }
+
+one_line : (s : List ℕ) → IsLine s → lines_of s ≡ s ∷ []
+one_line s line = lines-one s line.some line.none
+
+first_ends : (s : List ℕ) → line_len s < length s → EndsLine (take (line_len s) s)
+first_ends s less =
+    let bounds = line_len-bounds s (omega arith) in
+    let size = length-take-le (line_len s) s bounds.1 in
+    inr
+    (ap (λ n. slice_index (take (line_len s) s) (n - 1)) size
+    ∙ get_or-take (line_len s) s (line_len s - 1) 0 (omega (arith, bounds.0))
+    ∙ line_ends s less)
+
+-- a line that ends in a line feed stands in front of lines
+line_in_front : (l s : List ℕ) → IsLine l → EndsLine l → lines_of (l ++ s) ≡ l ∷ lines_of s
+line_in_front l s line ends =
+    lines-append (length l) l s (omega arith) ends ∙ ap (λ ls. ls ++ lines_of s) (one_line l line)
+
+some_lines : (s : List ℕ) (front : List (List ℕ)) (line : List ℕ) (back : List (List ℕ))
+    → lines_of s ≡ front ++ line ∷ back → 0 < length s
+some_lines [] [] line back e = cc (lines-nil)
+some_lines [] (l ∷ front) line back e = cc (lines-nil)
+some_lines (b ∷ s) front line back e = omega arith
+
+-- the lines in front of a line are those of their bytes
+pub front_lines : (s : List ℕ) (front : List (List ℕ)) (line : List ℕ) (back : List (List ℕ))
+    → lines_of s ≡ front ++ line ∷ back → lines_of (concat front) ≡ front
+front_lines s [] line back e = lines-nil
+front_lines s (l ∷ front) line back e =
+    let some = some_lines s (l ∷ front) line back e in
+    let n = line_len s in
+    let step = sym (lines-step s some) ∙ e in
+    let first : take n s ≡ l = cc in
+    let rest : lines_of (drop n s) ≡ front ++ line ∷ back = cc in
+    let more = some_lines (drop n s) front line back rest in
+    let less : n < length s = omega (arith, length-drop n s, more) in
+    line_in_front l (concat front) (subst IsLine first (first_line s some)) (subst EndsLine first (first_ends s less))
+    ∙ ap (λ ls. l ∷ ls) (front_lines (drop n s) front line back rest)
+
+-- the lines behind lines are those of the bytes behind them
+pub back_lines : (s : List ℕ) (front back : List (List ℕ)) → lines_of s ≡ front ++ back
+    → lines_of (drop (length (concat front)) s) ≡ back
+back_lines s [] back e = e
+back_lines [] (l ∷ front) back e = cc (lines-nil)
+back_lines (b ∷ r) (l ∷ front) back e =
+    let s = b ∷ r in
+    let n = line_len s in
+    let bounds = line_len-bounds s (omega arith) in
+    let step = sym (lines-step s (omega arith)) ∙ e in
+    let first : take n s ≡ l = cc in
+    let rest : lines_of (drop n s) ≡ front ++ back = cc in
+    let size : length (concat (l ∷ front)) ≡ n + length (concat front) =
+    omega (arith, length-append l (concat front), ap length first, length-take-le n s bounds.1) in
+    ap (λ k. lines_of (drop k s)) size
+    ∙ ap lines_of (sym (drop-drop (length (concat front)) n s))
+    ∙ back_lines (drop n s) front back rest
+
+-- the lines behind lines are those of their own bytes
+pub back_whole : (s : List ℕ) (front back : List (List ℕ)) → lines_of s ≡ front ++ back → lines_of (concat back) ≡ back
+back_whole s front back e =
+    let behind = back_lines s front back e in
+    ap lines_of (ap concat (sym behind) ∙ concat-lines_of (drop (length (concat front)) s)) ∙ behind
+
+-- what is left of the lines is what is left of the bytes
+pub length_left : (rest : List ℕ) (lines : List (List ℕ)) → lines_of rest ≡ lines → length rest ≡ length (concat lines)
+length_left rest lines e = ap length (sym (concat-lines_of rest) ∙ ap concat e)
+
+-- a line less
+pub shorter_left : (line : List ℕ) (lines left : List (List ℕ)) (n : ℕ) → left ≡ line ∷ lines
+    → length (concat left) ≤ n → length line + length (concat lines) ≤ n
+shorter_left line lines left n e h = omega (arith, ap (λ l. length (concat l)) e, length-append line (concat lines), h)
+
+-- the last byte is this one
+abbrev ends_in : ℕ → List ℕ → Bool
+ends_in b s = nat_lt 0 (length s) && slice_index s (length s - 1) == b
+
+above_zero : (n : ℕ) → 0 < n → nat_lt 0 n ≡ true
+above_zero n h = grind (arith, nat_tests)
+
+ends_last : (b : ℕ) (s : List ℕ) → 0 < length s → ends_in b s ≡ (slice_index s (length s - 1) == b)
+ends_last b s some = ap (λ t. t && slice_index s (length s - 1) == b) (above_zero (length s) some)
+
+last_place : (l s : List ℕ) → 0 < length s → length (l ++ s) - 1 ≡ length l + (length s - 1)
+last_place l s some = omega (arith, length-append l s)
+
+ends_append : (b : ℕ) (l s : List ℕ) → 0 < length s → ends_in b (l ++ s) ≡ ends_in b s
+ends_append b l s some =
+    ends_last b (l ++ s) (omega (arith, length-append l s))
+    ∙ ap (λ n. slice_index (l ++ s) n == b) (last_place l s some)
+    ∙ ap (λ v. v == b) (get_or-append-add l s (length s - 1) 0)
+    ∙ sym (ends_last b s some)
+
+chopped_append : (l s : List ℕ) → 0 < length s → take (length (l ++ s) - 1) (l ++ s) ≡ l ++ take (length s - 1) s
+chopped_append l s some = ap (λ n. take n (l ++ s)) (last_place l s some) ∙ take-append-add l s (length s - 1)
+
+cond_append : (t : Bool) (l x y : List ℕ) → cond t (l ++ x) (l ++ y) ≡ l ++ cond t x y
+cond_append true l x y = refl
+cond_append false l x y = refl
+
+no_cr_append : (l s : List ℕ) → 0 < length l → slice_index l (length l - 1) ≡ 10 → no_cr (l ++ s) ≡ l ++ no_cr s
+no_cr_append l [] some is =
+    ap no_cr (append-nil l)
+    ∙ cond-false (ends_in 13 l) _ _ (ends_last 13 l some ∙ ap (λ v. v == 13) is)
+    ∙ sym (append-nil l)
+no_cr_append l (b ∷ r) some is =
+    let s = b ∷ r in
+    ap (λ t. cond t (take (length (l ++ s) - 1) (l ++ s)) (l ++ s)) (ends_append 13 l s (omega arith))
+    ∙ ap (λ x. cond (ends_in 13 s) x (l ++ s)) (chopped_append l s (omega arith))
+    ∙ cond_append (ends_in 13 s) l (take (length s - 1) s) s
+
+-- the last line end of lines is that of the last of them
+terminator_append : (l s : List ℕ) → 0 < length l → slice_index l (length l - 1) ≡ 10 → 0 < length s
+    → without_terminator (l ++ s) ≡ l ++ without_terminator s
+terminator_append l s some is more =
+    ap (λ t. cond t (no_cr (take (length (l ++ s) - 1) (l ++ s))) (l ++ s)) (ends_append 10 l s more)
+    ∙ ap (λ x. cond (ends_in 10 s) (no_cr x) (l ++ s)) (chopped_append l s more)
+    ∙ ap (λ x. cond (ends_in 10 s) x (l ++ s)) (no_cr_append l (take (length s - 1) s) some is)
+    ∙ cond_append (ends_in 10 s) l (no_cr (take (length s - 1) s)) s
+
+-- a text with no line feed
+record NoFeed (s : List ℕ) : Type 0 where
+  none : (k : ℕ) → k < length s → slice_index s k ≢ 10
+
+feed_taken : (s : List ℕ) (m : ℕ) → ((k : ℕ) → k < m → k < length s → slice_index s k ≢ 10) → NoFeed (take m s)
+feed_taken s m none = record {
+  none = λ k less is.
+      none k (omega (arith, length-take m s, less)) (omega (arith, length-take m s, less))
+      (sym (get_or-take m s k 0 (omega (arith, length-take m s, less))) ∙ is);
+}
+
+no_cr_feed : (s : List ℕ) → NoFeed s → NoFeed (no_cr s)
+no_cr_feed s free = ⊎_elim
+    (λ yes. subst NoFeed (sym (cond-true (ends_in 13 s) _ _ yes))
+    (feed_taken s (length s - 1) (λ k _ less. free.none k less)))
+    (λ other. subst NoFeed (sym (cond-false (ends_in 13 s) _ _ other)) free)
+    (cases_Bool (ends_in 13 s))
+
+last_other : (s : List ℕ) → 0 < length s → ends_in 10 s ≡ false → slice_index s (length s - 1) ≢ 10
+last_other s some other is =
+    let yes : ends_in 10 s ≡ true = ends_last 10 s some ∙ eq-eqb _ 10 is in
+    cc
+
+-- a line without its line end has no line feed
+line_feed : (s : List ℕ) → IsLine s → NoFeed (without_terminator s)
+line_feed s line = ⊎_elim
+    (λ yes. subst NoFeed (sym (cond-true (ends_in 10 s) _ _ yes))
+    (no_cr_feed (take (length s - 1) s) (feed_taken s (length s - 1) (λ k less _. line.none k (omega (arith, less))))))
+    (λ other. subst NoFeed (sym (cond-false (ends_in 10 s) _ _ other)) (whole other))
+    (cases_Bool (ends_in 10 s))
+  where
+    whole : ends_in 10 s ≡ false → NoFeed s
+    whole other = record {
+      none = λ k less. ⊎_elim
+          (λ last. subst (λ n. slice_index s n ≢ 10) (sym last) (last_other s line.some other))
+          (λ before. line.none k (omega (arith, less, before)))
+          (cases_eq k (length s - 1));
+    }
+
+-- a text with no line feed has no line end
+feed_stays : (s : List ℕ) → NoFeed s → without_terminator s ≡ s
+feed_stays [] free = refl
+feed_stays (b ∷ r) free =
+    let s = b ∷ r in
+    ⊎_elim
+    (λ yes. absurd (free.none (length s - 1) (omega arith)
+    (eqb-true _ 10 (sym (ends_last 10 s (omega arith)) ∙ yes))))
+    (λ other. cond-false (ends_in 10 s) _ _ other)
+    (cases_Bool (ends_in 10 s))
+
+feed_lines : (s : List ℕ) → NoFeed s → 0 < length s → lines_of s ≡ s ∷ []
+feed_lines s free some = lines-one s some (λ k less. free.none k (omega (arith, less)))
+
+last_dash : (at : ℕ) (s : List ℕ) (o : Option (List ℕ)) → NoFeed s → behind_text (codes "--") s ≡ o
+    → dash_lines at (lines_of s) ≡ dash_lines_with at o []
+last_dash at [] o free e = ap (dash_lines at) lines-nil ∙ ap (λ o. dash_lines_with at o []) e
+last_dash at (b ∷ r) o free e =
+    let s = b ∷ r in
+    ap (dash_lines at) (feed_lines s free (omega arith))
+    ∙ ap (λ t. dash_lines_with at (behind_text (codes "--") t) []) (feed_stays s free)
+    ∙ ap (λ o. dash_lines_with at o []) e
+
+dashes_without : (f : ℕ) (at : ℕ) (s : List ℕ) → length s ≤ f
+    → dash_lines at (lines_of (without_terminator s)) ≡ dash_lines at (lines_of s)
+dashes_without f at [] le = refl
+dashes_without zero at (b ∷ r) le = absurd (omega arith)
+dashes_without (suc f) at (b ∷ r) le =
+    let s = b ∷ r in
+    let n = line_len s in
+    let l = take n s in
+    let t = drop n s in
+    let bounds = line_len-bounds s (omega arith) in
+    let size = length-take-le n s bounds.1 in
+    let line = first_line s (omega arith) in
+    ⊎_elim
+    (λ less.
+    let more : 0 < length t = omega (arith, length-drop n s, less) in
+    let short : length t ≤ f = omega (arith, length-drop n s, bounds.0, le) in
+    let is = ⊎_elim (λ none. absurd (omega (arith, none, size, bounds.0))) (λ yes. yes) (first_ends s less) in
+    let whole = sym (take-append-drop n s) in
+    ap (λ x. dash_lines at (lines_of (without_terminator x))) whole
+    ∙ ap (λ x. dash_lines at (lines_of x)) (terminator_append l t line.some is more)
+    ∙ ap (dash_lines at) (line_in_front l (without_terminator t) line (inr is))
+    ∙ ap (dash_lines_with at (behind_dashes l)) (dashes_without f (at + length l) t short)
+    ∙ sym (ap (dash_lines at) (lines-step s (omega arith))))
+    (λ all.
+    let one : lines_of s ≡ s ∷ [] = one_line s (subst IsLine (take_all n s all) line) in
+    last_dash at (without_terminator s) (behind_dashes s) (line_feed s (subst IsLine (take_all n s all) line)) refl
+    ∙ sym (ap (dash_lines at) one))
+    (cases_lt n (length s))
+
+-- the last line end takes no line away that begins with two dashes
+pub dash_lines_without : (at : ℕ) (s : List ℕ)
+    → dash_lines at (lines_of (without_terminator s)) ≡ dash_lines at (lines_of s)
+dash_lines_without at s = dashes_without (length s) at s (omega arith)

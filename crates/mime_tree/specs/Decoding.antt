@@ -1,0 +1,102 @@
+-- Bodies decoded to lines of text (RFC 2045, section 6).
+use Rattle.std.specs.Prelude.{◌+◌, ◌-◌, ◌*◌, ◌==◌, ◌&&◌, ◌||◌, ℕ, zero, suc, Bool, not, nat_lt, List, [], ◌∷◌, ◌++◌}
+use Rattle.std.specs.Prelude.{map, filter, take, drop, length, slice_index, Option, Some, None, unwrap_or, codes}
+use Rattle.std.specs.Prelude.{if◌then◌else◌}
+use Rattle.std.specs.List.{concat, flat_map}
+use Rattle.std.specs.Str.{str_eq_ignore_ascii_case}
+use Rattle.std.specs.Result.{result_ok}
+use Rattle.std.specs.Char.{digit_value}
+use Rattle.base64.specs.GeneralPurpose.{decode_of}
+use Rattle.base64.specs.Engines.{standard}
+use Rattle.bstr.specs.Text.{lines_of, without_terminator}
+use Rattle.mail_base.specs.Lines.{is_blank}
+use Rattle.headers.specs.Texts.{◌>>=◌, trimmed, without_last_blanks}
+use Rattle.headers.specs.Charsets.{charset_of, text_in}
+use Rattle.headers.specs.declared.charset.Charset.{Charset}
+use Rattle.mime_tree.specs.declared.encoding.Encoding.{Encoding}
+use Rattle.mime_tree.specs.declared.encoding.Encoding.TheVariants.{Plain, Base64, Quoted}
+
+-- the encoding that the value of a Content-Transfer-Encoding names (section 6.1)
+abbrev pub encoding_of : List ℕ → Encoding
+encoding_of value =
+    if str_eq_ignore_ascii_case (trimmed value) (codes "base64") then Base64
+    else (if str_eq_ignore_ascii_case (trimmed value) (codes "quoted-printable") then Quoted else Plain)
+
+-- not white space
+abbrev pub is_solid : ℕ → Bool
+is_solid b = not (is_blank b || b == 10 || b == 13)
+
+-- base64 without its white space; what does not decode stays as written (section 6.8)
+abbrev pub from_base64 : List ℕ → List ℕ
+from_base64 text = unwrap_or (result_ok (decode_of standard (filter is_solid text))) text
+
+-- the value of a hexadecimal digit
+abbrev pub hex_value : ℕ → Option ℕ
+hex_value b = if nat_lt (digit_value b) 16 then Some (digit_value b) else None
+
+-- two hexadecimal digits as a byte (section 6.7, rule 1)
+abbrev pub escaped : List ℕ → Option ℕ
+escaped (h ∷ l ∷ rest) = do
+  high ← hex_value h
+  low ← hex_value l
+  Some (high * 16 + low)
+escaped _ = None
+
+-- what a byte gives, and how many of the bytes behind it belong to it
+abbrev pub with_escape : ℕ → Option ℕ → ℕ × ℕ
+with_escape b None = (b, 0)
+with_escape b (Some byte) = (byte, 2)
+
+-- the byte with which a quoted text begins, and how many of the bytes behind it belong to it
+abbrev pub quoted_byte : ℕ → List ℕ → ℕ × ℕ
+quoted_byte b rest = with_escape b (if b == 61 then escaped rest else None)
+
+-- a text with its quoted bytes decoded, whose first so many bytes belong to a byte already read
+abbrev pub unquoted_from : ℕ → List ℕ → List ℕ
+unquoted_from skip [] = []
+unquoted_from (suc n) (b ∷ rest) = unquoted_from n rest
+unquoted_from zero (b ∷ rest) = (quoted_byte b rest).0 ∷ unquoted_from (quoted_byte b rest).1 rest
+
+-- a text with its quoted bytes decoded
+abbrev pub unquoted : List ℕ → List ℕ
+unquoted text = unquoted_from 0 text
+
+-- the last byte is `=`
+abbrev pub ends_soft : List ℕ → Bool
+ends_soft text = nat_lt 0 (length text) && slice_index text (length text - 1) == 61
+
+-- the text of a line and its line end, which an `=` at the end of the text takes away (rules 4 and 5)
+abbrev pub joined : List ℕ → List ℕ → List ℕ
+joined text end = if ends_soft text then unquoted (take (length text - 1) text) else unquoted text ++ end
+
+-- a line with its line end; the blanks before a line end go (rule 3)
+abbrev pub quoted_with : List ℕ → List ℕ → List ℕ
+quoted_with text line =
+    if length text == length line then unquoted line
+    else joined (without_last_blanks text) (drop (length text) line)
+
+-- a line of quoted-printable
+abbrev pub quoted_line : List ℕ → List ℕ
+quoted_line line = quoted_with (without_terminator line) line
+
+-- quoted-printable, line by line (section 6.7)
+abbrev pub from_quoted : List ℕ → List ℕ
+from_quoted text = flat_map quoted_line (lines_of text)
+
+-- a body without its encoding
+abbrev pub decoded : Encoding → List ℕ → List ℕ
+decoded Plain body = body
+decoded Base64 body = from_base64 body
+decoded Quoted body = from_quoted body
+
+-- the lines of a text of a charset, without their line ends
+abbrev pub lines_in : Charset → List ℕ → List (List ℕ)
+lines_in charset text = map (text_in charset) (map without_terminator (lines_of text))
+
+-- what stands behind the first line
+abbrev pub behind_line : List ℕ → List ℕ
+behind_line text = concat (drop 1 (lines_of text))
+
+-- the lines of a body that stands behind an empty line
+abbrev pub decoded_lines : Encoding → List ℕ → List ℕ → List (List ℕ)
+decoded_lines encoding charset text = lines_in (charset_of charset) (decoded encoding (behind_line text))

@@ -1,0 +1,9 @@
+pub mod Texts
+pub mod Order
+pub mod Parameters
+pub mod Parts
+pub mod Decoding
+pub mod Delimiters
+pub mod DashLines
+pub mod Views
+pub mod Cuts

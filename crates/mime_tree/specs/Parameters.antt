@@ -1,0 +1,104 @@
+-- Parameters of a structured field (RFC 2045, section 5.1).
+use Rattle.std.specs.Prelude.{◌==◌, ◌&&◌, ◌||◌, ℕ, zero, suc, Bool, true, false, List, [], ◌∷◌, length, take, drop}
+use Rattle.std.specs.Prelude.{position, Option, Some, None, option_map, unwrap_or, if◌then◌else◌}
+use Rattle.std.specs.List.{find}
+use Rattle.std.specs.Str.{str_eq_ignore_ascii_case}
+use Rattle.mail_base.specs.Lines.{is_blank, without_blanks}
+use Rattle.headers.specs.Texts.{◌>>=◌, behind}
+use Rattle.mime_tree.specs.Texts.{token_len}
+use Rattle.mime_tree.specs.declared.quoting.Quoting.{Quoting}
+use Rattle.mime_tree.specs.declared.quoting.Quoting.TheVariants.{Outside, Inside, Escaped}
+
+-- whether the byte that follows stands in quotes; there a backslash takes its meaning from the byte behind it
+abbrev pub quoting_behind : Quoting → ℕ → Quoting
+quoting_behind Outside b = if b == 34 then Inside else Outside
+quoting_behind Inside b = if b == 34 then Outside else (if b == 92 then Escaped else Inside)
+quoting_behind Escaped b = Inside
+
+-- whether it stands outside quotes
+abbrev pub is_outside : Quoting → Bool
+is_outside Outside = true
+is_outside Inside = false
+is_outside Escaped = false
+
+-- what stands behind the next semicolon outside quotes
+abbrev pub behind_semicolon : Quoting → List ℕ → Option (List ℕ)
+behind_semicolon q [] = None
+behind_semicolon q (b ∷ rest) =
+    if is_outside q && b == 59 then Some rest else behind_semicolon (quoting_behind q b) rest
+
+-- the value of a parameter, and what stands behind it
+pub record Value : Type 0 where
+  pub bytes : List ℕ
+  pub rest : List ℕ
+
+-- a value with one more byte at its front
+abbrev pub with_byte : ℕ → Value → Value
+with_byte b v = record v { bytes = b ∷ v.bytes }
+
+-- a quoted string behind its first quote; a backslash gives the byte behind it
+abbrev pub quoted_value : Bool → List ℕ → Option Value
+quoted_value escaped [] = None
+quoted_value true (b ∷ rest) = option_map (with_byte b) (quoted_value false rest)
+quoted_value false (b ∷ rest) =
+    if b == 34 then Some (record { bytes = []; rest = rest })
+    else (if b == 92 then quoted_value true rest else option_map (with_byte b) (quoted_value false rest))
+
+-- how many bytes stand before the next blank or semicolon
+unfoldable pub plain_len : List ℕ → ℕ
+plain_len s = unwrap_or (position (λ b. is_blank b || b == 59) s) (length s)
+
+-- what stands behind the first quote, where there is one; else the bytes up to the next blank or semicolon
+abbrev pub value_at : Option (List ℕ) → List ℕ → Option Value
+value_at (Some inside) s = quoted_value false inside
+value_at None s = Some (record { bytes = take (plain_len s) s; rest = drop (plain_len s) s })
+
+-- the value with which a text begins, if it is of the form
+abbrev pub value : List ℕ → Option Value
+value s = value_at (behind 34 s) s
+
+-- a parameter, and what stands behind it
+pub record Parameter : Type 0 where
+  pub name : List ℕ
+  pub value : Value
+
+-- a value behind a name
+abbrev pub named_value : List ℕ → List ℕ → Option Parameter
+named_value name s = option_map (λ v. record { name = name; value = v }) (value s)
+
+-- a name and a value with an equals sign and blanks between them
+abbrev pub parameter_at : List ℕ → Option Parameter
+parameter_at s = do
+  rest ← behind 61 (without_blanks (drop (token_len s) s))
+  if token_len s == 0 then None else named_value (take (token_len s) s) (without_blanks rest)
+
+-- the parameter behind a semicolon
+abbrev pub parameter : List ℕ → Option Parameter
+parameter s = parameter_at (without_blanks s)
+
+-- a parameter and those behind it; what is none is skipped
+abbrev pub parameters_with : (List ℕ → List Parameter) → List ℕ → Option Parameter → List Parameter
+parameters_with more s None = more s
+parameters_with more s (Some p) = p ∷ more p.value.rest
+
+-- the parameters behind a semicolon, where there is one
+abbrev pub parameters_behind : (List ℕ → List Parameter) → Option (List ℕ) → List Parameter
+parameters_behind more None = []
+parameters_behind more (Some s) = parameters_with more s (parameter s)
+
+-- the parameters of a text; the number is at least its length
+abbrev pub parameters_from : ℕ → List ℕ → List Parameter
+parameters_from zero s = []
+parameters_from (suc n) s = parameters_behind (parameters_from n) (behind_semicolon Outside s)
+
+-- the parameters of the value of a field
+abbrev pub parameters : List ℕ → List Parameter
+parameters s = parameters_from (length s) s
+
+-- names are compared without regard to ASCII case
+abbrev pub is_named : List ℕ → Parameter → Bool
+is_named name p = str_eq_ignore_ascii_case p.name name
+
+-- the value of the first parameter of the name
+abbrev pub value_of : List ℕ → List Parameter → Option (List ℕ)
+value_of name ps = option_map (λ p. p.value.bytes) (find (is_named name) ps)

@@ -1,0 +1,100 @@
+ghost use Rattle.std.specs.Prelude.{◌≡◌, ◌≤◌, length, map, position, IfOk};
+ghost use Rattle.mime_tree.specs.Cuts as spec;
+ghost use Rattle.mime_tree.specs.DashLines.{dash_view, delimits};
+ghost use Rattle.mime_tree.specs.Delimiters as delimiters;
+ghost use Rattle.mime_tree.specs.Views.{section_view};
+
+use crate::body::behind_line;
+use crate::dash_line::DashLine;
+use crate::delimiter::LineKind;
+use crate::section::Section;
+use mail_base::{NoMemory, without_line_end};
+use std::alloc::Global;
+
+/// A section cut at its first delimiter line.
+#[derive(Clone, Copy)]
+pub struct Cut<'a> {
+    /// What stands before the line, to which the line end before it belongs.
+    pub front: Section<'a>,
+    /// Whether the line ends the multipart.
+    pub closes: bool,
+    /// What stands behind the line.
+    pub rest: Section<'a>,
+}
+
+fn next_delimiter(boundary: &[u8], lines: &[DashLine<'_>]) -> Option<usize>
+    ensures { result ≡ position (λ line. delimits boundary.now (dash_view line)) lines.now }
+{
+    lines.iter().position(|line| LineKind::behind_dashes(boundary, line.text).is_delimiter())
+}
+
+/// Whether the boundary is not empty and occurs in the body.
+pub fn is_cut(boundary: &[u8], body: Section<'_>) -> bool
+    ensures { result ≡ delimiters.is_cut boundary.now body.entry.text.now }
+{
+    !boundary.is_empty() && next_delimiter(boundary, body.dashes).is_some()
+}
+
+impl<'a> Cut<'a> {
+    fn find(boundary: &[u8], section: Section<'a>) -> Option<Cut<'a>>
+        ensures first { spec.first_of boundary.now (section_view section.entry)
+            ≡ spec.front_of (section_view section.entry) result }
+        ensures behind { spec.sections_of boundary.now (section_view section.entry)
+            ≡ spec.behind_cut boundary.now result }
+        ensures fewer { spec.lines_left result ≤ length section.entry.dashes.now }
+    {
+        let lines = section.dashes;
+        let Some(index) = next_delimiter(boundary, lines) else {
+            return None;
+        };
+        let line = lines[index];
+        let (front, line_on) = section.text.split_at(line.start - section.start);
+        let rest = behind_line(line_on);
+        Some(Cut {
+            front: Section {
+                start: section.start,
+                text: without_line_end(front),
+                in_digest: section.in_digest,
+                dashes: &lines[..index],
+            },
+            closes: LineKind::behind_dashes(boundary, line.text).is_closing(),
+            rest: Section {
+                start: line.start + (line_on.len() - rest.len()),
+                text: rest,
+                in_digest: section.in_digest,
+                dashes: &lines[index + 1..],
+            },
+        })
+    }
+}
+
+// The front of a section that is cut, else the section.
+fn front_of<'a>(section: Section<'a>, cut: Option<Cut<'a>>) -> Section<'a>
+    ensures { section_view result ≡ spec.front_of (section_view section.entry) cut.entry }
+{
+    match cut {
+        Some(cut) => cut.front,
+        None => section,
+    }
+}
+
+/// The parts of a multipart of the boundary in its body.
+pub fn cut_sections<'a>(
+    alloc: Global,
+    boundary: &[u8],
+    body: Section<'a>,
+) -> Result<Vec<Section<'a>>, NoMemory>
+    ensures { IfOk result (λ v. map section_view v.items
+        ≡ spec.sections_of boundary.now (section_view body.entry)) }
+{
+    let mut sections = Vec::new(alloc);
+    let mut next = Cut::find(boundary, body);
+    while let Some(cut) = next {
+        if cut.closes {
+            return Ok(sections);
+        }
+        next = Cut::find(boundary, cut.rest);
+        sections.push(front_of(cut.rest, next))?;
+    }
+    Ok(sections)
+}

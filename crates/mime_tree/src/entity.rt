@@ -1,0 +1,212 @@
+ghost use Rattle.std.specs.Prelude.{◌≡◌, [], false, map, option_map, unwrap_or, codes, IfOk};
+ghost use Rattle.std.specs.Str.{str_to_ascii_lowercase};
+ghost use Rattle.headers.specs.Blocks as block;
+ghost use Rattle.headers.specs.Headers as headers;
+ghost use Rattle.mail_base.specs.Lines.{message_fields};
+ghost use Rattle.mime_tree.specs.Cuts.{body_section};
+ghost use Rattle.mime_tree.specs.Parts as spec;
+ghost use Rattle.mime_tree.specs.Views.{plain_part, section_view};
+
+use crate::body::{behind_line, body_at};
+use crate::cut::{cut_sections, is_cut};
+use crate::dash_line::lines_from;
+use crate::encoding::Encoding;
+use crate::parameter::parameter_of;
+use crate::part::Part;
+use crate::section::Section;
+use crate::token::{behind_text, media_type, token_len};
+use headers::{Field, decode_words, first_value, is_same_name, read_fields};
+use mail_base::{Bytes, Line, NoMemory};
+use std::alloc::Global;
+
+/// A part of a message, and the sections that stand directly in it.
+#[derive(Drop)]
+pub struct Entity<'a> {
+    pub part: Part,
+    pub children: Vec<Section<'a>>,
+}
+
+fn value_in<'a>(fields: &'a [Field], name: &[u8]) -> &'a [u8]
+    ensures { result.now ≡ spec.value_in name.now (map block.plain_field fields.now) }
+{
+    first_value(fields, name).unwrap_or(&[])
+}
+
+fn parameter_in(
+    alloc: Global,
+    fields: &[Field],
+    field: &[u8],
+    name: &[u8],
+) -> Result<Option<Bytes>, NoMemory>
+    ensures { IfOk result (λ o. option_map (λ b. b.items) o
+        ≡ spec.parameter_in field.now name.now (map block.plain_field fields.now)) }
+{
+    parameter_of(alloc, value_in(fields, field), name)
+}
+
+// A parameter of the Content-Type, or nothing.
+fn type_parameter(alloc: Global, fields: &[Field], name: &[u8]) -> Result<Bytes, NoMemory>
+    ensures { IfOk result (λ b. b.items
+        ≡ unwrap_or (spec.parameter_in (codes "content-type") name.now (map block.plain_field fields.now)) []) }
+{
+    match parameter_in(alloc, fields, b"content-type", name)? {
+        Some(value) => Ok(value),
+        None => Ok(Bytes::new(alloc)),
+    }
+}
+
+fn lowered(alloc: Global, text: &[u8]) -> Result<Bytes, NoMemory>
+    ensures { IfOk result (λ b. b.items ≡ str_to_ascii_lowercase text.now) }
+{
+    Ok(Bytes::from_vec(text.to_ascii_lowercase(alloc)?))
+}
+
+fn default_type(in_digest: bool) -> &'static [u8]
+    ensures { result.now ≡ spec.default_type in_digest }
+{
+    if in_digest {
+        return b"message/rfc822";
+    }
+    b"text/plain"
+}
+
+fn written_type<'a>(in_digest: bool, value: Option<&'a [u8]>) -> &'a [u8]
+    ensures { result.now ≡ spec.written_type in_digest (option_map (λ r. r.now) value.entry) }
+{
+    match value {
+        Some(value) => media_type(value).unwrap_or(b"text/plain"),
+        None => default_type(in_digest),
+    }
+}
+
+fn is_multipart(content: &[u8]) -> bool
+    ensures { result ≡ spec.is_multipart content.now }
+{
+    behind_text(b"multipart/", content).is_some()
+}
+
+// The type of a part in lower case. A multipart whose boundary does not occur is text.
+fn type_of(
+    alloc: Global,
+    fields: &[Field],
+    in_digest: bool,
+    boundary: &[u8],
+    body: Section<'_>,
+) -> Result<Bytes, NoMemory>
+    ensures { IfOk result (λ b. b.items ≡ spec.shown_type
+        (spec.named_type in_digest (map block.plain_field fields.now)) boundary.now body.entry.text.now) }
+{
+    let content = lowered(
+        alloc,
+        written_type(in_digest, first_value(fields, b"content-type")),
+    )?;
+    if is_multipart(content.as_slice()) && !is_cut(boundary, body) {
+        return Bytes::copy_of(alloc, b"text/plain");
+    }
+    Ok(content)
+}
+
+fn charset_of(alloc: Global, fields: &[Field]) -> Result<Bytes, NoMemory>
+    ensures { IfOk result (λ b. b.items ≡ spec.charset_of (map block.plain_field fields.now)) }
+{
+    let charset = type_parameter(alloc, fields, b"charset")?;
+    lowered(alloc, charset.as_slice())
+}
+
+// The name of a part's file with its encoded words decoded.
+fn filename_of(alloc: Global, fields: &[Field]) -> Result<Line, NoMemory>
+    ensures { IfOk result (λ l. l.items ≡ spec.filename_of (map block.plain_field fields.now)) }
+{
+    if let Some(name) = parameter_in(alloc, fields, b"content-disposition", b"filename")? {
+        return decode_words(alloc, name.as_slice());
+    }
+    let name = type_parameter(alloc, fields, b"name")?;
+    decode_words(alloc, name.as_slice())
+}
+
+fn is_attachment(value: &[u8]) -> bool
+    ensures { result ≡ spec.is_attachment value.now }
+{
+    let (disposition, _) = value.split_at(token_len(value));
+    is_same_name(disposition, b"attachment")
+}
+
+// What stands behind the header block.
+fn body_of<'a>(section: Section<'a>) -> Section<'a>
+    ensures { section_view result ≡ body_section (section_view section.entry) }
+{
+    let text = section.text;
+    let body = behind_line(&text[body_at(text)..]);
+    let start = section.start + (text.len() - body.len());
+    Section {
+        start,
+        text: body,
+        in_digest: false,
+        dashes: lines_from(start, section.dashes),
+    }
+}
+
+// The sections in a body of a type.
+fn sections_in<'a>(
+    alloc: Global,
+    content: &[u8],
+    boundary: &[u8],
+    mut body: Section<'a>,
+) -> Result<Vec<Section<'a>>, NoMemory>
+    requires { body.in_digest ≡ false }
+    ensures { IfOk result (λ v. map section_view v.items
+        ≡ spec.sections_in content.now boundary.now body.entry.start body.entry.text.now) }
+{
+    if is_multipart(content) {
+        body.in_digest = content == b"multipart/digest".as_slice();
+        return cut_sections(alloc, boundary, body);
+    }
+    let mut sections = Vec::new(alloc);
+    if content == b"message/rfc822".as_slice() {
+        sections.push(body)?;
+    }
+    Ok(sections)
+}
+
+// The part that a section holds, of this type.
+fn part_of(
+    alloc: Global,
+    section: Section<'_>,
+    nesting: u32,
+    fields: &[Field],
+    content: Bytes,
+) -> Result<Part, NoMemory>
+    requires fields { map block.plain_field fields.now ≡ message_fields section.text.now }
+    requires content { content.items ≡ spec.type_of (section_view section) }
+    ensures { IfOk result (λ p. plain_part p ≡ spec.part_of nesting (section_view section.entry)) }
+{
+    let charset = charset_of(alloc, fields)?;
+    let filename = filename_of(alloc, fields)?;
+    Ok(Part {
+        nesting,
+        content,
+        charset,
+        filename,
+        encoding: Encoding::from_value(value_in(fields, b"content-transfer-encoding")),
+        attachment: is_attachment(value_in(fields, b"content-disposition")),
+        body_at: section.start + body_at(section.text),
+        body_end: section.start + section.text.len(),
+    })
+}
+
+impl<'a> Entity<'a> {
+    pub fn read(alloc: Global, section: Section<'a>, nesting: u32) -> Result<Entity<'a>, NoMemory>
+        ensures part { IfOk result (λ e. plain_part e.part ≡ spec.part_of nesting (section_view section.entry)) }
+        ensures children { IfOk result
+            (λ e. map section_view e.children.items ≡ spec.children_of (section_view section.entry)) }
+    {
+        let body = body_of(section);
+        let fields = read_fields(alloc, section.text)?;
+        let list = fields.as_slice();
+        let boundary = type_parameter(alloc, list, b"boundary")?;
+        let content = type_of(alloc, list, section.in_digest, boundary.as_slice(), body)?;
+        let children = sections_in(alloc, content.as_slice(), boundary.as_slice(), body)?;
+        let part = part_of(alloc, section, nesting, list, content)?;
+        Ok(Entity { part, children })
+    }
+}

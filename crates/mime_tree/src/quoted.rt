@@ -1,0 +1,101 @@
+ghost use Rattle.std.specs.Prelude.{◌≡◌, ◌++◌, ◌≤◌, ◌<◌, drop, length, IfOk, OnOk};
+ghost use Rattle.headers.specs.Texts as texts;
+ghost use Rattle.mime_tree.specs.Decoding as spec;
+
+use bstr::ByteSlice;
+use headers::hex_value;
+use mail_base::{Bytes, NoMemory, is_blank, without_line_end};
+use std::alloc::Global;
+
+// The byte that stands behind an `=` as two hexadecimal digits.
+fn escaped(rest: &[u8]) -> Option<u8>
+    ensures { result ≡ spec.escaped rest.now }
+{
+    let [high, low, ..] = rest else {
+        return None;
+    };
+    let high = hex_value(*high)?;
+    let low = hex_value(*low)?;
+    Some(high * 16 + low)
+}
+
+// What a byte gives, and what follows the bytes that it is written by.
+fn quoted_byte(first: u8, rest: &[u8]) -> (u8, &[u8])
+    ensures byte { result.0 ≡ (spec.quoted_byte first rest.now).0 }
+    ensures text { spec.unquoted_from (spec.quoted_byte first rest.now).1 rest.now ≡ spec.unquoted result.1.now }
+    ensures shorter { length result.1.now ≤ length rest.now }
+{
+    if first != b'=' {
+        return (first, rest);
+    }
+    match (escaped(rest), rest) {
+        (Some(byte), [_, _, rest @ ..]) => (byte, rest),
+        _ => (first, rest),
+    }
+}
+
+// Adds a text with its quoted bytes decoded.
+fn append_unquoted(bytes: &mut Bytes, text: &[u8]) -> Result<(), NoMemory>
+    ensures { OnOk result (bytes.new.items ≡ bytes.old.items ++ spec.unquoted text.now) }
+{
+    let mut left = text;
+    while let [first, rest @ ..] = left {
+        let (byte, rest) = quoted_byte(*first, rest);
+        bytes.push(byte)?;
+        left = rest;
+    }
+    Ok(())
+}
+
+fn without_last_blanks(text: &[u8]) -> &[u8]
+    ensures { result.now ≡ texts.without_last_blanks text.now }
+{
+    let mut left = text;
+    while let [rest @ .., last] = left {
+        if !is_blank(*last) {
+            return left;
+        }
+        left = rest;
+    }
+    left
+}
+
+// Adds the text of a line and its line end.
+fn append_joined(bytes: &mut Bytes, text: &[u8], end: &[u8]) -> Result<(), NoMemory>
+    ensures { OnOk result (bytes.new.items ≡ bytes.old.items ++ spec.joined text.now end.now) }
+{
+    if let [front @ .., b'='] = text {
+        return append_unquoted(bytes, front);
+    }
+    append_unquoted(bytes, text)?;
+    bytes.append(end)
+}
+
+// Adds the line whose text is given, without its line end.
+fn append_ended(bytes: &mut Bytes, text: &[u8], line: &[u8]) -> Result<(), NoMemory>
+    requires { length text.now ≤ length line.now }
+    ensures { OnOk result (bytes.new.items ≡ bytes.old.items ++ spec.quoted_with text.now line.now) }
+{
+    if text.len() == line.len() {
+        return append_unquoted(bytes, line);
+    }
+    let (_, end) = line.split_at(text.len());
+    append_joined(bytes, without_last_blanks(text), end)
+}
+
+fn append_line(bytes: &mut Bytes, line: &[u8]) -> Result<(), NoMemory>
+    ensures { OnOk result (bytes.new.items ≡ bytes.old.items ++ spec.quoted_line line.now) }
+{
+    append_ended(bytes, without_line_end(line), line)
+}
+
+/// The bytes of a body in quoted-printable (RFC 2045, section 6.7); a `=` that means nothing stands as written.
+pub fn decode_quoted(alloc: Global, text: &[u8]) -> Result<Bytes, NoMemory>
+    ensures { IfOk result (λ b. b.items ≡ spec.from_quoted text.now) }
+{
+    let mut bytes = Bytes::new(alloc);
+    for line in text.lines_with_terminator() {
+        append_line(&mut bytes, line)?;
+    }
+    Ok(bytes)
+}

@@ -1,0 +1,18 @@
+ghost use Rattle.std.specs.Prelude.{◌≡◌, ◌+◌, ◌<◌, ◌^◌, length, map};
+ghost use Rattle.bstr.specs.Text.{lines_of};
+ghost use Rattle.mime_tree.specs.DashLines.{dash_lines, dash_view};
+
+use crate::dash_line::DashLine;
+
+/// A range of a message that holds a part or its body.
+#[derive(Clone, Copy, Debug)]
+pub struct Section<'a> {
+    pub start: usize,
+    pub text: &'a [u8],
+    /// Whether the part, or the parts in the body, stand in a digest.
+    pub in_digest: bool,
+    /// Its lines that begin with two dashes.
+    pub dashes: &'a [DashLine<'a>],
+    ghost fits: { start + length text.now < 2 ^ 64 },
+    ghost marked: { map dash_view dashes.now ≡ dash_lines start (lines_of text.now) },
+}

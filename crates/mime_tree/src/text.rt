@@ -1,0 +1,49 @@
+ghost use Rattle.std.specs.Prelude.{◌≡◌, ◌≤◌, length, slice_range, IfOk};
+ghost use Rattle.mime_tree.specs.Decoding as spec;
+ghost use Rattle.mime_tree.specs.Views.{plain_lines};
+
+use crate::base64_body::decode_base64;
+use crate::body::behind_line;
+use crate::encoding::Encoding;
+use crate::part::Part;
+use crate::quoted::decode_quoted;
+use bstr::ByteSlice;
+use headers::Charset;
+use mail_base::{Bytes, Line, Lines, NoMemory};
+use std::alloc::Global;
+
+fn decode(alloc: Global, encoding: Encoding, body: &[u8]) -> Result<Bytes, NoMemory>
+    ensures { IfOk result (λ b. b.items ≡ spec.decoded encoding body.now) }
+{
+    match encoding {
+        Encoding::Plain => Bytes::copy_of(alloc, body),
+        Encoding::Base64 => decode_base64(alloc, body),
+        Encoding::Quoted => decode_quoted(alloc, body),
+    }
+}
+
+fn lines_of(alloc: Global, charset: Charset, text: &[u8]) -> Result<Lines, NoMemory>
+    ensures { IfOk result (λ l. plain_lines l ≡ spec.lines_in charset text.now) }
+{
+    let mut lines = Lines::new(alloc);
+    for bytes in text.lines() {
+        let mut line = Line::new(alloc);
+        charset.append_to(&mut line, bytes)?;
+        lines.push(line)?;
+    }
+    Ok(lines)
+}
+
+/// The text of a part that was read from these bytes: its body decoded, as lines without their line ends.
+/// A text of no charset is read as US-ASCII.
+pub fn decoded_text(alloc: Global, raw: &[u8], part: &Part) -> Result<Lines, NoMemory>
+    requires order { part.now.body_at ≤ part.now.body_end }
+    requires within { part.now.body_end ≤ length raw.now }
+    ensures { IfOk result (λ l. plain_lines l ≡ spec.decoded_lines part.now.encoding part.now.charset.items
+        (slice_range raw.now part.now.body_at part.now.body_end)) }
+{
+    let body = behind_line(&raw[part.body_at..part.body_end]);
+    let text = decode(alloc, part.encoding, body)?;
+    let charset = Charset::from_name(part.charset.as_slice());
+    lines_of(alloc, charset, text.as_slice())
+}
