@@ -1,4 +1,4 @@
--- What is told on the fault stream.
+-- What is told on the fault stream and by the exit status.
 use Rattle.std.specs.Prelude.{ℕ, List, [], ◌∷◌, ◌++◌, codes, Option}
 use Rattle.std.specs.Fmt.{decimal}
 use Rattle.std.specs.Io.KnownBytes.{Appends, Keeps}
@@ -47,6 +47,17 @@ note path KeysFault = line_of (codes "keys fault")
 note path OutFault = []
 note path WantOfMemory = []
 note path TooManyKeys = line_of (codes "too many keys")
+
+-- the exit status of the program
+abbrev pub exit_status : Status → ℕ
+exit_status Done = 0
+exit_status (Usage word) = 1
+exit_status (NotOpened why) = 2
+exit_status DiskFault = 3
+exit_status KeysFault = 4
+exit_status OutFault = 5
+exit_status WantOfMemory = 6
+exit_status TooManyKeys = 8
 
 -- the note of a status was begun
 pub record BegunNote (path : List ℕ) (old new : Option (List ℕ)) : Type 0 where

@@ -1,3 +1,5 @@
+ghost use Rattle.std.specs.Prelude.{◌≡◌};
+
 use crate::event::OpenFault;
 use mail_base::Bytes;
 
@@ -23,8 +25,12 @@ pub enum Status {
 }
 
 impl Status {
+    ghost use Rattle.mutt_main.specs.Notes.{exit_status};
+
     /// The exit status of the program.
-    pub fn number(&self) -> u8 {
+    pub fn number(&self) -> u8
+        ensures { result ≡ exit_status self.now }
+    {
         match self {
             Status::Done => 0,
             Status::Usage(_) => 1,
