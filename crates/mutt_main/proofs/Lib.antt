@@ -3,5 +3,6 @@ pub mod Going
 pub mod Looked
 pub mod Numbers
 pub mod Printing
+pub mod Shape
 pub mod Whole
 pub mod Completing

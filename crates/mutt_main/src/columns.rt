@@ -1,4 +1,5 @@
-ghost use Rattle.std.specs.Prelude.{◌≡◌, ◌≤◌, ◌++◌, encode_utf8, IfOk, OnOk};
+ghost use Rattle.std.specs.Prelude.{◌≡◌, ◌≤◌, ◌++◌, encode_utf8, not, true, IfOk, OnOk};
+ghost use Rattle.std.specs.List.{list_all};
 ghost use Rattle.mutt_main.specs.Columns as spec;
 
 use mail_base::{Bytes, NoMemory};
@@ -7,8 +8,11 @@ use unicode_width::UnicodeWidthChar;
 
 /// A text as a line of the screen shows it: a control character shows as a question mark, and the line is cut at the
 /// columns, where a blank stands for a wide character that does not fit.
+#[tactic(auto, using(crate::proofs::Shape::shown_fits, crate::proofs::Shape::shown_plain))]
 pub fn cut(alloc: Global, text: &str, cols: usize) -> Result<Bytes, NoMemory>
-    ensures { IfOk result (λ line. line.items ≡ spec.cut cols text.now) }
+    ensures line { IfOk result (λ line. line.items ≡ spec.cut cols text.now) }
+    ensures fits { spec.columns_in (spec.shown cols text.now) ≤ cols }
+    ensures plain { list_all (λ c. not (spec.is_control c)) (spec.shown cols text.now) ≡ true }
 {
     let mut line = Bytes::new(alloc);
     append_fitting(&mut line, text, cols)?;

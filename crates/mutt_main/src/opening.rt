@@ -24,8 +24,8 @@ pub fn read_folder(
     ensures looked { GoesOn (WasLooked (map plain_letter archive.new.items) path.now result)
         (seen (dev.old.disk.vtable, dev.old.disk.value)).told (seen (dev.new.disk.vtable, dev.new.disk.value)).told }
     ensures cause { IfErr result (λ why. IsCause (λ kind. Any (λ d. sort (d.vtable, d.value) ≡ kind)
-        drivers.now.list.items) why
-        (seen (dev.old.disk.vtable, dev.old.disk.value)).faults (seen (dev.new.disk.vtable, dev.new.disk.value)).faults) }
+        drivers.now.list.items) why (seen (dev.old.disk.vtable, dev.old.disk.value)).faults
+        (seen (dev.new.disk.vtable, dev.new.disk.value)).faults) }
     ensures driver { IfOk result (λ opened. Any (λ d. sort (d.vtable, d.value) ≡ opened.kind) drivers.now.list.items) }
     ensures looks { LooksOnly (seen (dev.old.disk.vtable, dev.old.disk.value)).told
         (seen (dev.new.disk.vtable, dev.new.disk.value)).told }

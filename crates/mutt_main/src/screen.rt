@@ -16,8 +16,10 @@ use std::alloc::Global;
 /// The bytes of a screen: exactly `rows` lines, each with its LF, then form feed and LF.
 pub fn screen(alloc: Global, archive: &Archive, place: &Place) -> Result<Bytes, NoMemory>
     requires { 6 ≤ place.now.rows }
-    ensures { IfOk result (λ bytes. bytes.items
+    ensures bytes { IfOk result (λ bytes. bytes.items
         ≡ spec.screen (map plain_letter archive.now.items) (plain_place place.now)) }
+    ensures rows { length (spec.screen_lines (map plain_letter archive.now.items) (plain_place place.now))
+        ≡ place.now.rows }
 {
     let mut out = Bytes::new(alloc);
     let page = page(place);

@@ -240,13 +240,15 @@ fn the_cursor_starts_at_what_is_new(rt: HostRuntime) -> Result<(), Fail> {
         ),
         (
             "the first unread",
-            b"From a Thu Jan 1 00:00 1970\nStatus: RO\nSubject: a\n\n\nFrom b Thu Jan 1 00:00 1970\nStatus: O\nSubject: b\n\n",
+            b"From a Thu Jan 1 00:00 1970\nStatus: RO\nSubject: a\n\n\n\
+From b Thu Jan 1 00:00 1970\nStatus: O\nSubject: b\n\n",
             1,
             b"->2 O   b",
         ),
         (
             "the last",
-            b"From a Thu Jan 1 00:00 1970\nStatus: RO\nSubject: a\n\n\nFrom b Thu Jan 1 00:00 1970\nStatus: RO\nX-Status: A\nSubject: b\n\n",
+            b"From a Thu Jan 1 00:00 1970\nStatus: RO\nSubject: a\n\n\n\
+From b Thu Jan 1 00:00 1970\nStatus: RO\nX-Status: A\nSubject: b\n\n",
             1,
             b"->2 r   b",
         ),
