@@ -31,6 +31,3 @@ pub use select::first_value;
 pub use sent_date::SentDate;
 pub use text::{behind, trimmed};
 pub use words::decode_words;
-
-#[cfg(test)]
-mod tests;

@@ -19,8 +19,3 @@ pub use postmark::read_postmark;
 pub use regions::{CutError, cut_regions};
 pub use status::read_status;
 pub use stripped::core_of;
-
-#[cfg(test)]
-mod plain;
-#[cfg(test)]
-mod tests;

@@ -25,6 +25,3 @@ pub use kinds::kind_list;
 pub use part::{Part, Parts};
 pub use reading::read_parts;
 pub use text::decoded_text;
-
-#[cfg(test)]
-mod tests;

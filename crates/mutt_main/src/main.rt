@@ -1,39 +1,14 @@
 //! The program: a mail reader in the manner of Mutt.
 #![tactic(auto)]
 
-mod columns;
-mod cursor;
 mod environment;
-mod event;
-mod folder;
-mod key;
-mod moment;
-mod note;
-mod open;
-mod opened;
-mod opening;
-mod options;
-mod place;
-mod row;
-mod run;
-mod screen;
-mod session;
-mod show;
-mod status;
-mod subject;
-#[cfg(test)]
-mod tests;
-mod turn;
-mod words;
 
 use crate::environment::command_words;
-use crate::event::{Events, Trace};
-use crate::run::run;
-use crate::status::Status;
 use disk_model::{Device, RealDisk};
 use folder_core::{Archive, Drivers};
 use mail_base::{RealClock, StdSink, StdSource};
 use mbox_folder::MboxDriver;
+use mutt_run::{Events, Status, Trace, run};
 use std::io;
 use std::process::ExitCode;
 

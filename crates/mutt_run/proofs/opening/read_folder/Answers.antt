@@ -1,0 +1,30 @@
+use Rattle.std.proofs.Common.{ap, map, ◌∙◌}
+use Rattle.folder_core.specs.Known.{KnownFolder}
+use Rattle.folder_core.specs.Letters.{plain_letter}
+use Rattle.disk_model.proofs.Looking.{looks_then}
+use Rattle.mutt_run.proofs.Looked.{kind_told, found_told, refused_told}
+use Rattle.mutt_run.proofs.opening.read_folder.Goals as goal
+
+pub returns-then-not-has-clause-looked : goal.returns-then-not-has-clause-looked
+returns-then-not-has-clause-looked g c = kind_told _ _ _ _ c.in-Ok.ensures.kind
+
+pub returns-in-Ok-scan-clause-looked : goal.returns-in-Ok-scan-clause-looked
+returns-in-Ok-scan-clause-looked g c =
+    found_told c.in-Ok.kind _ _ _ _ c.in-Ok-scan.found _ _ _ (ap (map plain_letter) c.requires)
+    (ap (λ (k : KnownFolder). k.path) (c.in-Ok-scan.ensures.lists.kept
+    ∙ ap (λ (k : KnownFolder). record k
+    { listing = c.in-Ok-scan.found.came.items; bytes = c.scan.new.known.bytes; stamps = c.scan.new.known.stamps })
+    c.in-Ok-new.ensures))
+    c.in-Ok.ensures.kind c.in-Ok.ensures.looks c.in-Ok-scan.ensures.looks c.in-Ok-scan.ensures.saw
+
+pub returns-in-Ok-scan-clause-looks : goal.returns-in-Ok-scan-clause-looks
+returns-in-Ok-scan-clause-looks g c = looks_then _ _ _ c.in-Ok.ensures.looks c.in-Ok-scan.ensures.looks
+
+pub returns-clause-looked : goal.returns-clause-looked
+returns-clause-looked g c =
+    refused_told c.in-Ok.kind _ c.in-Err-scan.why _ _ _ _ _ _ (ap (map plain_letter) c.requires)
+    (ap (λ (k : KnownFolder). k.path) (c.in-Err-scan.ensures.err_known ∙ c.in-Ok-new.ensures))
+    c.in-Ok.ensures.kind c.in-Err-scan.ensures.looks c.in-Err-scan.ensures.saw
+
+pub returns-clause-looks : goal.returns-clause-looks
+returns-clause-looks g c = looks_then _ _ _ c.in-Ok.ensures.looks c.in-Err-scan.ensures.looks

@@ -1,0 +1,46 @@
+-- Runs with nothing in their way: these come to the end of the keys.
+use Rattle.std.specs.Prelude.{◌≡◌, ◌≤◌, ℕ, List, Option, Some, None, Result, Ok, Err}
+use Rattle.mail_base.specs.declared.kind.Kind.{Kind}
+use Rattle.disk_model.specs.Journal.{Past}
+use Rattle.disk_model.specs.Seen.{Seen}
+use Rattle.disk_model.specs.State.{tree_at}
+use Rattle.folder_core.specs.declared.error.ScanError.{ScanError}
+use Rattle.folder_core.specs.Kinds.{kind_at}
+use Rattle.folder_core.specs.Reads.{refusal}
+use Rattle.mutt_run.specs.Words.{Choice, folder_of}
+use Rattle.mutt_run.specs.declared.status.Status.{Status}
+use Rattle.mutt_run.specs.declared.status.Status.TheVariants.{Done, Usage, NotOpened, DiskFault, KeysFault, OutFault}
+use Rattle.mutt_run.specs.declared.status.Status.TheVariants.{NoMemory, TooManyKeys}
+
+-- At each mark from one to another a folder stands at the path, of a kind that has a driver; and from then on nothing
+-- keeps it from being listed.
+pub record IsReadable (Has : Kind → Type 0) (path : List ℕ) (before after : ℕ) (new : Past) : Type 0 where
+  pub there : (look : ℕ) (why : ScanError) → before ≤ look → look ≤ after
+      → kind_at (tree_at new look) path ≡ Err why → ⊥
+  pub driver : (look : ℕ) (kind : Kind) → before ≤ look → look ≤ after
+      → kind_at (tree_at new look) path ≡ Ok kind → Has kind
+  pub taken : (look seen : ℕ) (kind : Kind) → before ≤ look → look ≤ seen → seen ≤ after
+      → kind_at (tree_at new look) path ≡ Ok kind → refusal kind 0 (tree_at new seen) path ≡ None
+
+-- the same, where the disk tells its past
+abbrev pub IsReadableTold : (Kind → Type 0) → List ℕ → ℕ → ℕ → Option Past → Option Past → Type 0
+IsReadableTold Has path before after (Some old) (Some new) = IsReadable Has path before after new
+IsReadableTold Has path before after (Some old) None = ⊥
+IsReadableTold Has path before after None new = ⊥
+
+-- the words are a command line, and name a folder that can be read
+abbrev pub NamesReadable : (Kind → Type 0) → Result Choice (List ℕ) → Seen → Seen → Type 0
+NamesReadable Has (Err word) old new = ⊥
+NamesReadable Has (Ok choice) old new =
+    IsReadableTold Has (folder_of choice) old.marks new.marks old.told new.told
+
+-- the run came to the end of the keys, or memory was wanted
+abbrev pub IsPlainEnd : Status → Type 0
+IsPlainEnd Done = Unit {0}
+IsPlainEnd TooManyKeys = Unit {0}
+IsPlainEnd NoMemory = Unit {0}
+IsPlainEnd (Usage word) = ⊥
+IsPlainEnd (NotOpened why) = ⊥
+IsPlainEnd DiskFault = ⊥
+IsPlainEnd KeysFault = ⊥
+IsPlainEnd OutFault = ⊥

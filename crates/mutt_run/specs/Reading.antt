@@ -1,0 +1,28 @@
+-- A run from the opening of its folder on.
+use Rattle.std.specs.Prelude.{ℕ, ℤ, List, Option}
+use Rattle.mail_base.specs.declared.kind.Kind.{Kind}
+use Rattle.disk_model.specs.Judge.{GoesOn}
+use Rattle.disk_model.specs.Seen.{Seen}
+use Rattle.folder_core.specs.Letters.{Mail}
+use Rattle.mutt_run.specs.Words.{Choice}
+use Rattle.mutt_run.specs.Events.{Happening}
+use Rattle.mutt_run.specs.Runs.{IsRunFrom, Unopened, screens_from}
+use Rattle.mutt_run.specs.Moments.{Gives, IsStart, pressed_moments}
+use Rattle.mutt_run.specs.Taken.{TakesKeys}
+use Rattle.mutt_run.specs.Printed.{EndsAs, Prints}
+use Rattle.mutt_run.specs.Happened.{AllCounted, AllHappened}
+use Rattle.mutt_run.specs.declared.status.Status.{Status}
+
+-- The events are a run that ends with this status; their keys and moments were taken, their screens were printed, and
+-- what they say is true.
+pub record Reads (choice : Choice) (start : ℤ) (Has : Kind
+    → Type 0) (archive : List Mail) (status : Status) (events : List Happening) (old new : Seen)
+    (out out' keys keys' : Option (List ℕ)) (clock clock' : Option (List ℤ)) : Type 0 where
+  pub run : IsRunFrom choice Unopened events
+  pub ends : EndsAs choice status events keys'
+  pub taken : TakesKeys keys keys' events
+  pub start_is : IsStart start events
+  pub given : Gives clock clock' (pressed_moments events)
+  pub printed : Prints status (screens_from choice archive Unopened events) out out'
+  pub happened : GoesOn (AllHappened archive events) old.told new.told
+  pub counted : AllCounted Has old new events

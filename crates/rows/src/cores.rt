@@ -1,0 +1,22 @@
+//! Cases of what stays of a message when its status changes.
+
+use case_files::{Answer, Case, CaseFault, Subject};
+use mbox_folder::{core_of, first_line};
+use std::alloc::Global;
+
+/// `region` is a message with its postmark and its separator.
+pub struct Cores;
+
+impl Subject for Cores {
+    fn inputs(&self) -> &[&[u8]] {
+        &[b"region"]
+    }
+
+    fn answer(&self, alloc: Global, case: &Case) -> Result<Answer, CaseFault> {
+        let mut answer = Answer::new(alloc);
+        let region = case.need(b"region")?;
+        answer.put(b"core", core_of(alloc, region)?.as_slice())?;
+        answer.put(b"first line", first_line(region))?;
+        Ok(answer)
+    }
+}

@@ -1,0 +1,53 @@
+//! The worked rows of calls on values: each case file is read, each case's call made and compared.
+#![tactic(auto)]
+
+mod bodies;
+mod cores;
+mod encoded_words;
+mod flags;
+mod headers;
+mod lines;
+mod parts;
+mod people;
+mod postmarks;
+mod regions;
+mod status;
+
+use crate::bodies::Bodies;
+use crate::cores::Cores;
+use crate::encoded_words::EncodedWords;
+use crate::flags::FlagChanges;
+use crate::headers::Headers;
+use crate::lines::LineForms;
+use crate::parts::MessageParts;
+use crate::people::People;
+use crate::postmarks::Postmarks;
+use crate::regions::FileRegions;
+use crate::status::StatusFields;
+use case_files::{Report, play_file, print_report};
+use mail_base::NoMemory;
+use std::io;
+use std::process::ExitCode;
+
+fn main(rt: HostRuntime) -> io::Result<ExitCode> {
+    let mut report = Report::new(rt.alloc());
+    match play_all(&rt, &mut report) {
+        Ok(()) => print_report(&rt, &report),
+        Err(NoMemory) => Ok(ExitCode::from(2)),
+    }
+}
+
+/// Plays each case file, a line a file.
+fn play_all(rt: &HostRuntime, report: &mut Report) -> Result<(), NoMemory> {
+    play_file(rt, &FlagChanges, "flags", report)?;
+    play_file(rt, &LineForms, "lines", report)?;
+    play_file(rt, &Postmarks, "postmarks", report)?;
+    play_file(rt, &FileRegions, "regions", report)?;
+    play_file(rt, &Cores, "cores", report)?;
+    play_file(rt, &StatusFields, "status", report)?;
+    play_file(rt, &EncodedWords, "encoded_words", report)?;
+    play_file(rt, &People, "people", report)?;
+    play_file(rt, &Headers, "headers", report)?;
+    play_file(rt, &MessageParts, "parts", report)?;
+    play_file(rt, &Bodies, "bodies", report)
+}

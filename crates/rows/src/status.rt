@@ -1,0 +1,21 @@
+//! Cases of the status fields of a message.
+
+use crate::flags::put_flags;
+use case_files::{Answer, Case, CaseFault, Subject};
+use mbox_folder::read_status;
+use std::alloc::Global;
+
+/// `region` is a message with its postmark; `flags` are letters as in the cases of flags.
+pub struct StatusFields;
+
+impl Subject for StatusFields {
+    fn inputs(&self) -> &[&[u8]] {
+        &[b"region"]
+    }
+
+    fn answer(&self, alloc: Global, case: &Case) -> Result<Answer, CaseFault> {
+        let mut answer = Answer::new(alloc);
+        put_flags(&mut answer, b"flags", read_status(case.need(b"region")?))?;
+        Ok(answer)
+    }
+}

@@ -1,0 +1,44 @@
+//! Cases of the kind of a folder.
+
+use crate::nodes::{disk_of, text_of};
+use case_files::{Answer, Case, CaseFault, Subject};
+use disk_model::Device;
+use folder_core::kind_of;
+use mail_base::Kind;
+use std::alloc::Global;
+
+/// Each `path` is looked at in its turn.
+pub struct FolderKinds;
+
+impl Subject for FolderKinds {
+    fn inputs(&self) -> &[&[u8]] {
+        &[b"file", b"folder", b"failing", b"path"]
+    }
+
+    fn answer(&self, alloc: Global, case: &Case) -> Result<Answer, CaseFault> {
+        let mut answer = Answer::new(alloc);
+        let mut dev = Device::new(Box::new(alloc, disk_of(alloc, case)?)?);
+        for entry in case.entries.as_slice() {
+            if entry.key.as_slice() == b"path".as_slice() {
+                let path = text_of(entry.value.as_slice())?;
+                match kind_of(alloc, &mut dev, path, Kind::Mbox) {
+                    Ok(kind) => answer.put_text(b"kind", kind_name(kind))?,
+                    Err(error) => {
+                        answer.put_text(b"kind", format!(in alloc; "{error}")?.as_str())?;
+                    }
+                }
+            }
+        }
+        Ok(answer)
+    }
+}
+
+/// The name of a kind as `-m` takes it.
+fn kind_name(kind: Kind) -> &'static str {
+    match kind {
+        Kind::Mbox => "mbox",
+        Kind::Maildir => "Maildir",
+        Kind::Mh => "MH",
+        Kind::Mmdf => "MMDF",
+    }
+}

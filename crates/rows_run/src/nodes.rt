@@ -1,0 +1,79 @@
+//! What the cases of disks share: nodes, calls that fail, lists of words and numbers.
+
+use case_files::{Case, CaseFault, Entry, read_number};
+use disk_model::{MemoryDisk, Node, Script, Tree, is_tree};
+use mail_base::{Bytes, Numbers, Words};
+use std::alloc::Global;
+
+/// A disk with the nodes of the case, of which the calls under `failing disk` fail.
+pub fn disk_of(alloc: Global, case: &Case) -> Result<MemoryDisk, CaseFault> {
+    let tree = tree_of(alloc, case)?;
+    if !is_tree(&tree) {
+        return Err(CaseFault::BadInput);
+    }
+    let fails = numbers_of(alloc, case, b"failing disk")?;
+    Ok(MemoryDisk::new(alloc, tree, Script::new(alloc), fails, None)?)
+}
+
+/// The nodes under `file PATH` and `folder PATH`, in their order.
+pub fn tree_of(alloc: Global, case: &Case) -> Result<Tree, CaseFault> {
+    let mut tree = Tree::new(alloc);
+    for entry in case.entries.as_slice() {
+        if let Some(node) = node_of(alloc, entry)? {
+            tree.push(node)?;
+        }
+    }
+    Ok(tree)
+}
+
+fn node_of(alloc: Global, entry: &Entry) -> Result<Option<Node>, CaseFault> {
+    let role = entry.role();
+    let bytes = if role == b"file".as_slice() {
+        Some(Bytes::copy_of(alloc, entry.value.as_slice())?)
+    } else if role == b"folder".as_slice() {
+        None
+    } else {
+        return Ok(None);
+    };
+    let path = Bytes::copy_of(alloc, entry.about())?;
+    Ok(Some(Node { path, bytes }))
+}
+
+/// The numbers of a value, with blanks between them; none where the key is not there.
+pub fn numbers_of(alloc: Global, case: &Case, key: &[u8]) -> Result<Numbers, CaseFault> {
+    let mut numbers = Numbers::new(alloc);
+    let value = case.find(key).unwrap_or(b"");
+    for word in value
+        .split(|byte| *byte == b' ')
+        .filter(|word| !word.is_empty())
+    {
+        numbers.push(read_number(word)?)?;
+    }
+    Ok(numbers)
+}
+
+/// The words under `words`, with blanks between them, and then each one under `word`.
+pub fn words_of(alloc: Global, case: &Case) -> Result<Words, CaseFault> {
+    let mut words = Words::new(alloc);
+    let value = case.find(b"words").unwrap_or(b"");
+    for word in value
+        .split(|byte| *byte == b' ')
+        .filter(|word| !word.is_empty())
+    {
+        words.push(Bytes::copy_of(alloc, word)?)?;
+    }
+    for entry in case.entries.as_slice() {
+        if entry.key.as_slice() == b"word".as_slice() {
+            words.push(Bytes::copy_of(alloc, entry.value.as_slice())?)?;
+        }
+    }
+    Ok(words)
+}
+
+/// A value as text.
+pub fn text_of(value: &[u8]) -> Result<&str, CaseFault> {
+    match str::from_utf8(value) {
+        Ok(text) => Ok(text),
+        Err(_) => Err(CaseFault::BadInput),
+    }
+}

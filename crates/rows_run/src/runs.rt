@@ -1,0 +1,127 @@
+//! Cases of whole runs over memory: words, nodes, keys and moments in; screens, notes and the status out.
+
+use crate::nodes::{disk_of, numbers_of, text_of, words_of};
+use case_files::{Answer, Case, CaseFault, Subject};
+use disk_model::Device;
+use folder_core::{Archive, Drivers};
+use mail_base::{Bytes, MemoryClock, MemorySink, MemorySource, Series};
+use mbox_folder::MboxDriver;
+use mutt_run::{Events, Trace, run};
+use std::alloc::Global;
+
+/// The most bytes that a case prints.
+const OUT_ROOM: usize = 1_000_000;
+
+/// The most bytes that a case tells.
+const ERRS_ROOM: usize = 10_000;
+
+/// `words` and then each `word` are the command line, `failing keys`, `failing out`, `failing errs` and `failing disk` the calls
+/// that fail, from 0. `screen N` is a whole screen, `row N M` a line of it, both from 1; `after PATH` what stands there then.
+pub struct WholeRuns;
+
+impl Subject for WholeRuns {
+    fn inputs(&self) -> &[&[u8]] {
+        &[
+            b"file", b"folder", b"failing", b"words", b"word", b"keys", b"moments",
+        ]
+    }
+
+    fn answer(&self, alloc: Global, case: &Case) -> Result<Answer, CaseFault> {
+        let mut dev = Device::new(Box::new(alloc, disk_of(alloc, case)?)?);
+        let mut drivers = Drivers::new(alloc);
+        if drivers.add(Box::new(alloc, MboxDriver)?).is_err() {
+            return Err(CaseFault::NoMemory);
+        }
+        let keys = Bytes::copy_of(alloc, case.find(b"keys").unwrap_or(b""))?;
+        let mut source = MemorySource::new(keys, numbers_of(alloc, case, b"failing keys")?);
+        let failing_out = numbers_of(alloc, case, b"failing out")?;
+        let mut out = MemorySink::new(alloc, OUT_ROOM, failing_out)?;
+        let failing_errs = numbers_of(alloc, case, b"failing errs")?;
+        let mut errs = MemorySink::new(alloc, ERRS_ROOM, failing_errs)?;
+        let mut trace = Trace {
+            archive: Archive::new(alloc),
+            events: Events::new(alloc),
+        };
+        let status = run(
+            alloc,
+            &words_of(alloc, case)?,
+            &mut source,
+            &mut out,
+            &mut errs,
+            &mut dev,
+            &mut drivers,
+            &mut MemoryClock::new(moments_of(alloc, case)?),
+            &mut trace,
+        );
+        let mut answer = Answer::new(alloc);
+        answer.put_count(b"status", usize::from(status.number()))?;
+        answer.put(b"errs", errs.written().as_slice())?;
+        answer.put(b"out", out.written().as_slice())?;
+        answer.put_count(b"letters", trace.archive.len())?;
+        put_screens(alloc, &mut answer, out.written().as_slice())?;
+        put_nodes(alloc, &mut answer, case, &mut dev)?;
+        Ok(answer)
+    }
+}
+
+/// The moments that the clock gives, none of them where there is none.
+fn moments_of(alloc: Global, case: &Case) -> Result<Series<i64>, CaseFault> {
+    let mut moments = Series::new(alloc);
+    for number in numbers_of(alloc, case, b"moments")?.as_slice() {
+        match i64::try_from(*number) {
+            Ok(moment) => moments.push(moment)?,
+            Err(_) => return Err(CaseFault::BadInput),
+        }
+    }
+    Ok(moments)
+}
+
+/// Puts how many screens were printed, and each of them. A screen ends with a form feed and a line feed.
+fn put_screens(alloc: Global, answer: &mut Answer, out: &[u8]) -> Result<(), CaseFault> {
+    let screens = out.iter().filter(|byte| **byte == 12).count();
+    answer.put_count(b"screens", screens)?;
+    for (place, page) in out.split(|byte| *byte == 12).enumerate().take(screens) {
+        let number = place.saturating_add(1);
+        let page = match page {
+            [b'\n', rest @ ..] if place > 0 => rest,
+            _ => page,
+        };
+        let key = format!(in alloc; "screen {number}")?;
+        answer.put(key.as_bytes(), page)?;
+        put_rows(alloc, answer, number, page)?;
+    }
+    Ok(())
+}
+
+fn put_rows(
+    alloc: Global,
+    answer: &mut Answer,
+    number: usize,
+    page: &[u8],
+) -> Result<(), CaseFault> {
+    for (place, line) in page.split(|byte| *byte == b'\n').enumerate() {
+        let row = place.saturating_add(1);
+        let key = format!(in alloc; "row {number} {row}")?;
+        answer.put(key.as_bytes(), line)?;
+    }
+    Ok(())
+}
+
+/// Puts what stands at each path of which the case says `after PATH`.
+fn put_nodes(
+    alloc: Global,
+    answer: &mut Answer,
+    case: &Case,
+    dev: &mut Device,
+) -> Result<(), CaseFault> {
+    for entry in case.entries.as_slice() {
+        if entry.role() == b"after".as_slice() {
+            let key = entry.key.as_slice();
+            match dev.read_all(alloc, text_of(entry.about())?, u64::MAX) {
+                Ok(read) => answer.put(key, read.bytes.as_slice())?,
+                Err(error) => answer.put_text(key, format!(in alloc; "{error}")?.as_str())?,
+            }
+        }
+    }
+    Ok(())
+}

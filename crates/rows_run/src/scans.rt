@@ -1,0 +1,90 @@
+//! Cases of folders that are scanned by the driver of their kind.
+
+use crate::nodes::{disk_of, text_of};
+use case_files::{Answer, Case, CaseFault, Subject};
+use disk_model::Device;
+use folder_core::{Archive, Driver, Known, Letter, Listed};
+use mail_base::{Flags, Kind};
+use mbox_folder::MboxDriver;
+use std::alloc::Global;
+
+/// Each `scan` is the path of a mailbox, into one archive. A listed message is its id and the letters of its flags, a letter
+/// its order, where its text begins, and when it was received.
+pub struct Scans;
+
+impl Subject for Scans {
+    fn inputs(&self) -> &[&[u8]] {
+        &[b"file", b"folder", b"failing", b"scan"]
+    }
+
+    fn answer(&self, alloc: Global, case: &Case) -> Result<Answer, CaseFault> {
+        let mut answer = Answer::new(alloc);
+        let mut dev = Device::new(Box::new(alloc, disk_of(alloc, case)?)?);
+        let mut archive = Archive::new(alloc);
+        for entry in case.entries.as_slice() {
+            if entry.key.as_slice() == b"scan".as_slice() {
+                let path = text_of(entry.value.as_slice())?;
+                put_scan(alloc, &mut answer, &mut dev, path, &mut archive)?;
+            }
+        }
+        answer.put_count(b"letters", archive.len())?;
+        for letter in archive.as_slice() {
+            put_letter(alloc, &mut answer, letter)?;
+        }
+        Ok(answer)
+    }
+}
+
+/// Scans a mailbox of which nothing is known and puts what came, or why it was refused.
+fn put_scan(
+    alloc: Global,
+    answer: &mut Answer,
+    dev: &mut Device,
+    path: &str,
+    archive: &mut Archive,
+) -> Result<(), CaseFault> {
+    let mut known = Known::new(alloc, path, Kind::Mbox)?;
+    match MboxDriver.scan(alloc, dev, &mut known, archive) {
+        Ok(found) => answer.put_count(b"came", found.came.len())?,
+        Err(error) => answer.put_text(b"refused", format!(in alloc; "{error}")?.as_str())?,
+    }
+    for listed in known.listing().as_slice() {
+        put_listed(alloc, answer, listed)?;
+    }
+    answer.put_count(b"known bytes", known.bytes().len())?;
+    for stamp in known.stamps().as_slice() {
+        let stamp = *stamp;
+        answer.put_text(b"stamp", format!(in alloc; "{stamp}")?.as_str())?;
+    }
+    Ok(())
+}
+
+fn put_listed(alloc: Global, answer: &mut Answer, listed: &Listed) -> Result<(), CaseFault> {
+    let id = listed.id.0;
+    let Flags {
+        seen,
+        aged,
+        replied,
+        flagged,
+        ..
+    } = listed.flags;
+    let number = format!(in alloc; "{id} ")?;
+    let letters = [
+        number.as_str(),
+        if seen { "S" } else { "" },
+        if aged { "O" } else { "" },
+        if replied { "R" } else { "" },
+        if flagged { "F" } else { "" },
+    ];
+    answer.put_joined(b"listed", &letters)
+}
+
+fn put_letter(alloc: Global, answer: &mut Answer, letter: &Letter) -> Result<(), CaseFault> {
+    let order = letter.order;
+    let text_at = letter.text_at;
+    let received = letter.received;
+    let text = format!(in alloc; "{order} {text_at} {received}")?;
+    answer.put_text(b"letter", text.as_str())?;
+    answer.put(b"key", letter.key.as_slice())?;
+    answer.put(b"core", letter.core.as_slice())
+}
