@@ -1,25 +1,18 @@
 -- What stands behind reply prefixes: it is shorter, and it stays UTF-8.
 use Rattle.std.proofs.Common.{◌≡◌, ℕ, zero, suc, ◌+◌, ◌<◌, ◌≤◌, ◌==◌, ◌&&◌, Bool, true, false, not, cond, nat_lt, List}
 use Rattle.std.proofs.Common.{[], ◌∷◌, length, drop, Option, Some, None, unwrap_or, refl, sym, subst, arith}
-use Rattle.std.proofs.lemmas.Bool.{eqb-true}
+use Rattle.std.proofs.lemmas.Bool.{and_parts, eqb-true}
 use Rattle.std.proofs.lemmas.Bool.Decides.{nat_tests}
-use Rattle.std.proofs.lemmas.List.Sums.{prefix_len-le-length}
 use Rattle.std.proofs.lemmas.Str.{IsUtf8-drop, IsCharBoundary-after_ascii}
 use Rattle.std.specs.Char.{is_ascii_digit, to_ascii_lowercase}
 use Rattle.std.specs.Str.{IsUtf8}
 use Rattle.std.specs.List.{position_or_len}
+use Rattle.std.specs.Option.{option_or}
 use Rattle.std.specs.Prelude.{option_and_then, if◌then◌else◌}
-use Rattle.mail_base.specs.Lines.{is_blank, without_blanks}
-use Rattle.headers.specs.Texts.{behind}
-use Rattle.headers.specs.Subjects.{behind_letters, digits_len, behind_number, behind_re, or_else, behind_prefix}
-use Rattle.headers.specs.Subjects.{base_from}
-
-pub length-without_blanks : (s : List ℕ) → length (without_blanks s) ≤ length s
-length-without_blanks [] = omega arith
-length-without_blanks (b ∷ rest) =
-    let more = length-without_blanks rest in
-    elim (is_blank b) as (λ t. length (if t then without_blanks rest else b ∷ rest) ≤ length (b ∷ rest))
-    [ true ↦ omega arith | false ↦ omega arith ]
+use Rattle.mail_base.specs.Blanks.{is_blank, without_blanks}
+use Rattle.mail_base.specs.Fronts.{behind}
+use Rattle.headers.specs.Subject.{behind_letters, digits_len, behind_number, behind_re, behind_reply, behind_prefix}
+use Rattle.headers.specs.Subject.{base_from}
 
 utf8_tail : (b : ℕ) (rest : List ℕ) → b < 128 → IsUtf8 (b ∷ rest) → IsUtf8 rest
 utf8_tail b rest ascii utf8 =
@@ -51,7 +44,7 @@ keeps_or : (r : List ℕ) (o : Option (List ℕ)) → Keeps r o → Keeps r (Som
 keeps_or r None h = λ utf8. utf8
 keeps_or r (Some later) h = h
 
-keeps_else : (s : List ℕ) (a b : Option (List ℕ)) → Keeps s a → Keeps s b → Keeps s (or_else a b)
+keeps_else : (s : List ℕ) (a b : Option (List ℕ)) → Keeps s a → Keeps s b → Keeps s (option_or a b)
 keeps_else s None b h k = k
 keeps_else s (Some r) b h k = h
 
@@ -63,30 +56,13 @@ keeps_behind byte (b ∷ rest) ascii =
 lower_small : (a x : ℕ) → x < 128 → (to_ascii_lowercase a == x) ≡ true → a < 128
 lower_small a x small e = grind (arith, nat_tests)
 
-both_left : (a b : Bool) → (a && b) ≡ true → a ≡ true
-both_left true b e = refl
-both_left false b e = e
-
-both_right : (a b : Bool) → (a && b) ≡ true → b ≡ true
-both_right true b e = e
-both_right false b e = cc
-
 keeps_letters : (x y : ℕ) (s : List ℕ) → x < 128 → y < 128 → Keeps s (behind_letters x y s)
 keeps_letters x y [] sx sy = tt
 keeps_letters x y (a ∷ []) sx sy = tt
 keeps_letters x y (a ∷ b ∷ rest) sx sy =
     keeps_if (a ∷ b ∷ rest) (to_ascii_lowercase a == x && to_ascii_lowercase b == y) (Some rest)
-    (λ e utf8. utf8_tail b rest (lower_small b y sy (both_right _ _ e))
-    (utf8_tail a (b ∷ rest) (lower_small a x sx (both_left _ _ e)) utf8))
-
-or_len : (n len : ℕ) → n ≤ len → unwrap_or (cond (nat_lt n len) (Some n) None) len ≡ n
-or_len n len le = grind (arith, nat_tests)
-
-digits_len-place : (s : List ℕ) → digits_len s ≡ position_or_len (λ b. not (is_ascii_digit b)) s
-unfolding digits_len
-digits_len-place s =
-    or_len (position_or_len (λ b. not (is_ascii_digit b)) s) (length s)
-    (prefix_len-le-length (λ x. not (not (is_ascii_digit x))) s)
+    (λ e utf8. utf8_tail b rest (lower_small b y sy (and_parts _ _ e).1)
+    (utf8_tail a (b ∷ rest) (lower_small a x sx (and_parts _ _ e).0) utf8))
 
 digit_small : (b : ℕ) → is_ascii_digit b ≡ true → b < 128
 digit_small b e = grind (arith, nat_tests)
@@ -108,7 +84,7 @@ keeps_number s =
     keeps_then s (behind 91 s) _ (keeps_behind 91 s (omega arith))
     (λ a. keeps_unless a (digits_len a == 0) (behind 93 (drop (digits_len a) a))
     (keeps_later a (drop (digits_len a) a) (behind 93 (drop (digits_len a) a))
-    (λ utf8. rw (digits_len-place a) (utf8_behind_digits a utf8))
+    (utf8_behind_digits a)
     (keeps_behind 93 (drop (digits_len a) a) (omega arith))))
 
 blank_small : (b : ℕ) → is_blank b ≡ true → b < 128
@@ -126,7 +102,7 @@ utf8_without_blanks (b ∷ rest) utf8 =
 
 keeps_prefix : (s : List ℕ) → Keeps s (behind_prefix s)
 keeps_prefix s =
-    keeps_then s (or_else (behind_re s) (behind_letters 97 119 s)) _
+    keeps_then s (behind_reply s) _
     (keeps_else s (behind_re s) (behind_letters 97 119 s)
     (keeps_then s (behind_letters 114 101 s) _ (keeps_letters 114 101 s (omega arith) (omega arith))
     (λ a. keeps_or a (behind_number a) (keeps_number a)))

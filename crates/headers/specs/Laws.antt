@@ -3,12 +3,13 @@ use Rattle.std.specs.Prelude.{◌≡◌, ◌==◌, ◌&&◌, ◌||◌, ℕ, Bool
 use Rattle.std.specs.Prelude.{length}
 use Rattle.std.specs.List.{list_all, flat_map, suffix_len}
 use Rattle.std.specs.Str.{is_utf8}
-use Rattle.mail_base.specs.Lines.{HeaderField, is_blank, is_continuation, is_name_byte, message_fields}
-use Rattle.headers.specs.Texts.{behind}
-use Rattle.headers.specs.Charsets.{utf8_text}
-use Rattle.headers.specs.EncodedWords.{decoded_words}
-use Rattle.headers.specs.People.{Person, people}
-use Rattle.headers.specs.Blocks.{body_at}
+use Rattle.mail_base.specs.Blanks.{is_blank}
+use Rattle.mail_base.specs.Fronts.{behind}
+use Rattle.mail_base.specs.Lines.{PlainField, body_at, is_continuation, is_name_byte, message_fields}
+use Rattle.headers.specs.Charset.{utf8_text}
+use Rattle.headers.specs.Decode.{decoded_words}
+use Rattle.headers.specs.People.{people}
+use Rattle.headers.specs.Person.{PlainPerson}
 
 -- `=?` stands in the text
 abbrev pub has_mark : List ℕ → Bool
@@ -38,17 +39,17 @@ abbrev pub is_plain : List ℕ → Bool
 is_plain s = list_all is_plain_byte s && is_trimmed s
 
 -- a person that can be written without quotes
-abbrev pub is_plain_person : Person → Bool
+abbrev pub is_plain_person : PlainPerson → Bool
 is_plain_person p = is_plain p.name && not (has_mark p.name) && is_plain p.address
 
 -- `NAME <ADDRESS>,`
-abbrev pub written_person : Person → List ℕ
+abbrev pub written_person : PlainPerson → List ℕ
 written_person p = (p.name ++ 32 ∷ []) ++ 60 ∷ p.address ++ 62 ∷ 44 ∷ []
 
 -- persons written so, each with a comma behind it, are read back
 abbrev pub WrittenPeopleAreRead : Type 0
 WrittenPeopleAreRead =
-    (persons : List Person) → list_all is_plain_person persons ≡ true
+    (persons : List PlainPerson) → list_all is_plain_person persons ≡ true
     → people (flat_map written_person persons) ≡ persons
 
 -- a name of a field (RFC 5322, section 2.2)
@@ -61,25 +62,25 @@ abbrev pub is_line_byte : ℕ → Bool
 is_line_byte b = not (b == 10) && not (b == 13)
 
 -- a field that fits one line
-abbrev pub is_one_line : HeaderField → Bool
+abbrev pub is_one_line : PlainField → Bool
 is_one_line f = is_name f.name && list_all is_line_byte f.value && not (is_continuation f.value)
 
 -- `NAME: VALUE` on a line of its own
-abbrev pub written_field : HeaderField → List ℕ
+abbrev pub written_field : PlainField → List ℕ
 written_field f = (f.name ++ 58 ∷ 32 ∷ f.value) ++ 10 ∷ []
 
 -- fields one a line, an empty line and a body
-abbrev pub written_message : List HeaderField → List ℕ → List ℕ
+abbrev pub written_message : List PlainField → List ℕ → List ℕ
 written_message fields body = flat_map written_field fields ++ 10 ∷ body
 
 -- fields written one a line are read back, whatever the body
 abbrev pub WrittenFieldsAreRead : Type 0
 WrittenFieldsAreRead =
-    (fields : List HeaderField) (body : List ℕ) → list_all is_one_line fields ≡ true
+    (fields : List PlainField) (body : List ℕ) → list_all is_one_line fields ≡ true
     → message_fields (written_message fields body) ≡ fields
 
 -- and the body is found behind them
 abbrev pub WrittenBodyIsFound : Type 0
 WrittenBodyIsFound =
-    (fields : List HeaderField) (body : List ℕ) → list_all is_one_line fields ≡ true
+    (fields : List PlainField) (body : List ℕ) → list_all is_one_line fields ≡ true
     → body_at (written_message fields body) ≡ length (flat_map written_field fields)

@@ -2,68 +2,69 @@
 use Rattle.std.specs.Prelude.{ℕ, not, List, ◌++◌, filter, Option, Some, None, option_to_list, if◌then◌else◌}
 use Rattle.std.specs.List.{list_all, list_any, flat_map, slice_split, before_first, after_first, before_last}
 use Rattle.std.specs.List.{after_last}
-use Rattle.mail_base.specs.Lines.{is_blank}
-use Rattle.headers.specs.declared.mark.Mark.{Mark}
-use Rattle.headers.specs.Marks.{marks_of, bytes_of, is_separator, is_group_end, is_angle_start, is_angle_end}
-use Rattle.headers.specs.Marks.{is_comment_start, is_comment_end, is_comment, is_quote}
-use Rattle.headers.specs.Texts.{trimmed}
-use Rattle.headers.specs.EncodedWords.{decoded_words}
-
--- a name and an address
-pub record Person : Type 0 where
-  pub name : List ℕ
-  pub address : List ℕ
+use Rattle.mail_base.specs.Blanks.{is_blank, trimmed}
+use Rattle.headers.specs.declared.address_byte.AddressByte.{AddressByte}
+use Rattle.headers.specs.declared.address_byte.Role.TheVariants.{Quote, CommentStart, CommentEnd, AngleStart, AngleEnd}
+use Rattle.headers.specs.declared.address_byte.Role.TheVariants.{GroupEnd, Separator}
+use Rattle.headers.specs.declared.people.Brackets.{Brackets}
+use Rattle.headers.specs.AddressByte.{bytes_of, has, is_comment}
+use Rattle.headers.specs.AddressState.{address_bytes}
+use Rattle.headers.specs.Decode.{decoded_words}
+use Rattle.headers.specs.Person.{PlainPerson}
 
 -- a name as it is shown: it is cut from the list first, and then its encoded words are decoded
-abbrev pub shown_name : List Mark → List ℕ
-shown_name marks = decoded_words (trimmed (bytes_of marks))
+abbrev pub shown_name : List AddressByte → List ℕ
+shown_name bytes = decoded_words (trimmed (bytes_of bytes))
 
 -- the last brackets, with what stands before, in and behind them; brackets that are not closed reach to the end
-pub record Brackets : Type 0 where
-  pub before : List Mark
-  pub inside : List Mark
-  pub behind : List Mark
+pub record PlainBrackets : Type 0 where
+  pub before : List AddressByte
+  pub inside : List AddressByte
+  pub behind : List AddressByte
 
-abbrev pub brackets_of : List Mark → Option Brackets
-brackets_of marks =
-    let tail = after_last (λ m. is_angle_start m.role) marks in
-    if list_any (λ m. is_angle_start m.role) marks then Some (record {
-      before = before_last (λ m. is_angle_start m.role) marks;
-      inside = before_first (λ m. is_angle_end m.role) tail;
-      behind = after_first (λ m. is_angle_end m.role) tail;
+abbrev pub brackets_of : List AddressByte → Option PlainBrackets
+brackets_of bytes =
+    let tail = after_last (has AngleStart) bytes in
+    if list_any (has AngleStart) bytes then Some (record {
+      before = before_last (has AngleStart) bytes;
+      inside = before_first (has AngleEnd) tail;
+      behind = after_first (has AngleEnd) tail;
     })
     else None
 
 -- the address is in the brackets, and the name is the rest without quotes
-abbrev pub bracketed : Brackets → Person
+abbrev pub bracketed : PlainBrackets → PlainPerson
 bracketed b = record {
-  name = shown_name (filter (λ m. not (is_quote m.role)) (b.before ++ b.behind));
+  name = shown_name (filter (λ b. not (has Quote b)) (b.before ++ b.behind));
   address = trimmed (bytes_of b.inside);
 }
 
 -- the text of the first comment, or nothing
-abbrev pub first_comment : List Mark → List Mark
-first_comment marks =
-    before_first (λ m. is_comment_end m.role) (after_first (λ m. is_comment_start m.role) marks)
+abbrev pub first_comment : List AddressByte → List AddressByte
+first_comment bytes =
+    before_first (has CommentEnd) (after_first (has CommentStart) bytes)
 
 -- the address is the text without comments, and the name is the first comment
-abbrev pub unbracketed : List Mark → Person
-unbracketed marks = record {
-  name = shown_name (first_comment marks);
-  address = trimmed (bytes_of (filter (λ m. not (is_comment m.role)) marks));
+abbrev pub unbracketed : List AddressByte → PlainPerson
+unbracketed bytes = record {
+  name = shown_name (first_comment bytes);
+  address = trimmed (bytes_of (filter (λ b. not (is_comment b)) bytes));
 }
 
-abbrev pub person_of : List Mark → Option Brackets → Person
-person_of marks None = unbracketed marks
-person_of marks (Some b) = bracketed b
+abbrev pub person_of : List AddressByte → Option PlainBrackets → PlainPerson
+person_of bytes None = unbracketed bytes
+person_of bytes (Some b) = bracketed b
 
 -- the person of a piece between separators, behind the name of a group; blanks alone are nobody
-abbrev pub person_in : List Mark → Option Person
+abbrev pub person_in : List AddressByte → Option PlainPerson
 person_in piece =
-    let marks = after_last (λ m. is_group_end m.role) piece in
-    if list_all (λ m. is_blank m.byte) marks then None else Some (person_of marks (brackets_of marks))
+    let bytes = after_last (has GroupEnd) piece in
+    if list_all (λ b. is_blank b.byte) bytes then None else Some (person_of bytes (brackets_of bytes))
 
 -- the persons of an address list
-abbrev pub people : List ℕ → List Person
+abbrev pub people : List ℕ → List PlainPerson
 people value =
-    flat_map (λ piece. option_to_list (person_in piece)) (slice_split (λ m. is_separator m.role) (marks_of value))
+    flat_map (λ piece. option_to_list (person_in piece)) (slice_split (has Separator) (address_bytes value))
+
+abbrev pub plain_brackets : Brackets → PlainBrackets
+plain_brackets b = record { before = b.before.now; inside = b.inside.now; behind = b.behind.now }

@@ -1,13 +1,14 @@
+//! The ids of the messages that a message may answer (RFC 5322, section 3.6.4).
+
 ghost use Rattle.std.specs.Prelude.{◌≡◌, ◌++◌, map, take, reverse, option_map, option_to_list, IfOk, OnOk};
 ghost use Rattle.std.specs.List.{list_any};
 ghost use Rattle.std.specs.Str.{bytes_eq};
-ghost use Rattle.headers.specs.Blocks.{plain_field};
-ghost use Rattle.headers.specs.Headers as spec;
-ghost use Rattle.headers.specs.Ids as ids;
-ghost use Rattle.headers.specs.Views.{plain_names};
+ghost use Rattle.mail_base.specs.Series.{plain_texts};
+ghost use Rattle.headers.specs.Candidates as spec;
+ghost use Rattle.headers.specs.Field.{plain_field};
 
 use crate::field::Field;
-use crate::select::{id_in, references_of};
+use crate::values::{id_in, references_of};
 use mail_base::{Bytes, Names, NoMemory};
 use std::alloc::Global;
 
@@ -21,7 +22,7 @@ fn is_among(names: &[Bytes], id: &[u8]) -> bool
 }
 
 fn add_new(alloc: Global, names: &mut Names, id: &[u8]) -> Result<(), NoMemory>
-    ensures { OnOk result (plain_names names.new ≡ ids.with_id (plain_names names.old) id.now) }
+    ensures { OnOk result (plain_texts names.new ≡ spec.with_id (plain_texts names.old) id.now) }
 {
     if is_among(names.as_slice(), id) {
         return Ok(());
@@ -31,7 +32,7 @@ fn add_new(alloc: Global, names: &mut Names, id: &[u8]) -> Result<(), NoMemory>
 }
 
 fn names_of(alloc: Global, id: Option<Bytes>) -> Result<Names, NoMemory>
-    ensures { IfOk result (λ n. plain_names n ≡ option_to_list (option_map (λ i. i.items) id)) }
+    ensures { IfOk result (λ n. plain_texts n ≡ option_to_list (option_map (λ i. i.items) id)) }
 {
     let mut names = Names::new(alloc);
     match id {
@@ -45,9 +46,9 @@ fn names_of(alloc: Global, id: Option<Bytes>) -> Result<Names, NoMemory>
 
 // Adds the last 64 ids, from last to first, each unless it is there already.
 fn add_last(alloc: Global, names: &mut Names, references: &[Bytes]) -> Result<(), NoMemory>
-    ensures { OnOk result (plain_names names.new
-        ≡ plain_names names.old
-        ++ ids.new_ids (plain_names names.old) (take 64 (reverse (map (λ n. n.items) references.now)))) }
+    ensures { OnOk result (plain_texts names.new
+        ≡ plain_texts names.old
+        ++ spec.new_ids (plain_texts names.old) (take 64 (reverse (map (λ n. n.items) references.now)))) }
 {
     let mut left = references;
     for _count in 0..MOST {
@@ -63,7 +64,7 @@ fn add_last(alloc: Global, names: &mut Names, references: &[Bytes]) -> Result<()
 /// The ids of the messages that this one may answer, the most likely first: the first id of In-Reply-To, then the last
 /// 64 of References (RFC 5322, section 3.6.4).
 pub fn candidates_of(alloc: Global, fields: &[Field]) -> Result<Names, NoMemory>
-    ensures { IfOk result (λ n. plain_names n ≡ spec.candidates (map plain_field fields.now)) }
+    ensures { IfOk result (λ n. plain_texts n ≡ spec.candidates (map plain_field fields.now)) }
 {
     let references = references_of(alloc, fields)?;
     let mut names = names_of(alloc, id_in(alloc, fields, b"in-reply-to")?)?;

@@ -1,8 +1,10 @@
-ghost use Rattle.std.specs.Prelude.{◌≡◌, ◌++◌, ◌<◌, OnOk, length, encode_utf8, replicate};
-ghost use Rattle.std.specs.Str.{encode_utf8_all, str_eq_ignore_ascii_case};
-ghost use Rattle.headers.specs.Charsets as spec;
+//! Charsets, and bytes shown as UTF-8 by the charset that they are in (RFC 2047, section 2).
 
-use mail_base::{Line, NoMemory};
+ghost use Rattle.std.specs.Prelude.{◌≡◌, ◌++◌, ◌<◌, OnOk, length, encode_utf8, replicate};
+ghost use Rattle.std.specs.Str.{encode_utf8_all};
+ghost use Rattle.headers.specs.Charset as spec;
+
+use mail_base::{Line, NoMemory, is_same_name};
 
 /// A charset that is shown (RFC 2047, section 2); the bytes past ASCII of all others are marked, as those of US-ASCII.
 #[derive(Clone, Copy, Debug, PartialEq, Eq)]
@@ -36,13 +38,6 @@ impl Charset {
             Charset::Latin1 => append_latin1(line, bytes),
         }
     }
-}
-
-/// Whether the names are equal, but for ASCII case.
-pub fn is_same_name(name: &[u8], other: &[u8]) -> bool
-    ensures { result ≡ str_eq_ignore_ascii_case name.now other.now }
-{
-    name.eq_ignore_ascii_case(other)
 }
 
 fn push_char(line: &mut Line, c: char) -> Result<(), NoMemory>

@@ -1,11 +1,11 @@
+//! Encoded words, as they are written and decoded (RFC 2047, section 2).
+
 ghost use Rattle.std.specs.Prelude.{◌≡◌, ◌<◌, ◌≤◌, length, option_map, not, position, IfOk, IfSome};
-ghost use Rattle.headers.specs.EncodedWords as spec;
-ghost use Rattle.headers.specs.Views.{written_view, decoded_view};
+ghost use Rattle.headers.specs.EncodedWord as spec;
 
 use crate::charset::Charset;
 use crate::encoding::Encoding;
-use crate::text::behind;
-use mail_base::NoMemory;
+use mail_base::{NoMemory, behind};
 use std::alloc::Global;
 
 /// An encoded word as it is written, and the text behind it.
@@ -31,6 +31,7 @@ fn is_word_byte(byte: u8) -> bool
     33 <= byte && byte <= 126 && byte != b'?'
 }
 
+// The place of the first byte that stands in no encoded word.
 fn word_end(text: &[u8]) -> Option<usize>
     ensures value { result ≡ position (λ b. not (spec.is_word_byte b)) text.now }
     ensures within { IfSome result (λ end. end < length text.now) }
@@ -39,7 +40,7 @@ fn word_end(text: &[u8]) -> Option<usize>
 }
 
 // How many bytes at the front may stand in an encoded word.
-#[tactic(auto, unfolding(crate::specs::EncodedWords::word_len))]
+#[tactic(auto, using(mail_base::proofs::PlacesLemmas::place_or_len))]
 fn word_len(text: &[u8]) -> usize
     ensures value { result ≡ spec.word_len text.now }
     ensures within { result ≤ length text.now }
@@ -49,7 +50,7 @@ fn word_len(text: &[u8]) -> usize
 
 // What stands behind the name of the charset: the encoding and the text.
 fn read_behind<'a>(charset: &'a [u8], text: &'a [u8]) -> Option<WrittenWord<'a>>
-    ensures value { option_map written_view result ≡ spec.written_behind charset.now text.now }
+    ensures value { option_map spec.plain_written_word result ≡ spec.written_behind charset.now text.now }
     ensures shorter { IfSome result (λ w. length w.rest.now < length text.now) }
 {
     let text = behind(b'?', text)?;
@@ -69,7 +70,7 @@ fn read_behind<'a>(charset: &'a [u8], text: &'a [u8]) -> Option<WrittenWord<'a>>
 impl<'a> WrittenWord<'a> {
     /// The encoded word with which the text begins, if it is of the form (RFC 2047, section 2).
     pub fn read(text: &'a [u8]) -> Option<WrittenWord<'a>>
-        ensures value { option_map written_view result ≡ spec.written_word text.now }
+        ensures value { option_map spec.plain_written_word result ≡ spec.written_word text.now }
         ensures shorter { IfSome result (λ w. length w.rest.now < length text.now) }
     {
         let text = behind(b'?', behind(b'=', text)?)?;
@@ -84,7 +85,7 @@ impl<'a> WrittenWord<'a> {
 impl<'a> DecodedWord<'a> {
     /// The encoded word with which the text begins. One that is malformed is none.
     pub fn read(alloc: Global, text: &'a [u8]) -> Result<Option<DecodedWord<'a>>, NoMemory>
-        ensures value { IfOk result (λ o. option_map decoded_view o ≡ spec.encoded_word text.now) }
+        ensures value { IfOk result (λ o. option_map spec.plain_decoded_word o ≡ spec.encoded_word text.now) }
         ensures shorter { IfOk result (λ o. IfSome o (λ w. length w.rest.now < length text.now)) }
     {
         let Some(word) = WrittenWord::read(text) else {

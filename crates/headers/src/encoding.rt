@@ -1,13 +1,14 @@
-ghost use Rattle.std.specs.Prelude.{◌≡◌, ◌+◌, ◌*◌, nat_lt, if◌then◌else◌, option_map, IfOk};
+//! The encodings of encoded words (RFC 2047, section 4).
+
+ghost use Rattle.std.specs.Prelude.{◌≡◌, option_map, IfOk};
 ghost use Rattle.std.specs.Result.{result_ok};
-ghost use Rattle.std.specs.Char.{digit_value};
 ghost use Rattle.base64.specs.GeneralPurpose.{decode_of};
 ghost use Rattle.base64.specs.Engines.{standard};
-ghost use Rattle.headers.specs.EncodedWords as spec;
+ghost use Rattle.headers.specs.Encoding as spec;
 
 use base64::DecodeAllocError;
 use base64::engine::general_purpose::STANDARD;
-use mail_base::NoMemory;
+use mail_base::{NoMemory, read_hex_byte};
 use std::alloc::Global;
 
 /// How the text of an encoded word is written (RFC 2047, section 4).
@@ -40,32 +41,13 @@ impl Encoding {
     }
 }
 
-/// The value of a hexadecimal digit, in either case.
-pub fn hex_value(digit: u8) -> Option<u8>
-    ensures { result ≡ (if nat_lt (digit_value digit) 16 then Some (digit_value digit) else None) }
-{
-    let value = char::from(digit).to_digit(16)?;
-    Some(value as u8)
-}
-
-fn escaped(text: &[u8]) -> Option<(u8, &[u8])>
-    ensures { option_map (λ p. (p.0, p.1.now)) result ≡ spec.escaped text.now }
-{
-    let [high, low, rest @ ..] = text else {
-        return None;
-    };
-    let high = hex_value(*high)?;
-    let low = hex_value(*low)?;
-    Some((high * 16 + low, rest))
-}
-
 // The byte that stands at the front of a text of the "Q" encoding, and what follows it.
 fn quoted_byte(first: u8, rest: &[u8]) -> Option<(u8, &[u8])>
     ensures { option_map (λ p. (p.0, p.1.now)) result ≡ spec.quoted_byte first rest.now }
 {
     match first {
         b'_' => Some((b' ', rest)),
-        b'=' => escaped(rest),
+        b'=' => read_hex_byte(rest),
         byte => Some((byte, rest)),
     }
 }

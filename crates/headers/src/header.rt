@@ -1,15 +1,19 @@
-ghost use Rattle.std.specs.Prelude.{◌≡◌, ◌≤◌, length, IfOk};
-ghost use Rattle.headers.specs.Headers as spec;
-ghost use Rattle.headers.specs.Plain.{plain_header};
+//! What a message's header says (RFC 5322, section 3.6).
 
-use crate::body::Body;
+ghost use Rattle.std.specs.Prelude.{◌≡◌, ◌≤◌, length, IfOk};
+ghost use Rattle.mail_base.specs.Lines as lines;
+ghost use Rattle.headers.specs.Header as spec;
+ghost use Rattle.headers.specs.Values as values;
+
+use crate::body_lines::body_lines;
 use crate::candidates::candidates_of;
-use crate::field::{Fields, read_fields};
+use crate::field::Fields;
+use crate::fields_so_far::read_fields;
 use crate::person::Persons;
-use crate::select::{id_in, people_of, sent_in, subject_of};
 use crate::sent_date::SentDate;
 use crate::subject::{base_of, has_prefix};
-use mail_base::{Bytes, Line, Names, NoMemory};
+use crate::values::{id_in, people_of, sent_in, subject_of};
+use mail_base::{Bytes, Line, Names, NoMemory, body_at};
 use std::alloc::Global;
 
 /// What the header block of a message says (RFC 5322, section 3.6).
@@ -41,10 +45,9 @@ pub struct Header {
 
 /// The header of a message; none is refused.
 pub fn read_header(alloc: Global, raw: &[u8]) -> Result<Header, NoMemory>
-    ensures header { IfOk result (λ h. plain_header h ≡ spec.header raw.now) }
+    ensures header { IfOk result (λ h. spec.plain_header h ≡ spec.header raw.now) }
     ensures within { IfOk result (λ h. h.body_at ≤ length raw.now) }
 {
-    let body = Body::find(raw);
     let fields = read_fields(alloc, raw)?;
     let list = fields.as_slice();
     let subject = subject_of(alloc, list)?;
@@ -71,7 +74,15 @@ pub fn read_header(alloc: Global, raw: &[u8]) -> Result<Header, NoMemory>
         message_id,
         candidates,
         sent,
-        body_at: body.at,
-        body_lines: body.lines,
+        body_at: body_at(raw),
+        body_lines: body_lines(raw),
     })
+}
+
+/// The subject of a message as it is shown, without what else its header says.
+pub fn read_subject(alloc: Global, raw: &[u8]) -> Result<Line, NoMemory>
+    ensures { IfOk result (λ l. l.items ≡ values.subject (lines.message_fields raw.now)) }
+{
+    let fields = read_fields(alloc, raw)?;
+    subject_of(alloc, fields.as_slice())
 }

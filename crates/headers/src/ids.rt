@@ -1,9 +1,10 @@
+//! Message ids (RFC 5322, section 3.6.4).
+
 ghost use Rattle.std.specs.Prelude.{◌≡◌, ◌++◌, ◌<◌, IfOk, OnOk, IfSome, option_map, length};
 ghost use Rattle.headers.specs.Ids as spec;
-ghost use Rattle.headers.specs.Views.{found_id_view, plain_names};
+ghost use Rattle.mail_base.specs.Series.{plain_texts};
 
-use crate::text::split_once;
-use mail_base::{Bytes, Names, NoMemory};
+use mail_base::{Bytes, Names, NoMemory, split_once};
 use std::alloc::Global;
 
 /// What stands in the brackets of a message id, and behind it.
@@ -16,7 +17,7 @@ pub struct FoundId<'a> {
 impl<'a> FoundId<'a> {
     /// The first message id of a text: from the first `<` up to the next `>`.
     pub fn find(text: &'a [u8]) -> Option<FoundId<'a>>
-        ensures value { option_map found_id_view result ≡ spec.first_id text.now }
+        ensures value { option_map spec.plain_found_id result ≡ spec.first_id text.now }
         ensures shorter { IfSome result (λ f. length f.rest.now < length text.now) }
     {
         let (_, tail) = split_once(b'<', text)?;
@@ -38,7 +39,7 @@ pub fn bracketed(alloc: Global, inside: &[u8]) -> Result<Bytes, NoMemory>
 
 /// Adds the message ids of a text at the end of the list.
 pub fn add_ids(alloc: Global, names: &mut Names, text: &[u8]) -> Result<(), NoMemory>
-    ensures { OnOk result (plain_names names.new ≡ plain_names names.old ++ spec.ids text.now) }
+    ensures { OnOk result (plain_texts names.new ≡ plain_texts names.old ++ spec.ids text.now) }
 {
     let mut left = text;
     while let Some(found) = FoundId::find(left) {

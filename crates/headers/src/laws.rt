@@ -1,3 +1,5 @@
+//! Laws of what is read: what was written so is read back.
+
 ghost use Rattle.headers.specs.Laws as spec;
 
 /// A value without encoded words is read as UTF-8, with a `?` for each malformed byte.

@@ -1,33 +1,35 @@
 //! Fields of a message: encoded words, people, message ids, subjects and dates.
+//! Call `read_header` for all that a header says; for a value of its own `read_fields`,
+//! `first_value` and `decode_words`, and for the subject alone `read_subject`.
 #![tactic(auto)]
 
-mod body;
+mod address_byte;
+mod address_state;
+mod body_lines;
 mod candidates;
 mod charset;
+mod decode;
 mod encoded_word;
 mod encoding;
 mod field;
+mod fields_so_far;
 mod header;
 mod ids;
 mod laws;
-mod mark;
 mod people;
 mod person;
-mod places;
-mod select;
 mod sent_date;
 mod subject;
-mod text;
-mod words;
+mod values;
 
-pub use charset::{Charset, is_same_name};
-pub use encoding::{decode_base64, hex_value};
-pub use field::{Field, Fields, read_fields};
-pub use header::{Header, read_header};
+pub use charset::Charset;
+pub use decode::decode_words;
+pub use encoding::decode_base64;
+pub use field::{Field, Fields};
+pub use fields_so_far::read_fields;
+pub use header::{Header, read_header, read_subject};
 pub use laws::{plain_text_stays, written_fields_are_read, written_people_are_read};
 pub use people::read_people;
 pub use person::{Person, Persons};
-pub use select::first_value;
 pub use sent_date::SentDate;
-pub use text::{behind, trimmed};
-pub use words::decode_words;
+pub use values::first_value;

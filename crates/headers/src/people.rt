@@ -1,134 +1,114 @@
-ghost use Rattle.std.specs.Prelude.{◌≡◌, ◌++◌, ◌∷◌, [], ◌<◌, not, filter, length, IfOk, OnOk, IfSome, IfNone};
-ghost use Rattle.std.specs.Prelude.{option_map, option_to_list};
-ghost use Rattle.std.specs.List.{list_all, slice_split, before_first, after_first, after_last};
-ghost use Rattle.mail_base.specs.Lines.{is_blank as is_blank_byte};
-ghost use Rattle.headers.specs.Marks as mark;
-ghost use Rattle.headers.specs.People as spec;
-ghost use Rattle.headers.specs.Places.{IsFirstPlace, IsLastPlace};
-ghost use Rattle.headers.specs.Texts as text;
-ghost use Rattle.headers.specs.Views.{brackets_view, plain_person, plain_people};
+//! The persons of address fields (RFC 5322, section 3.4).
 
-use crate::mark::{Mark, read_marks};
+ghost use Rattle.std.specs.Prelude.{◌≡◌, ◌++◌, ◌∷◌, [], ◌<◌, not, filter, length, position, IfOk, OnOk, IfSome};
+ghost use Rattle.std.specs.Prelude.{IfNone, option_map, option_to_list};
+ghost use Rattle.std.specs.List.{list_all, slice_split, before_first, after_first, after_last};
+ghost use Rattle.mail_base.specs.Blanks as blanks;
+ghost use Rattle.mail_base.specs.Places.{IsLastPlace};
+ghost use Rattle.headers.specs.AddressByte as address;
+ghost use Rattle.headers.specs.People as spec;
+ghost use Rattle.headers.specs.Person.{plain_person, plain_persons};
+
+use crate::address_byte::{AddressByte, Role};
+use crate::address_state::read_address_bytes;
+use crate::decode::decode_words;
 use crate::person::{Person, Persons};
-use crate::places::split_around;
-use crate::text::trimmed;
-use crate::words::decode_words;
-use mail_base::{Bytes, Line, NoMemory, is_blank};
+use mail_base::{Bytes, Line, NoMemory, is_blank, split_around, trimmed};
 use std::alloc::Global;
 
 /// The brackets of an address, with what stands before, in and behind them.
 #[derive(Clone, Copy, Debug)]
-pub struct AngleForm<'a> {
-    pub before: &'a [Mark],
-    pub inside: &'a [Mark],
-    pub behind: &'a [Mark],
+pub struct Brackets<'a> {
+    pub before: &'a [AddressByte],
+    pub inside: &'a [AddressByte],
+    pub behind: &'a [AddressByte],
 }
 
-fn bytes_of(alloc: Global, marks: &[Mark]) -> Result<Vec<u8>, NoMemory>
-    ensures { IfOk result (λ v. v.items ≡ mark.bytes_of marks.now) }
+fn bytes_of(alloc: Global, bytes: &[AddressByte]) -> Result<Vec<u8>, NoMemory>
+    ensures { IfOk result (λ v. v.items ≡ address.bytes_of bytes.now) }
 {
-    Ok(marks.iter().map(|m| m.byte).collect(alloc)?)
+    Ok(bytes.iter().map(|b| b.byte).collect(alloc)?)
 }
 
-fn separator_at(marks: &[Mark]) -> Option<usize>
-    ensures { IsFirstPlace (λ m. mark.is_separator m.role) marks.now result }
+// The place of the first byte of the role.
+fn first_with(bytes: &[AddressByte], role: Role) -> Option<usize>
+    ensures value { result ≡ position (address.has role) bytes.now }
+    ensures within { IfSome result (λ at. at < length bytes.now) }
 {
-    marks.iter().position(|m| m.role.is_separator())
+    bytes.iter().position(|b| b.has(role))
 }
 
-fn group_end_at(marks: &[Mark]) -> Option<usize>
-    ensures { IsLastPlace (λ m. mark.is_group_end m.role) marks.now result }
+// The place of the last byte of the role.
+fn last_with(bytes: &[AddressByte], role: Role) -> Option<usize>
+    ensures value { IsLastPlace (address.has role) bytes.now result }
+    ensures within { IfSome result (λ at. at < length bytes.now) }
 {
-    marks.iter().rposition(|m| m.role.is_group_end())
-}
-
-fn angle_start_at(marks: &[Mark]) -> Option<usize>
-    ensures { IsLastPlace (λ m. mark.is_angle_start m.role) marks.now result }
-{
-    marks.iter().rposition(|m| m.role.is_angle_start())
-}
-
-fn angle_end_at(marks: &[Mark]) -> Option<usize>
-    ensures { IsFirstPlace (λ m. mark.is_angle_end m.role) marks.now result }
-{
-    marks.iter().position(|m| m.role.is_angle_end())
-}
-
-fn comment_start_at(marks: &[Mark]) -> Option<usize>
-    ensures { IsFirstPlace (λ m. mark.is_comment_start m.role) marks.now result }
-{
-    marks.iter().position(|m| m.role.is_comment_start())
-}
-
-fn comment_end_at(marks: &[Mark]) -> Option<usize>
-    ensures { IsFirstPlace (λ m. mark.is_comment_end m.role) marks.now result }
-{
-    marks.iter().position(|m| m.role.is_comment_end())
+    bytes.iter().rposition(|b| b.has(role))
 }
 
 // The piece before the first separator, and what stands behind it.
-fn split_piece(marks: &[Mark]) -> Option<(&[Mark], &[Mark])>
+fn split_piece(bytes: &[AddressByte]) -> Option<(&[AddressByte], &[AddressByte])>
     ensures none { IfNone result
-        (slice_split (λ m. mark.is_separator m.role) marks.now ≡ marks.now ∷ []) }
+        (slice_split (address.has Role.Separator) bytes.now ≡ bytes.now ∷ []) }
     ensures some { IfSome result
-        (λ p. slice_split (λ m. mark.is_separator m.role) marks.now
-        ≡ p.0.now ∷ slice_split (λ m. mark.is_separator m.role) p.1.now) }
-    ensures shorter { IfSome result (λ p. length p.1.now < length marks.now) }
+        (λ p. slice_split (address.has Role.Separator) bytes.now
+        ≡ p.0.now ∷ slice_split (address.has Role.Separator) p.1.now) }
+    ensures shorter { IfSome result (λ p. length p.1.now < length bytes.now) }
 {
-    match separator_at(marks) {
-        Some(place) => Some(split_around(marks, place)),
+    match first_with(bytes, Role::Separator) {
+        Some(place) => Some(split_around(bytes, place)),
         None => None,
     }
 }
 
 // What stands behind the name of a group.
-fn behind_group(marks: &[Mark]) -> &[Mark]
-    ensures { result.now ≡ after_last (λ m. mark.is_group_end m.role) marks.now }
+fn behind_group(bytes: &[AddressByte]) -> &[AddressByte]
+    ensures { result.now ≡ after_last (address.has Role.GroupEnd) bytes.now }
 {
-    match group_end_at(marks) {
-        Some(place) => split_around(marks, place).1,
-        None => marks,
+    match last_with(bytes, Role::GroupEnd) {
+        Some(place) => split_around(bytes, place).1,
+        None => bytes,
     }
 }
 
-fn first_comment(marks: &[Mark]) -> &[Mark]
-    ensures { result.now ≡ spec.first_comment marks.now }
+fn first_comment(bytes: &[AddressByte]) -> &[AddressByte]
+    ensures { result.now ≡ spec.first_comment bytes.now }
 {
-    match comment_start_at(marks) {
-        Some(place) => before_comment_end(split_around(marks, place).1),
+    match first_with(bytes, Role::CommentStart) {
+        Some(place) => before_comment_end(split_around(bytes, place).1),
         None => &[],
     }
 }
 
-fn before_comment_end(marks: &[Mark]) -> &[Mark]
-    ensures { result.now ≡ before_first (λ m. mark.is_comment_end m.role) marks.now }
+fn before_comment_end(bytes: &[AddressByte]) -> &[AddressByte]
+    ensures { result.now ≡ before_first (address.has Role.CommentEnd) bytes.now }
 {
-    match comment_end_at(marks) {
-        Some(place) => split_around(marks, place).0,
-        None => marks,
+    match first_with(bytes, Role::CommentEnd) {
+        Some(place) => split_around(bytes, place).0,
+        None => bytes,
     }
 }
 
 // What stands in brackets that have begun, and behind them.
-fn split_brackets(marks: &[Mark]) -> (&[Mark], &[Mark])
-    ensures inside { result.0.now ≡ before_first (λ m. mark.is_angle_end m.role) marks.now }
-    ensures behind { result.1.now ≡ after_first (λ m. mark.is_angle_end m.role) marks.now }
+fn split_brackets(bytes: &[AddressByte]) -> (&[AddressByte], &[AddressByte])
+    ensures inside { result.0.now ≡ before_first (address.has Role.AngleEnd) bytes.now }
+    ensures behind { result.1.now ≡ after_first (address.has Role.AngleEnd) bytes.now }
 {
-    match angle_end_at(marks) {
-        Some(place) => split_around(marks, place),
-        None => (marks, &[]),
+    match first_with(bytes, Role::AngleEnd) {
+        Some(place) => split_around(bytes, place),
+        None => (bytes, &[]),
     }
 }
 
-impl<'a> AngleForm<'a> {
-    fn read(marks: &'a [Mark]) -> Option<AngleForm<'a>>
-        ensures { option_map brackets_view result ≡ spec.brackets_of marks.now }
+impl<'a> Brackets<'a> {
+    fn read(bytes: &'a [AddressByte]) -> Option<Brackets<'a>>
+        ensures { option_map spec.plain_brackets result ≡ spec.brackets_of bytes.now }
     {
-        match angle_start_at(marks) {
+        match last_with(bytes, Role::AngleStart) {
             Some(place) => {
-                let (before, tail) = split_around(marks, place);
+                let (before, tail) = split_around(bytes, place);
                 let (inside, behind) = split_brackets(tail);
-                Some(AngleForm {
+                Some(Brackets {
                     before,
                     inside,
                     behind,
@@ -139,35 +119,35 @@ impl<'a> AngleForm<'a> {
     }
 }
 
-fn shown_name(alloc: Global, marks: &[Mark]) -> Result<Line, NoMemory>
-    ensures { IfOk result (λ l. l.items ≡ spec.shown_name marks.now) }
+fn shown_name(alloc: Global, bytes: &[AddressByte]) -> Result<Line, NoMemory>
+    ensures { IfOk result (λ l. l.items ≡ spec.shown_name bytes.now) }
 {
-    decode_words(alloc, trimmed(&bytes_of(alloc, marks)?))
+    decode_words(alloc, trimmed(&bytes_of(alloc, bytes)?))
 }
 
-fn address_of(alloc: Global, marks: &[Mark]) -> Result<Bytes, NoMemory>
-    ensures { IfOk result (λ b. b.items ≡ text.trimmed (mark.bytes_of marks.now)) }
+fn address_of(alloc: Global, bytes: &[AddressByte]) -> Result<Bytes, NoMemory>
+    ensures { IfOk result (λ b. b.items ≡ blanks.trimmed (address.bytes_of bytes.now)) }
 {
-    Bytes::copy_of(alloc, trimmed(&bytes_of(alloc, marks)?))
+    Bytes::copy_of(alloc, trimmed(&bytes_of(alloc, bytes)?))
 }
 
-fn without_comments(alloc: Global, marks: &[Mark]) -> Result<Vec<Mark>, NoMemory>
-    ensures { IfOk result (λ v. v.items ≡ filter (λ m. not (mark.is_comment m.role)) marks.now) }
+fn without_comments(alloc: Global, bytes: &[AddressByte]) -> Result<Vec<AddressByte>, NoMemory>
+    ensures { IfOk result (λ v. v.items ≡ filter (λ b. not (address.is_comment b)) bytes.now) }
 {
-    let kept = marks.iter().copied().filter(|m| !m.role.is_comment());
+    let kept = bytes.iter().copied().filter(|b| !b.is_comment());
     Ok(kept.collect(alloc)?)
 }
 
-fn without_quotes(alloc: Global, marks: &[Mark]) -> Result<Vec<Mark>, NoMemory>
-    ensures { IfOk result (λ v. v.items ≡ filter (λ m. not (mark.is_quote m.role)) marks.now) }
+fn without_quotes(alloc: Global, bytes: &[AddressByte]) -> Result<Vec<AddressByte>, NoMemory>
+    ensures { IfOk result (λ v. v.items ≡ filter (λ b. not (address.has Role.Quote b)) bytes.now) }
 {
-    let kept = marks.iter().copied().filter(|m| !m.role.is_quote());
+    let kept = bytes.iter().copied().filter(|b| !b.has(Role::Quote));
     Ok(kept.collect(alloc)?)
 }
 
-impl AngleForm<'_> {
+impl Brackets<'_> {
     fn to_person(self, alloc: Global) -> Result<Person, NoMemory>
-        ensures { IfOk result (λ p. plain_person p ≡ spec.bracketed (brackets_view self.entry)) }
+        ensures { IfOk result (λ p. plain_person p ≡ spec.bracketed (spec.plain_brackets self.entry)) }
     {
         let mut rest = self.before.to_vec(alloc)?;
         rest.extend_from_slice(self.behind)?;
@@ -179,48 +159,48 @@ impl AngleForm<'_> {
     }
 }
 
-fn unbracketed(alloc: Global, marks: &[Mark]) -> Result<Person, NoMemory>
-    ensures { IfOk result (λ p. plain_person p ≡ spec.unbracketed marks.now) }
+fn unbracketed(alloc: Global, bytes: &[AddressByte]) -> Result<Person, NoMemory>
+    ensures { IfOk result (λ p. plain_person p ≡ spec.unbracketed bytes.now) }
 {
-    let rest = without_comments(alloc, marks)?;
+    let rest = without_comments(alloc, bytes)?;
     Ok(Person {
-        name: shown_name(alloc, first_comment(marks))?,
+        name: shown_name(alloc, first_comment(bytes))?,
         address: address_of(alloc, &rest)?,
     })
 }
 
-fn person_of(alloc: Global, marks: &[Mark]) -> Result<Person, NoMemory>
-    ensures { IfOk result (λ p. plain_person p ≡ spec.person_of marks.now (spec.brackets_of marks.now)) }
+fn person_of(alloc: Global, bytes: &[AddressByte]) -> Result<Person, NoMemory>
+    ensures { IfOk result (λ p. plain_person p ≡ spec.person_of bytes.now (spec.brackets_of bytes.now)) }
 {
-    match AngleForm::read(marks) {
+    match Brackets::read(bytes) {
         Some(form) => form.to_person(alloc),
-        None => unbracketed(alloc, marks),
+        None => unbracketed(alloc, bytes),
     }
 }
 
-fn is_all_blank(marks: &[Mark]) -> bool
-    ensures { result ≡ list_all (λ m. is_blank_byte m.byte) marks.now }
+fn is_all_blank(bytes: &[AddressByte]) -> bool
+    ensures { result ≡ list_all (λ b. blanks.is_blank b.byte) bytes.now }
 {
-    marks.iter().all(|m| is_blank(m.byte))
+    bytes.iter().all(|b| is_blank(b.byte))
 }
 
-fn add_person(alloc: Global, persons: &mut Persons, piece: &[Mark]) -> Result<(), NoMemory>
-    ensures { OnOk result (plain_people persons.new
-        ≡ plain_people persons.old ++ option_to_list (spec.person_in piece.now)) }
+fn add_person(alloc: Global, persons: &mut Persons, piece: &[AddressByte]) -> Result<(), NoMemory>
+    ensures { OnOk result (plain_persons persons.new
+        ≡ plain_persons persons.old ++ option_to_list (spec.person_in piece.now)) }
 {
-    let marks = behind_group(piece);
-    if is_all_blank(marks) {
+    let bytes = behind_group(piece);
+    if is_all_blank(bytes) {
         return Ok(());
     }
-    persons.push(person_of(alloc, marks)?)
+    persons.push(person_of(alloc, bytes)?)
 }
 
 /// Adds the persons of an address field at the end of the list.
 pub fn add_people(alloc: Global, persons: &mut Persons, value: &[u8]) -> Result<(), NoMemory>
-    ensures { OnOk result (plain_people persons.new ≡ plain_people persons.old ++ spec.people value.now) }
+    ensures { OnOk result (plain_persons persons.new ≡ plain_persons persons.old ++ spec.people value.now) }
 {
-    let marks = read_marks(alloc, value)?;
-    let mut left = marks.as_slice();
+    let bytes = read_address_bytes(alloc, value)?;
+    let mut left = bytes.as_slice();
     while let Some((piece, rest)) = split_piece(left) {
         add_person(alloc, persons, piece)?;
         left = rest;
@@ -230,7 +210,7 @@ pub fn add_people(alloc: Global, persons: &mut Persons, value: &[u8]) -> Result<
 
 /// The persons of an address field (RFC 5322, section 3.4); no address is refused.
 pub fn read_people(alloc: Global, value: &[u8]) -> Result<Persons, NoMemory>
-    ensures { IfOk result (λ p. plain_people p ≡ spec.people value.now) }
+    ensures { IfOk result (λ p. plain_persons p ≡ spec.people value.now) }
 {
     let mut persons = Persons::new(alloc);
     add_people(alloc, &mut persons, value)?;

@@ -1,3 +1,5 @@
+//! A person of an address field.
+
 use mail_base::{Bytes, Line, Series};
 
 /// A person of an address field: the name as it is shown, and the address as it is written.

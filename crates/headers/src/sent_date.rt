@@ -1,3 +1,5 @@
+//! When a message was sent (RFC 5322, section 3.3, as jiff reads it).
+
 ghost use Rattle.std.specs.Prelude.{◌≡◌};
 
 use jiff::Timestamp;
@@ -11,7 +13,7 @@ pub struct SentDate {
 }
 
 impl SentDate {
-    ghost use Rattle.headers.specs.Dates.{sent_date};
+    ghost use Rattle.headers.specs.SentDate.{sent_date};
 
     /// The date of a field's value, unless jiff refuses it.
     pub fn read(value: &[u8]) -> Option<SentDate>

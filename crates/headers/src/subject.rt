@@ -1,11 +1,13 @@
+//! Subjects without what replies put before them (RFC 5322, section 3.6.5).
+
 ghost use Rattle.std.specs.Prelude.{◌≡◌, ◌<◌, ◌≤◌, not, position, length, option_map, IfOk, IfSome};
 ghost use Rattle.std.specs.Char.{is_ascii_digit};
-ghost use Rattle.headers.specs.Subjects as spec;
+ghost use Rattle.headers.specs.Subject as spec;
 
-use crate::text::behind;
-use mail_base::{Line, NoMemory, without_blanks};
+use mail_base::{Line, NoMemory, behind, without_blanks};
 use std::alloc::Global;
 
+// What follows two letters, which may be of either case.
 fn behind_letters(x: u8, y: u8, text: &[u8]) -> Option<&[u8]>
     ensures value { option_map (λ r. r.now) result ≡ spec.behind_letters x y text.now }
     ensures shorter { IfSome result (λ rest. length rest.now < length text.now) }
@@ -18,6 +20,7 @@ fn behind_letters(x: u8, y: u8, text: &[u8]) -> Option<&[u8]>
     }
 }
 
+// The place of the first byte that is no digit.
 fn digits_end(text: &[u8]) -> Option<usize>
     ensures value { result ≡ position (λ b. not (is_ascii_digit b)) text.now }
     ensures within { IfSome result (λ end. end < length text.now) }
@@ -25,7 +28,7 @@ fn digits_end(text: &[u8]) -> Option<usize>
     text.iter().position(|b| !b.is_ascii_digit())
 }
 
-#[tactic(auto, unfolding(crate::specs::Subjects::digits_len))]
+#[tactic(auto, using(mail_base::proofs::PlacesLemmas::place_or_len))]
 fn digits_len(text: &[u8]) -> usize
     ensures value { result ≡ spec.digits_len text.now }
     ensures within { result ≤ length text.now }
@@ -46,6 +49,7 @@ fn behind_number(text: &[u8]) -> Option<&[u8]>
     behind(b']', rest)
 }
 
+// What follows `re`, which a number may follow.
 fn behind_re(text: &[u8]) -> Option<&[u8]>
     ensures value { option_map (λ r. r.now) result ≡ spec.behind_re text.now }
     ensures shorter { IfSome result (λ rest. length rest.now < length text.now) }
@@ -57,9 +61,10 @@ fn behind_re(text: &[u8]) -> Option<&[u8]>
     }
 }
 
-fn behind_word(text: &[u8]) -> Option<&[u8]>
+// What follows the letters of a reply prefix.
+fn behind_reply(text: &[u8]) -> Option<&[u8]>
     ensures value { option_map (λ r. r.now) result
-        ≡ spec.or_else (spec.behind_re text.now) (spec.behind_letters 97 119 text.now) }
+        ≡ spec.behind_reply text.now }
     ensures shorter { IfSome result (λ rest. length rest.now < length text.now) }
 {
     match behind_re(text) {
@@ -73,7 +78,7 @@ fn behind_prefix(text: &[u8]) -> Option<&[u8]>
     ensures value { option_map (λ r. r.now) result ≡ spec.behind_prefix text.now }
     ensures shorter { IfSome result (λ rest. length rest.now < length text.now) }
 {
-    let rest = behind(b':', behind_word(text)?)?;
+    let rest = behind(b':', behind_reply(text)?)?;
     Some(without_blanks(rest))
 }
 

@@ -5,6 +5,7 @@ use Rattle.std.specs.Prelude.{if◌then◌else◌}
 use Rattle.std.specs.List.{position_or_len, suffix_len}
 use Rattle.std.proofs.lemmas.Bool.{not-true, not-false}
 use Rattle.std.proofs.lemmas.List.Sums.{suffix_len_is}
+use Rattle.mail_base.specs.Lines.{is_continuation}
 use Rattle.mail_base.specs.Places.{IsLastPlace}
 use Rattle.mail_base.specs.Blanks.{is_blank, without_blanks}
 
@@ -41,3 +42,8 @@ solid_len_none s none =
     suffix_len_is is_blank s 0 0 (omega arith) (λ j low below. not-false _ (none j 0 (omega arith) below))
     (λ past. absurd (omega arith)) in
     omega arith
+
+-- a text that begins with no blank stays
+pub without_blanks_stay : (s : List ℕ) → not (is_continuation s) ≡ true → without_blanks s ≡ s
+without_blanks_stay [] front = refl
+without_blanks_stay (b ∷ s) front = rw (not-true (is_blank b) front) refl

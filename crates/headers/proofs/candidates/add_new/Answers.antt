@@ -2,15 +2,15 @@ use Rattle.std.proofs.Common.{◌≡◌, ◌++◌, ◌∷◌, [], true, false, m
 use Rattle.std.specs.List.{list_any}
 use Rattle.std.specs.Str.{bytes_eq}
 use Rattle.std.proofs.lemmas.List.{map-append}
-use Rattle.headers.specs.Views.{plain_names}
-use Rattle.headers.proofs.IdLemmas.{list_any-map}
+use Rattle.mail_base.specs.Series.{plain_texts}
+use Rattle.headers.proofs.CandidatesLemmas.{list_any-map}
 use Rattle.headers.proofs.candidates.add_new.Goals as goal
 
 pub returns-then-is_among : goal.returns-then-is_among
 returns-then-is_among c =
     let id = c.args.id.now in
     let names = c.args.names.now in
-    let found : list_any (bytes_eq id) (plain_names names) ≡ true =
+    let found : list_any (bytes_eq id) (plain_texts names) ≡ true =
     list_any-map (bytes_eq id) (λ n. n.items) names.items
     ∙ ap (list_any (λ n. bytes_eq id n.items)) (sym c.as_slice.ensures)
     ∙ sym c.is_among.ensures
@@ -22,7 +22,7 @@ pub returns : goal.returns
 returns c =
     let id = c.args.id.now in
     let names = c.args.names.now in
-    let found : list_any (bytes_eq id) (plain_names names) ≡ false =
+    let found : list_any (bytes_eq id) (plain_texts names) ≡ false =
     list_any-map (bytes_eq id) (λ n. n.items) names.items
     ∙ ap (list_any (λ n. bytes_eq id n.items)) (sym c.as_slice.ensures)
     ∙ sym c.is_among.ensures
@@ -31,4 +31,4 @@ returns c =
     rw found
     (ap (map (λ n. n.items)) c.in_ok-push.ensures.ok
     ∙ map-append (λ n. n.items) names.items (c.in_ok-copy_of.field-0 ∷ [])
-    ∙ ap (λ i. plain_names names ++ i ∷ []) c.in_ok-copy_of.ensures)
+    ∙ ap (λ i. plain_texts names ++ i ∷ []) c.in_ok-copy_of.ensures)

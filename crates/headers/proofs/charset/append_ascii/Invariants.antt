@@ -1,5 +1,5 @@
 use Rattle.std.proofs.Common.{◌≡◌, ◌++◌, take}
-use Rattle.headers.specs.Charsets.{ascii_text}
+use Rattle.headers.specs.Charset.{ascii_text}
 use Rattle.headers.proofs.charset.append_ascii.Given as goal
 
 abbrev pub invariant-loop-b : goal.invariant-loop-b

@@ -1,7 +1,7 @@
 use Rattle.std.proofs.Common.{◌≡◌, length, arith}
 use Rattle.std.proofs.lemmas.Bool.Decides.{nat_tests}
 use Rattle.std.proofs.lemmas.List.{append-nil}
-use Rattle.headers.proofs.ShownText.{utf8_text_none}
+use Rattle.headers.proofs.CharsetLemmas.{utf8_text_none}
 use Rattle.headers.proofs.charset.append_utf8.Goals as goal
 
 pub returns : goal.returns

@@ -1,5 +1,5 @@
 use Rattle.std.proofs.Common.{◌≡◌, ◌++◌, length}
-use Rattle.headers.specs.Charsets.{utf8_text}
+use Rattle.headers.specs.Charset.{utf8_text}
 use Rattle.headers.proofs.charset.append_utf8.Given as goal
 
 abbrev pub invariant-loop-left : goal.invariant-loop-left

@@ -1,6 +1,6 @@
 use Rattle.std.proofs.Common.{arith}
 use Rattle.bstr.proofs.lemmas.PieceLemmas.{piece-bounds}
-use Rattle.headers.proofs.ShownText.{utf8_text-step}
+use Rattle.headers.proofs.CharsetLemmas.{utf8_text-step}
 use Rattle.headers.proofs.charset.split_first.Goals as goal
 
 pub split_at-requires : goal.split_at-requires

@@ -1,5 +1,5 @@
 use Rattle.std.proofs.Common.{◌≡◌, ◌++◌, length, option_map}
-use Rattle.headers.specs.EncodedWords.{quoted_from}
+use Rattle.headers.specs.Encoding.{quoted_from}
 use Rattle.headers.proofs.encoding.decode_quoted.Given as goal
 
 abbrev pub invariant-loop-left : goal.invariant-loop-left

@@ -1,4 +1,4 @@
-use Rattle.headers.proofs.PlainText.{plain_text_stays, utf8_stays}
+use Rattle.headers.proofs.LawsOfText.{plain_text_stays, utf8_stays}
 use Rattle.headers.proofs.laws.plain_text_stays.Goals as goal
 
 pub returns-clause-text : goal.returns-clause-text

@@ -1,4 +1,4 @@
-use Rattle.headers.proofs.PlainFields.{written_fields_are_read, written_body_is_found}
+use Rattle.headers.proofs.LawsOfFields.{written_fields_are_read, written_body_is_found}
 use Rattle.headers.proofs.laws.written_fields_are_read.Goals as goal
 
 pub returns-clause-fields : goal.returns-clause-fields

@@ -1,4 +1,4 @@
-use Rattle.headers.proofs.PlainPeople.{written_people_are_read}
+use Rattle.headers.proofs.LawsOfPeople.{written_people_are_read}
 use Rattle.headers.proofs.laws.written_people_are_read.Goals as goal
 
 pub returns : goal.returns

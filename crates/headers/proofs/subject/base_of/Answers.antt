@@ -1,5 +1,5 @@
 use Rattle.std.proofs.Common.{◌≡◌, Some, sym, ◌∙◌}
-use Rattle.headers.specs.Subjects.{behind_prefix}
+use Rattle.headers.specs.Subject.{behind_prefix}
 use Rattle.headers.proofs.SubjectLemmas.{base_from-found, utf8_behind_prefix}
 use Rattle.headers.proofs.subject.base_of.Goals as goal
 

@@ -1,6 +1,6 @@
 use Rattle.std.proofs.Common.{◌≡◌, ℕ, ◌≤◌, length}
 use Rattle.std.specs.Str.{IsUtf8}
-use Rattle.headers.specs.Subjects.{base_from, base_of}
+use Rattle.headers.specs.Subject.{base_from, base_of}
 use Rattle.headers.proofs.subject.base_of.Given as goal
 
 abbrev pub invariant-loop-rest : goal.invariant-loop-rest

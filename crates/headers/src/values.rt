@@ -1,0 +1,98 @@
+//! The values of fields by their names (RFC 5322, section 3.6).
+
+ghost use Rattle.std.specs.Prelude.{◌≡◌, map, option_map, IfOk};
+ghost use Rattle.std.specs.List.{find};
+ghost use Rattle.mail_base.specs.Series.{plain_texts};
+ghost use Rattle.headers.specs.Field.{plain_field};
+ghost use Rattle.headers.specs.Person.{plain_persons};
+ghost use Rattle.headers.specs.Values as spec;
+
+use crate::decode::decode_words;
+use crate::field::Field;
+use crate::ids::{FoundId, add_ids, bracketed};
+use crate::people::add_people;
+use crate::person::Persons;
+use crate::sent_date::SentDate;
+use mail_base::{Bytes, Line, Names, NoMemory, is_same_name};
+use std::alloc::Global;
+
+fn first_named<'a>(fields: &'a [Field], name: &[u8]) -> Option<&'a Field>
+    ensures { option_map (λ f. f.now) result
+        ≡ find (λ f. spec.is_named name.now (plain_field f)) fields.now }
+{
+    fields
+        .iter()
+        .find(|f| is_same_name(f.name.as_slice(), name))
+}
+
+/// The value of the first field of the name.
+pub fn first_value<'a>(fields: &'a [Field], name: &[u8]) -> Option<&'a [u8]>
+    ensures { option_map (λ r. r.now) result ≡ spec.first_value name.now (map plain_field fields.now) }
+{
+    match first_named(fields, name) {
+        Some(field) => Some(field.value.as_slice()),
+        None => None,
+    }
+}
+
+/// The persons of all fields of the name.
+pub fn people_of(alloc: Global, fields: &[Field], name: &[u8]) -> Result<Persons, NoMemory>
+    ensures { IfOk result
+        (λ p. plain_persons p ≡ spec.persons name.now (map plain_field fields.now)) }
+{
+    let mut persons = Persons::new(alloc);
+    let mut left = fields;
+    while let [first, rest @ ..] = left {
+        if is_same_name(first.name.as_slice(), name) {
+            add_people(alloc, &mut persons, first.value.as_slice())?;
+        }
+        left = rest;
+    }
+    Ok(persons)
+}
+
+/// The first id of the first field of the name.
+pub fn id_in(alloc: Global, fields: &[Field], name: &[u8]) -> Result<Option<Bytes>, NoMemory>
+    ensures { IfOk result
+        (λ o. option_map (λ id. id.items) o ≡ spec.id_in name.now (map plain_field fields.now)) }
+{
+    let Some(value) = first_value(fields, name) else {
+        return Ok(None);
+    };
+    match FoundId::find(value) {
+        Some(found) => Ok(Some(bracketed(alloc, found.inside)?)),
+        None => Ok(None),
+    }
+}
+
+/// The subject as it is shown; a message without one has an empty subject.
+pub fn subject_of(alloc: Global, fields: &[Field]) -> Result<Line, NoMemory>
+    ensures { IfOk result (λ l. l.items ≡ spec.subject (map plain_field fields.now)) }
+{
+    match first_value(fields, b"subject") {
+        Some(value) => decode_words(alloc, value),
+        None => decode_words(alloc, &[]),
+    }
+}
+
+/// The ids of all References fields.
+pub fn references_of(alloc: Global, fields: &[Field]) -> Result<Names, NoMemory>
+    ensures { IfOk result (λ n. plain_texts n ≡ spec.references (map plain_field fields.now)) }
+{
+    let mut names = Names::new(alloc);
+    let mut left = fields;
+    while let [first, rest @ ..] = left {
+        if is_same_name(first.name.as_slice(), b"references") {
+            add_ids(alloc, &mut names, first.value.as_slice())?;
+        }
+        left = rest;
+    }
+    Ok(names)
+}
+
+/// The date of the first Date field.
+pub fn sent_in(fields: &[Field]) -> Option<SentDate>
+    ensures { result ≡ spec.sent (map plain_field fields.now) }
+{
+    SentDate::read(first_value(fields, b"date")?)
+}
