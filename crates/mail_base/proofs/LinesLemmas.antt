@@ -132,7 +132,8 @@ pub shorter_left : (line : List ℕ) (lines left : List (List ℕ)) (n : ℕ) �
     → length (concat left) ≤ n → length line + length (concat lines) ≤ n
 shorter_left line lines left n e h = omega (arith, ap (λ l. length (concat l)) e, length-append line (concat lines), h)
 
-both_blocks : (lines : List (List ℕ)) → lines ≡ header_block lines ++ after_block lines
+-- the header block and what follows it
+pub both_blocks : (lines : List (List ℕ)) → lines ≡ header_block lines ++ after_block lines
 both_blocks [] = refl
 both_blocks (line ∷ lines) = by_line (is_empty_line line) (both_blocks lines)
   where

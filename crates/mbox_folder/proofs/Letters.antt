@@ -9,8 +9,9 @@ use Rattle.std.proofs.lemmas.Bool.{cond-true, cond-false}
 use Rattle.std.proofs.lemmas.Bool.Decides.{nat_tests}
 use Rattle.bstr.specs.Text.{without_terminator, no_cr}
 use Rattle.mail_base.specs.declared.flags.Flags.{Flags}
-use Rattle.mail_base.specs.Lines.{is_blank, is_continuation, colon_of, behind_colon, without_blanks, unfolded}
-use Rattle.mail_base.specs.Lines.{more_text, continuations, fields_of, HeaderField}
+use Rattle.mail_base.specs.Blanks.{is_blank, without_blanks}
+use Rattle.mail_base.specs.Lines.{is_continuation, colon_of, behind_colon, unfolded, more_text, continuations}
+use Rattle.mail_base.specs.Lines.{fields_of, PlainField}
 use Rattle.folder_core.specs.Mbox.{holds}
 use Rattle.mbox_folder.specs.Told.{has, lines_hold, told_by, is_status, is_x_status}
 use Rattle.mbox_folder.specs.declared.status.StatusField.{StatusField}
@@ -32,7 +33,7 @@ fields_of-field : (line : List ℕ) (k : ℕ) (lines : List (List ℕ)) → colo
     ≡ record { name = take k line; value = unfolded line (continuations lines) } ∷ fields_of lines
 fields_of-field line k lines e =
     cond-true _ _ _ (ap is_some e)
-    ∙ ap (λ (o : Option ℕ). let f : HeaderField =
+    ∙ ap (λ (o : Option ℕ). let f : PlainField =
     record { name = take (unwrap_or o 0) line; value = unfolded line (continuations lines) } in f ∷ fields_of lines) e
 
 fields_of-more : (line : List ℕ) (lines : List (List ℕ)) → colon_of line ≡ None

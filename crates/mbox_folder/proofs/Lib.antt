@@ -1,6 +1,6 @@
 pub mod Cutting
 pub mod Days
 mod Driving
-pub mod FirstPlace
+pub mod PostmarkLemmas
 pub mod Letters
 pub mod Reading

@@ -2,7 +2,6 @@
 #![tactic(auto)]
 
 mod driver;
-mod lines;
 mod listing;
 mod postmark;
 mod read;
@@ -10,11 +9,9 @@ mod regions;
 mod stamp;
 mod status;
 mod stripped;
-mod words;
 
 pub use driver::MboxDriver;
 pub use folder_core::{Region, Regions};
-pub use lines::first_line;
 pub use postmark::read_postmark;
 pub use regions::{CutError, cut_regions};
 pub use status::read_status;

@@ -1,9 +1,8 @@
 ghost use Rattle.std.specs.Prelude.{◌≡◌, ◌<◌, IfSome, MatchOption, length};
 ghost use Rattle.folder_core.specs.Mbox as spec;
 
-use crate::lines::without_feed;
 use crate::stamp::read_stamp;
-use crate::words::blank_at;
+use mail_base::{blank_at, without_feed};
 
 /// The moment of a postmark line (mbox(5)), in seconds since 1970 UTC from 0 to 253,000,000,000; none for another line.
 /// The line stands with the LF that ends it, or without.

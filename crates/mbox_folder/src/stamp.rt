@@ -4,8 +4,8 @@ ghost use Rattle.std.specs.List.{list_all};
 ghost use Rattle.folder_core.specs.Mbox as spec;
 ghost use Rattle.mbox_folder.specs.Stamp.{IsEnding, IsMidnight, IsMonth, IsOffset};
 
-use crate::words::{behind_word, first_word};
 use jiff::civil::{Date, date};
+use mail_base::{behind_word, first_word};
 
 /// The last second that a clock gives.
 const LAST_SECOND: i64 = 253_000_000_000;

@@ -1,12 +1,12 @@
 ghost use Rattle.std.specs.Prelude.{◌≡◌, [], ◌∷◌, ◌&&◌, ◌||◌, List, ℕ, codes};
 ghost use Rattle.std.specs.Str.{str_eq_ignore_ascii_case};
 ghost use Rattle.bstr.specs.Text.{lines_of};
-ghost use Rattle.mail_base.specs.Lines.{fields_of, header_block};
+ghost use Rattle.mail_base.specs.Lines.{behind_first, fields_of, header_block};
 ghost use Rattle.folder_core.specs.Mbox as spec;
 ghost use Rattle.mbox_folder.specs.Told.{has, told_by};
 
 use bstr::ByteSlice;
-use mail_base::{Flags, Kind, colon_of, is_continuation, is_empty_line};
+use mail_base::{Flags, Kind, colon_of, is_continuation, is_empty_line, is_same_name};
 
 /// A field, as far as it holds flags.
 #[derive(Clone, Copy)]
@@ -23,9 +23,9 @@ impl StatusField {
         ensures status { is_status result ≡ str_eq_ignore_ascii_case name.now (codes "Status") }
         ensures x_status { is_x_status result ≡ str_eq_ignore_ascii_case name.now (codes "X-Status") }
     {
-        if name.eq_ignore_ascii_case(b"Status") {
+        if is_same_name(name, b"Status") {
             StatusField::Status
-        } else if name.eq_ignore_ascii_case(b"X-Status") {
+        } else if is_same_name(name, b"X-Status") {
             StatusField::XStatus
         } else {
             StatusField::Other
@@ -101,7 +101,7 @@ fn holds(text: &[u8], letter: u8) -> bool
 
 /// What the header block tells that stands behind the first line.
 fn read_block(region: &[u8]) -> Told
-    ensures { told_by result [] ≡ spec.told_flags (fields_of (header_block (spec.behind_first (lines_of region.now)))) }
+    ensures { told_by result [] ≡ spec.told_flags (fields_of (header_block (behind_first (lines_of region.now)))) }
 {
     let mut lines = region.lines_with_terminator();
     let _ = lines.next();

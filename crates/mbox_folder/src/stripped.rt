@@ -4,9 +4,10 @@ ghost use Rattle.mail_base.specs.Lines as lines;
 ghost use Rattle.folder_core.specs.Mbox as spec;
 ghost use Rattle.mbox_folder.specs.Place.{kept_from};
 
-use crate::lines::without_feed;
 use bstr::ByteSlice;
-use mail_base::{Bytes, NoMemory, colon_of, is_continuation, is_empty_line};
+use mail_base::{
+    Bytes, NoMemory, colon_of, is_continuation, is_empty_line, is_same_name, without_feed,
+};
 use std::alloc::Global;
 
 /// Where a walk over the lines behind a postmark stands.
@@ -45,7 +46,7 @@ impl Place {
 fn is_status_name(name: &[u8]) -> bool
     ensures { result ≡ spec.is_status_name name.now }
 {
-    name.eq_ignore_ascii_case(b"Status") || name.eq_ignore_ascii_case(b"X-Status")
+    is_same_name(name, b"Status") || is_same_name(name, b"X-Status")
 }
 
 /// What stays of a message when its status changes: its lines without the status fields, each with an LF, without the

@@ -8,10 +8,9 @@ use Rattle.std.proofs.lemmas.Bool.Decides.{nat_tests}
 use Rattle.std.proofs.lemmas.List.Folds.{concat-append}
 use Rattle.bstr.specs.Text.{lines_of}
 use Rattle.bstr.proofs.lemmas.RestLemmas.{concat-lines_of}
-use Rattle.mail_base.specs.Lines.{after_block, header_block, is_empty_line}
+use Rattle.mail_base.specs.Lines.{after_block, behind_first, body_of, header_block}
+use Rattle.mail_base.proofs.LinesLemmas.{both_blocks, lines-after_block, lines-body_of}
 use Rattle.mime_tree.specs.DashLines.{DashLine, behind_dashes, dash_lines, dash_lines_with, from_place}
-use Rattle.mime_tree.specs.Parts.{body_of}
-use Rattle.mime_tree.proofs.LineEnds.{back_lines, back_whole}
 
 keep_first : (place at : ℕ) (text : List ℕ) (more : List DashLine) → place ≤ at
     → from_place place (dash_lines_with at (Some text) more) ≡ dash_lines_with at (Some text) more
@@ -62,36 +61,25 @@ from_front place at (line ∷ front) back le =
     (from_front place (at + length line) front back (omega (arith, same, le)))
     ∙ ap (λ n. from_place place (dash_lines n back)) same
 
-both_blocks : (lines : List (List ℕ)) → lines ≡ header_block lines ++ after_block lines
-both_blocks [] = refl
-both_blocks (line ∷ lines) = by_line (is_empty_line line) (both_blocks lines)
-  where
-    by_line : (empty : Bool) → lines ≡ header_block lines ++ after_block lines
-        → line ∷ lines
-        ≡ (if empty then [] else line ∷ header_block lines) ++ (if empty then line ∷ lines else after_block lines)
-    by_line true h = refl
-    by_line false h = ap (λ ls. line ∷ ls) h
-
--- the lines up to the empty one that ends the header block, and those behind it
+-- the lines up to the empty one that ends the header block
 abbrev head : List ℕ → List (List ℕ)
 head text = header_block (lines_of text) ++ take 1 (after_block (lines_of text))
 
 abbrev back : List ℕ → List (List ℕ)
-back text = drop 1 (after_block (lines_of text))
+back text = behind_first (after_block (lines_of text))
+
+first_back : (lines : List (List ℕ)) → lines ≡ take 1 lines ++ behind_first lines
+first_back [] = refl
+first_back (line ∷ lines) = refl
 
 head_back : (text : List ℕ) → lines_of text ≡ head text ++ back text
 head_back text =
     both_blocks (lines_of text)
-    ∙ ap (λ ls. header_block (lines_of text) ++ ls) (sym (take-append-drop 1 (after_block (lines_of text))))
+    ∙ ap (λ ls. header_block (lines_of text) ++ ls) (first_back (after_block (lines_of text)))
     ∙ sym (append_assoc (header_block (lines_of text)) (take 1 (after_block (lines_of text))) (back text))
 
 body_is : (text : List ℕ) → body_of text ≡ concat (back text)
-body_is text =
-    ap (λ ls. concat (drop 1 ls))
-    (back_lines text (header_block (lines_of text)) (after_block (lines_of text)) (both_blocks (lines_of text)))
-
-body_lines : (text : List ℕ) → lines_of (body_of text) ≡ back text
-body_lines text = ap lines_of (body_is text) ∙ back_whole text (head text) (back text) (head_back text)
+body_is text = ap (λ ls. concat (behind_first ls)) (lines-after_block text)
 
 head_size : (text : List ℕ) → length text - length (body_of text) ≡ length (concat (head text))
 head_size text =
@@ -113,4 +101,4 @@ body_marked start text =
     ∙ from_front place start (head text) (back text) (omega (arith, same))
     ∙ ap (λ n. from_place place (dash_lines n (back text))) same
     ∙ from_behind place place (back text) (omega arith)
-    ∙ ap (dash_lines place) (sym (body_lines text))
+    ∙ ap (dash_lines place) (sym (lines-body_of text))

@@ -14,7 +14,7 @@ use Rattle.bstr.specs.Text.{lines_of, without_terminator}
 use Rattle.mime_tree.specs.declared.dash_line.DashLine.{DashLine as OneDashLine}
 use Rattle.mime_tree.specs.declared.delimiter.LineKind.{LineKind}
 use Rattle.mime_tree.specs.declared.delimiter.LineKind.TheVariants.{Text, Delimiter, Closing}
-use Rattle.mime_tree.specs.Decoding.{behind_line}
+use Rattle.mail_base.specs.Lines.{behind_line}
 use Rattle.mime_tree.specs.Delimiters.{Section, is_cut, is_delimiter, kind_of, section_at, section_text}
 use Rattle.mime_tree.specs.Delimiters.{sections, sections_with}
 use Rattle.mime_tree.specs.DashLines.{DashLine, dash_kind, dash_lines, dash_view, delimits, is_closing}

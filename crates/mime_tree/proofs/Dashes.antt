@@ -8,15 +8,15 @@ use Rattle.std.proofs.lemmas.List.{append-nil}
 use Rattle.std.proofs.lemmas.List.Folds.{concat-append}
 use Rattle.bstr.specs.Text.{lines_of, without_terminator}
 use Rattle.bstr.proofs.lemmas.RestLemmas.{concat-lines_of}
-use Rattle.headers.specs.Texts.{◌>>=◌}
+use Rattle.mail_base.specs.Fronts.{◌>>=◌, behind_text}
+use Rattle.mail_base.specs.Lines.{behind_first, behind_line}
+use Rattle.mail_base.proofs.LinesLemmas.{back_lines, back_whole, front_lines}
 use Rattle.mime_tree.specs.declared.delimiter.LineKind.{LineKind}
 use Rattle.mime_tree.specs.declared.delimiter.LineKind.TheVariants.{Text, Delimiter, Closing}
-use Rattle.mime_tree.specs.Texts.{behind_text}
-use Rattle.mime_tree.specs.Decoding.{behind_line}
 use Rattle.mime_tree.specs.Delimiters.{Section, is_delimiter, kind_behind, kind_of, section_at, section_text, sections}
 use Rattle.mime_tree.specs.Delimiters.{sections_with}
 use Rattle.mime_tree.specs.DashLines.{DashLine, behind_dashes, dash_kind, dash_lines, dash_lines_with, delimits}
-use Rattle.mime_tree.proofs.LineEnds.{back_lines, back_whole, dash_lines_without, front_lines}
+use Rattle.mime_tree.proofs.LineEnds.{dash_lines_without}
 
 -- lines at a place, split at one that begins with two dashes
 pub record Split (at : ℕ) (lines : List (List ℕ)) (before : List DashLine) (found : DashLine) (after : List DashLine)
@@ -213,7 +213,7 @@ module _ (s : Section) (before : List DashLine) (found : DashLine) (after : List
       ap (λ n. lines_of (drop n s.text)) size_is ∙ back_lines s.text cut.front (cut.line ∷ cut.back) cut.whole
 
   tail_is : tail ≡ concat cut.back
-  tail_is = ap (λ l. concat (drop 1 l)) behind_is
+  tail_is = ap (λ l. concat (behind_first l)) behind_is
 
   line_on : drop size s.text ≡ cut.line ++ tail
   line_on = sym (concat-lines_of (drop size s.text)) ∙ ap concat behind_is ∙ ap (λ t. cut.line ++ t) (sym tail_is)

@@ -1,7 +1,7 @@
 -- Parts read so far, and those of the sections that are left.
 use Rattle.std.proofs.Common.{◌≡◌, ℕ, zero, suc, ◌+◌, ◌-◌, ◌<◌, List, [], ◌∷◌, ◌++◌, Option, Some, None, option_map}
 use Rattle.std.proofs.Common.{refl, sym, ap, ◌∙◌, arith, append_assoc}
-use Rattle.headers.specs.Texts.{◌>>=◌}
+use Rattle.mail_base.specs.Fronts.{◌>>=◌}
 use Rattle.mime_tree.specs.Delimiters.{Section}
 use Rattle.mime_tree.specs.Parts.{PlainPart, all_parts, children_of, part_of, parts_in}
 

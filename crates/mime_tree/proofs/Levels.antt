@@ -3,16 +3,15 @@ use Rattle.std.proofs.Common.{◌≡◌, All, get_or, zero-add, ℕ, zero, suc, 
 use Rattle.std.proofs.Common.{List, [], ◌∷◌, ◌++◌, length, map, Option, Some, None, option_map, refl, ap, subst, arith}
 use Rattle.std.proofs.Common.{length-append}
 use Rattle.std.proofs.lemmas.Bool.Decides.{nat_tests}
-use Rattle.headers.specs.Blocks as block
-use Rattle.headers.specs.Texts.{◌>>=◌}
+use Rattle.mail_base.specs.Fronts.{◌>>=◌}
 use Rattle.std.specs.Prelude.{if◌then◌else◌}
 use Rattle.std.specs.List.{concat}
 use Rattle.bstr.specs.Text.{lines_of}
 use Rattle.bstr.proofs.lemmas.RestLemmas.{concat-lines_of}
-use Rattle.mail_base.specs.Lines.{header_block, is_empty_line}
+use Rattle.mail_base.specs.Lines.{body_at, body_of, header_block, is_empty_line}
 use Rattle.mime_tree.specs.Delimiters.{Section, InOrder}
 use Rattle.mime_tree.specs.Order.{IsInside, AreBehind, OneOf, Follow, AreInOrder, StandsWithin}
-use Rattle.mime_tree.specs.Parts.{PlainPart, all_parts, body_of, children_of, part_of, parts_in, whole}
+use Rattle.mime_tree.specs.Parts.{PlainPart, all_parts, children_of, part_of, parts_in, whole}
 use Rattle.mime_tree.specs.Views.{plain_part}
 use Rattle.mime_tree.specs.declared.part.Part.{Part}
 use Rattle.mime_tree.proofs.Sections.{in_order_high, in_order_body, body_behind}
@@ -147,7 +146,7 @@ block_short (line ∷ lines) = by_line (is_empty_line line) (block_short lines)
     by_line false h =
         omega (arith, h, length-append line (concat (header_block lines)), length-append line (concat lines))
 
-body_at_short : (text : List ℕ) → block.body_at text ≤ length text
+body_at_short : (text : List ℕ) → body_at text ≤ length text
 body_at_short text = omega (arith, block_short (lines_of text), ap length (concat-lines_of text))
 
 -- the part of a section, and those of the sections in it

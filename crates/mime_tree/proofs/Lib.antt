@@ -6,4 +6,3 @@ pub mod Joining
 pub mod Levels
 pub mod LineEnds
 pub mod Sections
-pub mod Shorter

@@ -6,11 +6,10 @@ use Rattle.std.specs.List.{concat}
 use Rattle.bstr.specs.Text.{lines_of, without_terminator}
 use Rattle.std.proofs.lemmas.List.{length-take, length-drop}
 use Rattle.bstr.proofs.lemmas.RestLemmas.{concat-lines_of}
-use Rattle.mail_base.specs.Lines.{message_fields}
-use Rattle.headers.specs.Blocks.{body_at}
+use Rattle.mail_base.specs.Lines.{behind_first, behind_line, body_at, body_of, message_fields}
 use Rattle.std.specs.Prelude.{codes}
 use Rattle.std.specs.Str.{bytes_eq}
-use Rattle.mime_tree.specs.Parts.{body_of, boundary_of, children_of, is_multipart, sections_in, type_of}
+use Rattle.mime_tree.specs.Parts.{boundary_of, children_of, is_multipart, sections_in, type_of}
 use Rattle.mime_tree.specs.Delimiters.{Section, InOrder, is_delimiter, kind_of, section_text, section_at, sections}
 use Rattle.mime_tree.specs.Delimiters.{sections_with}
 use Rattle.mime_tree.specs.declared.delimiter.LineKind.{LineKind}

@@ -2,7 +2,7 @@
 use Rattle.std.specs.Prelude.{◌+◌, ◌-◌, ℕ, false, List, [], ◌∷◌, length, Option, Some, None, if◌then◌else◌}
 use Rattle.bstr.specs.Text.{lines_of}
 use Rattle.mime_tree.specs.Delimiters.{Section, section_at, sections}
-use Rattle.mime_tree.specs.Parts.{body_of}
+use Rattle.mail_base.specs.Lines.{body_of}
 use Rattle.mime_tree.specs.Views.{section_view}
 use Rattle.mime_tree.specs.declared.cut.Cut.{Cut}
 

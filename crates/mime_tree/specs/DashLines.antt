@@ -2,7 +2,7 @@
 use Rattle.std.specs.Prelude.{◌+◌, ℕ, Bool, true, false, nat_lt, List, [], ◌∷◌, length, Option, Some, None, codes}
 use Rattle.std.specs.Prelude.{if◌then◌else◌}
 use Rattle.bstr.specs.Text.{without_terminator}
-use Rattle.mime_tree.specs.Texts.{behind_text}
+use Rattle.mail_base.specs.Fronts.{behind_text}
 use Rattle.mime_tree.specs.Delimiters.{is_delimiter, kind_behind}
 use Rattle.mime_tree.specs.declared.delimiter.LineKind.{LineKind}
 use Rattle.mime_tree.specs.declared.delimiter.LineKind.TheVariants.{Text, Delimiter, Closing}

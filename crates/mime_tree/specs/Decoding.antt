@@ -1,17 +1,17 @@
 -- Bodies decoded to lines of text (RFC 2045, section 6).
-use Rattle.std.specs.Prelude.{◌+◌, ◌-◌, ◌*◌, ◌==◌, ◌&&◌, ◌||◌, ℕ, zero, suc, Bool, not, nat_lt, List, [], ◌∷◌, ◌++◌}
+use Rattle.std.specs.Prelude.{◌-◌, ◌==◌, ◌&&◌, ◌||◌, ℕ, zero, suc, Bool, not, nat_lt, List, [], ◌∷◌, ◌++◌}
 use Rattle.std.specs.Prelude.{map, filter, take, drop, length, slice_index, Option, Some, None, unwrap_or, codes}
 use Rattle.std.specs.Prelude.{if◌then◌else◌}
-use Rattle.std.specs.List.{concat, flat_map}
-use Rattle.std.specs.Str.{str_eq_ignore_ascii_case}
+use Rattle.std.specs.List.{flat_map}
+use Rattle.std.specs.Str.{byte, str_eq_ignore_ascii_case}
 use Rattle.std.specs.Result.{result_ok}
-use Rattle.std.specs.Char.{digit_value}
 use Rattle.base64.specs.GeneralPurpose.{decode_of}
 use Rattle.base64.specs.Engines.{standard}
 use Rattle.bstr.specs.Text.{lines_of, without_terminator}
-use Rattle.mail_base.specs.Lines.{is_blank}
-use Rattle.headers.specs.Texts.{◌>>=◌, trimmed, without_last_blanks}
-use Rattle.headers.specs.Charsets.{charset_of, text_in}
+use Rattle.mail_base.specs.Blanks.{is_blank, trimmed, without_last_blanks}
+use Rattle.mail_base.specs.Hex.{hex_byte}
+use Rattle.mail_base.specs.Lines.{behind_line}
+use Rattle.headers.specs.Charset.{charset_of, text_in}
 use Rattle.headers.specs.declared.charset.Charset.{Charset}
 use Rattle.mime_tree.specs.declared.encoding.Encoding.{Encoding}
 use Rattle.mime_tree.specs.declared.encoding.Encoding.TheVariants.{Plain, Base64, Quoted}
@@ -24,32 +24,20 @@ encoding_of value =
 
 -- not white space
 abbrev pub is_solid : ℕ → Bool
-is_solid b = not (is_blank b || b == 10 || b == 13)
+is_solid b = not (is_blank b || b == byte "\n" || b == byte "\r")
 
 -- base64 without its white space; what does not decode stays as written (section 6.8)
 abbrev pub from_base64 : List ℕ → List ℕ
 from_base64 text = unwrap_or (result_ok (decode_of standard (filter is_solid text))) text
 
--- the value of a hexadecimal digit
-abbrev pub hex_value : ℕ → Option ℕ
-hex_value b = if nat_lt (digit_value b) 16 then Some (digit_value b) else None
-
--- two hexadecimal digits as a byte (section 6.7, rule 1)
-abbrev pub escaped : List ℕ → Option ℕ
-escaped (h ∷ l ∷ rest) = do
-  high ← hex_value h
-  low ← hex_value l
-  Some (high * 16 + low)
-escaped _ = None
-
 -- what a byte gives, and how many of the bytes behind it belong to it
-abbrev pub with_escape : ℕ → Option ℕ → ℕ × ℕ
+abbrev pub with_escape : ℕ → Option (ℕ × List ℕ) → ℕ × ℕ
 with_escape b None = (b, 0)
-with_escape b (Some byte) = (byte, 2)
+with_escape b (Some found) = (found.0, 2)
 
--- the byte with which a quoted text begins, and how many of the bytes behind it belong to it
+-- the byte with which a quoted text begins, and how many of the bytes behind it belong to it (section 6.7, rule 1)
 abbrev pub quoted_byte : ℕ → List ℕ → ℕ × ℕ
-quoted_byte b rest = with_escape b (if b == 61 then escaped rest else None)
+quoted_byte b rest = with_escape b (if b == byte "=" then hex_byte rest else None)
 
 -- a text with its quoted bytes decoded, whose first so many bytes belong to a byte already read
 abbrev pub unquoted_from : ℕ → List ℕ → List ℕ
@@ -63,7 +51,7 @@ unquoted text = unquoted_from 0 text
 
 -- the last byte is `=`
 abbrev pub ends_soft : List ℕ → Bool
-ends_soft text = nat_lt 0 (length text) && slice_index text (length text - 1) == 61
+ends_soft text = nat_lt 0 (length text) && slice_index text (length text - 1) == byte "="
 
 -- the text of a line and its line end, which an `=` at the end of the text takes away (rules 4 and 5)
 abbrev pub joined : List ℕ → List ℕ → List ℕ
@@ -92,10 +80,6 @@ decoded Quoted body = from_quoted body
 -- the lines of a text of a charset, without their line ends
 abbrev pub lines_in : Charset → List ℕ → List (List ℕ)
 lines_in charset text = map (text_in charset) (map without_terminator (lines_of text))
-
--- what stands behind the first line
-abbrev pub behind_line : List ℕ → List ℕ
-behind_line text = concat (drop 1 (lines_of text))
 
 -- the lines of a body that stands behind an empty line
 abbrev pub decoded_lines : Encoding → List ℕ → List ℕ → List (List ℕ)

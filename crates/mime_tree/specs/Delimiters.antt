@@ -1,24 +1,23 @@
 -- How the body of a multipart is cut at its delimiter lines (RFC 2046, section 5.1.1).
 use Rattle.std.specs.Prelude.{◌+◌, ◌≤◌, ◌&&◌, ℕ, Bool, true, false, nat_lt, List, [], ◌∷◌, ◌++◌, length}
 use Rattle.std.specs.Prelude.{Option, Some, None, codes, if◌then◌else◌}
-use Rattle.std.specs.List.{list_all, list_any}
+use Rattle.std.specs.List.{list_any}
 use Rattle.bstr.specs.Text.{lines_of, without_terminator}
-use Rattle.mail_base.specs.Lines.{is_blank}
-use Rattle.headers.specs.Texts.{◌>>=◌}
-use Rattle.mime_tree.specs.Texts.{behind_text}
+use Rattle.mail_base.specs.Blanks.{is_all_blank}
+use Rattle.mail_base.specs.Fronts.{◌>>=◌, behind_text}
 use Rattle.mime_tree.specs.declared.delimiter.LineKind.{LineKind}
 use Rattle.mime_tree.specs.declared.delimiter.LineKind.TheVariants.{Text, Delimiter, Closing}
 
 -- two dashes and blanks close the multipart
 abbrev pub closing_behind : Option (List ℕ) → LineKind
 closing_behind None = Text
-closing_behind (Some rest) = if list_all is_blank rest then Closing else Text
+closing_behind (Some rest) = if is_all_blank rest then Closing else Text
 
 -- what a line is by what stands behind its dashes and the boundary
 abbrev pub kind_behind : Option (List ℕ) → LineKind
 kind_behind None = Text
 kind_behind (Some rest) =
-    if list_all is_blank rest then Delimiter else closing_behind (behind_text (codes "--") rest)
+    if is_all_blank rest then Delimiter else closing_behind (behind_text (codes "--") rest)
 
 -- what a line is in a multipart of the boundary
 abbrev pub kind_of : List ℕ → List ℕ → LineKind

@@ -1,4 +1,4 @@
-pub mod Texts
+pub mod MediaType
 pub mod Order
 pub mod Parameters
 pub mod Parts

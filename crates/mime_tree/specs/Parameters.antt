@@ -1,18 +1,18 @@
 -- Parameters of a structured field (RFC 2045, section 5.1).
 use Rattle.std.specs.Prelude.{◌==◌, ◌&&◌, ◌||◌, ℕ, zero, suc, Bool, true, false, List, [], ◌∷◌, length, take, drop}
-use Rattle.std.specs.Prelude.{position, Option, Some, None, option_map, unwrap_or, if◌then◌else◌}
-use Rattle.std.specs.List.{find}
-use Rattle.std.specs.Str.{str_eq_ignore_ascii_case}
-use Rattle.mail_base.specs.Lines.{is_blank, without_blanks}
-use Rattle.headers.specs.Texts.{◌>>=◌, behind}
-use Rattle.mime_tree.specs.Texts.{token_len}
+use Rattle.std.specs.Prelude.{Option, Some, None, option_map, if◌then◌else◌}
+use Rattle.std.specs.List.{find, position_or_len}
+use Rattle.std.specs.Str.{byte, str_eq_ignore_ascii_case}
+use Rattle.mail_base.specs.Blanks.{is_blank, without_blanks}
+use Rattle.mail_base.specs.Fronts.{◌>>=◌, behind}
+use Rattle.mail_base.specs.Tokens.{token_len}
 use Rattle.mime_tree.specs.declared.quoting.Quoting.{Quoting}
 use Rattle.mime_tree.specs.declared.quoting.Quoting.TheVariants.{Outside, Inside, Escaped}
 
 -- whether the byte that follows stands in quotes; there a backslash takes its meaning from the byte behind it
 abbrev pub quoting_behind : Quoting → ℕ → Quoting
-quoting_behind Outside b = if b == 34 then Inside else Outside
-quoting_behind Inside b = if b == 34 then Outside else (if b == 92 then Escaped else Inside)
+quoting_behind Outside b = if b == byte "\"" then Inside else Outside
+quoting_behind Inside b = if b == byte "\"" then Outside else (if b == byte "\\" then Escaped else Inside)
 quoting_behind Escaped b = Inside
 
 -- whether it stands outside quotes
@@ -25,7 +25,7 @@ is_outside Escaped = false
 abbrev pub behind_semicolon : Quoting → List ℕ → Option (List ℕ)
 behind_semicolon q [] = None
 behind_semicolon q (b ∷ rest) =
-    if is_outside q && b == 59 then Some rest else behind_semicolon (quoting_behind q b) rest
+    if is_outside q && b == byte ";" then Some rest else behind_semicolon (quoting_behind q b) rest
 
 -- the value of a parameter, and what stands behind it
 pub record Value : Type 0 where
@@ -41,12 +41,12 @@ abbrev pub quoted_value : Bool → List ℕ → Option Value
 quoted_value escaped [] = None
 quoted_value true (b ∷ rest) = option_map (with_byte b) (quoted_value false rest)
 quoted_value false (b ∷ rest) =
-    if b == 34 then Some (record { bytes = []; rest = rest })
-    else (if b == 92 then quoted_value true rest else option_map (with_byte b) (quoted_value false rest))
+    if b == byte "\"" then Some (record { bytes = []; rest = rest })
+    else (if b == byte "\\" then quoted_value true rest else option_map (with_byte b) (quoted_value false rest))
 
 -- how many bytes stand before the next blank or semicolon
-unfoldable pub plain_len : List ℕ → ℕ
-plain_len s = unwrap_or (position (λ b. is_blank b || b == 59) s) (length s)
+abbrev pub plain_len : List ℕ → ℕ
+plain_len s = position_or_len (λ b. is_blank b || b == byte ";") s
 
 -- what stands behind the first quote, where there is one; else the bytes up to the next blank or semicolon
 abbrev pub value_at : Option (List ℕ) → List ℕ → Option Value
@@ -55,7 +55,7 @@ value_at None s = Some (record { bytes = take (plain_len s) s; rest = drop (plai
 
 -- the value with which a text begins, if it is of the form
 abbrev pub value : List ℕ → Option Value
-value s = value_at (behind 34 s) s
+value s = value_at (behind (byte "\"") s) s
 
 -- a parameter, and what stands behind it
 pub record Parameter : Type 0 where
@@ -69,7 +69,7 @@ named_value name s = option_map (λ v. record { name = name; value = v }) (value
 -- a name and a value with an equals sign and blanks between them
 abbrev pub parameter_at : List ℕ → Option Parameter
 parameter_at s = do
-  rest ← behind 61 (without_blanks (drop (token_len s) s))
+  rest ← behind (byte "=") (without_blanks (drop (token_len s) s))
   if token_len s == 0 then None else named_value (take (token_len s) s) (without_blanks rest)
 
 -- the parameter behind a semicolon

@@ -1,16 +1,16 @@
 -- The parts of a message (RFC 2045, section 5; RFC 2046, section 5).
-use Rattle.std.specs.Prelude.{◌+◌, ◌-◌, ◌&&◌, ℕ, zero, suc, Bool, false, not, List, [], ◌∷◌, ◌++◌, length, take, drop}
+use Rattle.std.specs.Prelude.{◌+◌, ◌-◌, ◌&&◌, ℕ, zero, suc, Bool, false, not, List, [], ◌∷◌, ◌++◌, length, take}
 use Rattle.std.specs.Prelude.{Option, Some, None, option_map, unwrap_or, is_some, codes, if◌then◌else◌}
 use Rattle.std.specs.Str.{bytes_eq, str_eq_ignore_ascii_case, str_to_ascii_lowercase}
 use Rattle.bstr.specs.Text.{lines_of}
-use Rattle.mail_base.specs.Lines.{HeaderField, message_fields}
-use Rattle.headers.specs.Blocks as block
-use Rattle.headers.specs.Texts.{◌>>=◌}
-use Rattle.headers.specs.Headers.{first_value}
-use Rattle.headers.specs.EncodedWords.{decoded_words}
-use Rattle.mime_tree.specs.Texts.{behind_text, token_len, media_type}
+use Rattle.mail_base.specs.Lines.{PlainField, body_at, body_of, message_fields}
+use Rattle.mail_base.specs.Fronts.{◌>>=◌, behind_text}
+use Rattle.mail_base.specs.Tokens.{token_len}
+use Rattle.headers.specs.Decode.{decoded_words}
+use Rattle.headers.specs.Values.{first_value}
+use Rattle.mime_tree.specs.MediaType.{media_type}
 use Rattle.mime_tree.specs.Parameters.{value_of, parameters}
-use Rattle.mime_tree.specs.Decoding.{encoding_of, behind_line}
+use Rattle.mime_tree.specs.Decoding.{encoding_of}
 use Rattle.mime_tree.specs.Delimiters.{Section, is_cut, sections}
 use Rattle.mime_tree.specs.declared.encoding.Encoding.{Encoding}
 
@@ -26,11 +26,11 @@ pub record PlainPart : Type 0 where
   pub body_end : ℕ
 
 -- the value of the first field of the name, or nothing
-abbrev pub value_in : List ℕ → List HeaderField → List ℕ
+abbrev pub value_in : List ℕ → List PlainField → List ℕ
 value_in name fields = unwrap_or (first_value name fields) []
 
 -- a parameter of the first field of the name
-abbrev pub parameter_in : List ℕ → List ℕ → List HeaderField → Option (List ℕ)
+abbrev pub parameter_in : List ℕ → List ℕ → List PlainField → Option (List ℕ)
 parameter_in field name fields = value_of name (parameters (value_in field fields))
 
 -- the type that a part has without a Content-Type (RFC 2046, section 5.1.5)
@@ -43,7 +43,7 @@ written_type in_digest None = default_type in_digest
 written_type in_digest (Some value) = unwrap_or (media_type value) (codes "text/plain")
 
 -- the type of a part by its fields, in lower case
-abbrev pub named_type : Bool → List HeaderField → List ℕ
+abbrev pub named_type : Bool → List PlainField → List ℕ
 named_type in_digest fields =
     str_to_ascii_lowercase (written_type in_digest (first_value (codes "content-type") fields))
 
@@ -52,7 +52,7 @@ abbrev pub is_multipart : List ℕ → Bool
 is_multipart content = is_some (behind_text (codes "multipart/") content)
 
 -- the boundary that a Content-Type names, or nothing
-abbrev pub boundary_of : List HeaderField → List ℕ
+abbrev pub boundary_of : List PlainField → List ℕ
 boundary_of fields = unwrap_or (parameter_in (codes "content-type") (codes "boundary") fields) []
 
 -- a multipart whose boundary does not occur is text
@@ -61,27 +61,23 @@ shown_type content boundary body =
     if is_multipart content && not (is_cut boundary body) then codes "text/plain" else content
 
 -- the charset that a Content-Type names, in lower case, or nothing
-abbrev pub charset_of : List HeaderField → List ℕ
+abbrev pub charset_of : List PlainField → List ℕ
 charset_of fields =
     str_to_ascii_lowercase (unwrap_or (parameter_in (codes "content-type") (codes "charset") fields) [])
 
 -- the name of a file as written: from the disposition, or else from the type
-abbrev pub name_of : Option (List ℕ) → List HeaderField → List ℕ
+abbrev pub name_of : Option (List ℕ) → List PlainField → List ℕ
 name_of (Some name) fields = name
 name_of None fields = unwrap_or (parameter_in (codes "content-type") (codes "name") fields) []
 
 -- the name of a file with its encoded words decoded
-abbrev pub filename_of : List HeaderField → List ℕ
+abbrev pub filename_of : List PlainField → List ℕ
 filename_of fields =
     decoded_words (name_of (parameter_in (codes "content-disposition") (codes "filename") fields) fields)
 
 -- the disposition is `attachment` (RFC 2183, section 2)
 abbrev pub is_attachment : List ℕ → Bool
 is_attachment value = str_eq_ignore_ascii_case (take (token_len value) value) (codes "attachment")
-
--- the text behind the header block of a part
-abbrev pub body_of : List ℕ → List ℕ
-body_of text = behind_line (drop (block.body_at text) text)
 
 -- the type of the part in a section
 abbrev pub type_of : Section → List ℕ
@@ -99,7 +95,7 @@ part_of nesting s =
       filename = filename_of fields;
       encoding = encoding_of (value_in (codes "content-transfer-encoding") fields);
       attachment = is_attachment (value_in (codes "content-disposition") fields);
-      body_at = s.start + block.body_at s.text;
+      body_at = s.start + body_at s.text;
       body_end = s.start + length s.text;
     }
 

@@ -17,14 +17,6 @@ value_view v = record { bytes = v.bytes.items; rest = v.rest.now }
 abbrev pub parameter_view : Parameter → parameters.Parameter
 parameter_view p = record { name = p.name.now; value = value_view p.value }
 
--- the names of a list, without the rooms of their lists
-abbrev pub plain_names : Held (Held ℕ) → List (List ℕ)
-plain_names names = map (λ name. name.items) names.items
-
--- the lines of a list, without the rooms of their lists
-abbrev pub plain_lines : Held (Held ℕ) → List (List ℕ)
-plain_lines lines = map (λ line. line.items) lines.items
-
 -- a section by its bytes
 abbrev pub section_view : Section → delimiters.Section
 section_view s = record { start = s.start; text = s.text.now; in_digest = s.in_digest }

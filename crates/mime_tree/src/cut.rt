@@ -4,11 +4,10 @@ ghost use Rattle.mime_tree.specs.DashLines.{dash_view, delimits};
 ghost use Rattle.mime_tree.specs.Delimiters as delimiters;
 ghost use Rattle.mime_tree.specs.Views.{section_view};
 
-use crate::body::behind_line;
 use crate::dash_line::DashLine;
 use crate::delimiter::LineKind;
 use crate::section::Section;
-use mail_base::{NoMemory, without_line_end};
+use mail_base::{NoMemory, behind_line, without_line_end};
 use std::alloc::Global;
 
 /// A section cut at its first delimiter line.

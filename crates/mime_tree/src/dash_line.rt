@@ -2,9 +2,8 @@ ghost use Rattle.std.specs.Prelude.{◌≡◌, map, IfOk};
 ghost use Rattle.bstr.specs.Text.{lines_of};
 ghost use Rattle.mime_tree.specs.DashLines as spec;
 
-use crate::token::behind_text;
 use bstr::ByteSlice;
-use mail_base::{NoMemory, without_line_end};
+use mail_base::{NoMemory, behind_text, without_line_end};
 use std::alloc::Global;
 
 /// A line of a message that begins with two dashes.

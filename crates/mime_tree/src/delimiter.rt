@@ -1,12 +1,9 @@
 ghost use Rattle.std.specs.Prelude.{◌≡◌, codes};
-ghost use Rattle.std.specs.List.{list_all};
-ghost use Rattle.mail_base.specs.Lines as lines;
+ghost use Rattle.mail_base.specs.Fronts.{behind_text};
 ghost use Rattle.mime_tree.specs.DashLines.{dash_kind, is_closing};
 ghost use Rattle.mime_tree.specs.Delimiters as spec;
-ghost use Rattle.mime_tree.specs.Texts.{behind_text};
 
-use crate::token::behind_text;
-use mail_base::is_blank;
+use mail_base::{behind_text, is_all_blank};
 
 /// What a line is to a boundary (RFC 2046, section 5.1.1).
 #[derive(Clone, Copy, Debug, PartialEq, Eq)]
@@ -15,12 +12,6 @@ pub enum LineKind {
     Delimiter,
     /// The delimiter that ends the multipart.
     Closing,
-}
-
-fn is_all_blank(text: &[u8]) -> bool
-    ensures { result ≡ list_all lines.is_blank text.now }
-{
-    text.iter().all(|b| is_blank(*b))
 }
 
 impl LineKind {

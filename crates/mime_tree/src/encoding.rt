@@ -1,7 +1,7 @@
 ghost use Rattle.std.specs.Prelude.{◌≡◌};
 ghost use Rattle.mime_tree.specs.Decoding as spec;
 
-use headers::{is_same_name, trimmed};
+use mail_base::{is_same_name, trimmed};
 
 /// How the body of a part is written (RFC 2045, section 6.1).
 #[derive(Clone, Copy, Debug, PartialEq, Eq)]

@@ -1,22 +1,20 @@
 ghost use Rattle.std.specs.Prelude.{◌≡◌, [], false, map, option_map, unwrap_or, codes, IfOk};
 ghost use Rattle.std.specs.Str.{str_to_ascii_lowercase};
-ghost use Rattle.headers.specs.Blocks as block;
-ghost use Rattle.headers.specs.Headers as headers;
+ghost use Rattle.headers.specs.Field.{plain_field};
 ghost use Rattle.mail_base.specs.Lines.{message_fields};
 ghost use Rattle.mime_tree.specs.Cuts.{body_section};
 ghost use Rattle.mime_tree.specs.Parts as spec;
 ghost use Rattle.mime_tree.specs.Views.{plain_part, section_view};
 
-use crate::body::{behind_line, body_at};
 use crate::cut::{cut_sections, is_cut};
 use crate::dash_line::lines_from;
 use crate::encoding::Encoding;
+use crate::media_type::media_type;
 use crate::parameter::parameter_of;
 use crate::part::Part;
 use crate::section::Section;
-use crate::token::{behind_text, media_type, token_len};
-use headers::{Field, decode_words, first_value, is_same_name, read_fields};
-use mail_base::{Bytes, Line, NoMemory};
+use headers::{Field, decode_words, first_value, read_fields};
+use mail_base::{Bytes, Line, NoMemory, behind_text, body_at, body_of, is_same_name, token_len};
 use std::alloc::Global;
 
 /// A part of a message, and the sections that stand directly in it.
@@ -27,7 +25,7 @@ pub struct Entity<'a> {
 }
 
 fn value_in<'a>(fields: &'a [Field], name: &[u8]) -> &'a [u8]
-    ensures { result.now ≡ spec.value_in name.now (map block.plain_field fields.now) }
+    ensures { result.now ≡ spec.value_in name.now (map plain_field fields.now) }
 {
     first_value(fields, name).unwrap_or(&[])
 }
@@ -39,7 +37,7 @@ fn parameter_in(
     name: &[u8],
 ) -> Result<Option<Bytes>, NoMemory>
     ensures { IfOk result (λ o. option_map (λ b. b.items) o
-        ≡ spec.parameter_in field.now name.now (map block.plain_field fields.now)) }
+        ≡ spec.parameter_in field.now name.now (map plain_field fields.now)) }
 {
     parameter_of(alloc, value_in(fields, field), name)
 }
@@ -47,7 +45,7 @@ fn parameter_in(
 // A parameter of the Content-Type, or nothing.
 fn type_parameter(alloc: Global, fields: &[Field], name: &[u8]) -> Result<Bytes, NoMemory>
     ensures { IfOk result (λ b. b.items
-        ≡ unwrap_or (spec.parameter_in (codes "content-type") name.now (map block.plain_field fields.now)) []) }
+        ≡ unwrap_or (spec.parameter_in (codes "content-type") name.now (map plain_field fields.now)) []) }
 {
     match parameter_in(alloc, fields, b"content-type", name)? {
         Some(value) => Ok(value),
@@ -94,7 +92,7 @@ fn type_of(
     body: Section<'_>,
 ) -> Result<Bytes, NoMemory>
     ensures { IfOk result (λ b. b.items ≡ spec.shown_type
-        (spec.named_type in_digest (map block.plain_field fields.now)) boundary.now body.entry.text.now) }
+        (spec.named_type in_digest (map plain_field fields.now)) boundary.now body.entry.text.now) }
 {
     let content = lowered(
         alloc,
@@ -107,7 +105,7 @@ fn type_of(
 }
 
 fn charset_of(alloc: Global, fields: &[Field]) -> Result<Bytes, NoMemory>
-    ensures { IfOk result (λ b. b.items ≡ spec.charset_of (map block.plain_field fields.now)) }
+    ensures { IfOk result (λ b. b.items ≡ spec.charset_of (map plain_field fields.now)) }
 {
     let charset = type_parameter(alloc, fields, b"charset")?;
     lowered(alloc, charset.as_slice())
@@ -115,7 +113,7 @@ fn charset_of(alloc: Global, fields: &[Field]) -> Result<Bytes, NoMemory>
 
 // The name of a part's file with its encoded words decoded.
 fn filename_of(alloc: Global, fields: &[Field]) -> Result<Line, NoMemory>
-    ensures { IfOk result (λ l. l.items ≡ spec.filename_of (map block.plain_field fields.now)) }
+    ensures { IfOk result (λ l. l.items ≡ spec.filename_of (map plain_field fields.now)) }
 {
     if let Some(name) = parameter_in(alloc, fields, b"content-disposition", b"filename")? {
         return decode_words(alloc, name.as_slice());
@@ -132,11 +130,11 @@ fn is_attachment(value: &[u8]) -> bool
 }
 
 // What stands behind the header block.
-fn body_of<'a>(section: Section<'a>) -> Section<'a>
+fn body_in<'a>(section: Section<'a>) -> Section<'a>
     ensures { section_view result ≡ body_section (section_view section.entry) }
 {
     let text = section.text;
-    let body = behind_line(&text[body_at(text)..]);
+    let body = body_of(text);
     let start = section.start + (text.len() - body.len());
     Section {
         start,
@@ -176,7 +174,7 @@ fn part_of(
     fields: &[Field],
     content: Bytes,
 ) -> Result<Part, NoMemory>
-    requires fields { map block.plain_field fields.now ≡ message_fields section.text.now }
+    requires fields { map plain_field fields.now ≡ message_fields section.text.now }
     requires content { content.items ≡ spec.type_of (section_view section) }
     ensures { IfOk result (λ p. plain_part p ≡ spec.part_of nesting (section_view section.entry)) }
 {
@@ -200,7 +198,7 @@ impl<'a> Entity<'a> {
         ensures children { IfOk result
             (λ e. map section_view e.children.items ≡ spec.children_of (section_view section.entry)) }
     {
-        let body = body_of(section);
+        let body = body_in(section);
         let fields = read_fields(alloc, section.text)?;
         let list = fields.as_slice();
         let boundary = type_parameter(alloc, list, b"boundary")?;

@@ -2,7 +2,6 @@
 #![tactic(auto)]
 
 mod base64_body;
-mod body;
 mod cut;
 mod dash_line;
 mod delimiter;
@@ -10,6 +9,7 @@ mod encoding;
 mod entity;
 mod error;
 mod kinds;
+mod media_type;
 mod parameter;
 mod part;
 mod quoted;
@@ -17,7 +17,6 @@ mod quoting;
 mod reading;
 mod section;
 mod text;
-mod token;
 
 pub use encoding::Encoding;
 pub use error::MimeError;

@@ -1,12 +1,11 @@
 ghost use Rattle.std.specs.Prelude.{◌≡◌, ◌==◌, ◌||◌, ◌≤◌, ◌<◌, false, length, position, option_map, IfOk, IfSome};
-ghost use Rattle.mail_base.specs.Lines as lines;
+ghost use Rattle.mail_base.specs.Blanks as blanks;
+ghost use Rattle.std.specs.Str.{byte};
 ghost use Rattle.mime_tree.specs.Parameters as spec;
 ghost use Rattle.mime_tree.specs.Views.{value_view, parameter_view};
 
 use crate::quoting::behind_semicolon;
-use crate::token::token_len;
-use headers::{behind, is_same_name};
-use mail_base::{Bytes, NoMemory, is_blank, without_blanks};
+use mail_base::{Bytes, NoMemory, behind, is_blank, is_same_name, token_len, without_blanks};
 use std::alloc::Global;
 
 /// The value of a parameter, and what stands behind it.
@@ -23,15 +22,16 @@ pub struct Parameter<'a> {
     pub value: Value<'a>,
 }
 
+// The place of the first blank or semicolon.
 fn plain_end(text: &[u8]) -> Option<usize>
-    ensures value { result ≡ position (λ b. lines.is_blank b || b == 59) text.now }
+    ensures value { result ≡ position (λ b. blanks.is_blank b || b == byte ";") text.now }
     ensures within { IfSome result (λ end. end < length text.now) }
 {
     text.iter().position(|b| is_blank(*b) || *b == b';')
 }
 
 // How many bytes stand before the next blank or semicolon.
-#[tactic(auto, unfolding(crate::specs::Parameters::plain_len))]
+#[tactic(auto, using(mail_base::proofs::PlacesLemmas::place_or_len))]
 fn plain_len(text: &[u8]) -> usize
     ensures value { result ≡ spec.plain_len text.now }
     ensures within { result ≤ length text.now }
@@ -76,7 +76,6 @@ impl<'a> Value<'a> {
 
 impl<'a> Parameter<'a> {
     /// The parameter that stands behind a semicolon, if it is of the form.
-    #[tactic(auto, using(crate::proofs::Shorter::without_blanks_short))]
     fn read(alloc: Global, text: &'a [u8]) -> Result<Option<Parameter<'a>>, NoMemory>
         ensures value { IfOk result (λ o. option_map parameter_view o ≡ spec.parameter text.now) }
         ensures shorter { IfOk result (λ o. IfSome o (λ p. length p.value.rest.now ≤ length text.now)) }

@@ -1,23 +1,9 @@
-ghost use Rattle.std.specs.Prelude.{◌≡◌, ◌++◌, ◌≤◌, ◌<◌, drop, length, IfOk, OnOk};
-ghost use Rattle.headers.specs.Texts as texts;
+ghost use Rattle.std.specs.Prelude.{◌≡◌, ◌++◌, ◌≤◌, ◌<◌, length, IfOk, OnOk};
 ghost use Rattle.mime_tree.specs.Decoding as spec;
 
 use bstr::ByteSlice;
-use headers::hex_value;
-use mail_base::{Bytes, NoMemory, is_blank, without_line_end};
+use mail_base::{Bytes, NoMemory, read_hex_byte, without_last_blanks, without_line_end};
 use std::alloc::Global;
-
-// The byte that stands behind an `=` as two hexadecimal digits.
-fn escaped(rest: &[u8]) -> Option<u8>
-    ensures { result ≡ spec.escaped rest.now }
-{
-    let [high, low, ..] = rest else {
-        return None;
-    };
-    let high = hex_value(*high)?;
-    let low = hex_value(*low)?;
-    Some(high * 16 + low)
-}
 
 // What a byte gives, and what follows the bytes that it is written by.
 fn quoted_byte(first: u8, rest: &[u8]) -> (u8, &[u8])
@@ -28,9 +14,9 @@ fn quoted_byte(first: u8, rest: &[u8]) -> (u8, &[u8])
     if first != b'=' {
         return (first, rest);
     }
-    match (escaped(rest), rest) {
-        (Some(byte), [_, _, rest @ ..]) => (byte, rest),
-        _ => (first, rest),
+    match read_hex_byte(rest) {
+        Some((byte, rest)) => (byte, rest),
+        None => (first, rest),
     }
 }
 
@@ -45,19 +31,6 @@ fn append_unquoted(bytes: &mut Bytes, text: &[u8]) -> Result<(), NoMemory>
         left = rest;
     }
     Ok(())
-}
-
-fn without_last_blanks(text: &[u8]) -> &[u8]
-    ensures { result.now ≡ texts.without_last_blanks text.now }
-{
-    let mut left = text;
-    while let [rest @ .., last] = left {
-        if !is_blank(*last) {
-            return left;
-        }
-        left = rest;
-    }
-    left
 }
 
 // Adds the text of a line and its line end.

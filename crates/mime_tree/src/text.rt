@@ -1,15 +1,14 @@
 ghost use Rattle.std.specs.Prelude.{◌≡◌, ◌≤◌, length, slice_range, IfOk};
 ghost use Rattle.mime_tree.specs.Decoding as spec;
-ghost use Rattle.mime_tree.specs.Views.{plain_lines};
+ghost use Rattle.mail_base.specs.Series.{plain_texts};
 
 use crate::base64_body::decode_base64;
-use crate::body::behind_line;
 use crate::encoding::Encoding;
 use crate::part::Part;
 use crate::quoted::decode_quoted;
 use bstr::ByteSlice;
 use headers::Charset;
-use mail_base::{Bytes, Line, Lines, NoMemory};
+use mail_base::{Bytes, Line, Lines, NoMemory, behind_line};
 use std::alloc::Global;
 
 fn decode(alloc: Global, encoding: Encoding, body: &[u8]) -> Result<Bytes, NoMemory>
@@ -23,7 +22,7 @@ fn decode(alloc: Global, encoding: Encoding, body: &[u8]) -> Result<Bytes, NoMem
 }
 
 fn lines_of(alloc: Global, charset: Charset, text: &[u8]) -> Result<Lines, NoMemory>
-    ensures { IfOk result (λ l. plain_lines l ≡ spec.lines_in charset text.now) }
+    ensures { IfOk result (λ l. plain_texts l ≡ spec.lines_in charset text.now) }
 {
     let mut lines = Lines::new(alloc);
     for bytes in text.lines() {
@@ -39,7 +38,7 @@ fn lines_of(alloc: Global, charset: Charset, text: &[u8]) -> Result<Lines, NoMem
 pub fn decoded_text(alloc: Global, raw: &[u8], part: &Part) -> Result<Lines, NoMemory>
     requires order { part.now.body_at ≤ part.now.body_end }
     requires within { part.now.body_end ≤ length raw.now }
-    ensures { IfOk result (λ l. plain_lines l ≡ spec.decoded_lines part.now.encoding part.now.charset.items
+    ensures { IfOk result (λ l. plain_texts l ≡ spec.decoded_lines part.now.encoding part.now.charset.items
         (slice_range raw.now part.now.body_at part.now.body_end)) }
 {
     let body = behind_line(&raw[part.body_at..part.body_end]);

@@ -1,6 +1,6 @@
 use Rattle.std.proofs.Common.{◌≡◌, ◌+◌, ◌-◌, List, ℕ, length, length-drop, take, take_all, drop, ap, sym, ◌∙◌, arith}
 use Rattle.folder_core.specs.Mbox.{first_some, stamp, stamp_behind}
-use Rattle.mbox_folder.proofs.FirstPlace.{stamp_behind-Some, stamp_behind-None}
+use Rattle.mbox_folder.proofs.PostmarkLemmas.{stamp_behind-Some, stamp_behind-None}
 use Rattle.mbox_folder.proofs.postmark.behind_blank.Goals as goal
 
 pub returns-in-Some-clause-blank : goal.returns-in-Some-clause-blank
@@ -9,9 +9,9 @@ returns-in-Some-clause-blank c =
     let behind = c.in-Some.at + 1 in
     let whole : take (length text - behind) (drop behind text) ≡ drop behind text =
     take_all _ _ (omega (arith, length-drop behind text)) in
-    stamp_behind-Some text c.in-Some.at (sym c.blank_at.ensures.place ∙ c.in-Some.is)
+    stamp_behind-Some text c.in-Some.at (sym c.blank_at.ensures.value ∙ c.in-Some.is)
     ∙ ap (λ (rest : List ℕ). first_some (stamp rest) (stamp_behind rest)) (sym whole)
 
 pub returns-in-None-clause-blank : goal.returns-in-None-clause-blank
 returns-in-None-clause-blank c =
-    stamp_behind-None c.args.text.now (sym c.blank_at.ensures.place ∙ c.in-None.is)
+    stamp_behind-None c.args.text.now (sym c.blank_at.ensures.value ∙ c.in-None.is)

@@ -1,11 +1,11 @@
 use Rattle.std.proofs.Common.{◌≡◌, ◌++◌, length, map}
-use Rattle.mime_tree.specs.Views.{plain_names}
+use Rattle.mail_base.specs.Series.{plain_texts}
 use Rattle.mime_tree.specs.declared.part.Part.{Part}
 use Rattle.mime_tree.proofs.kinds.kind_list.Given as goal
 
 abbrev pub invariant-loop-left : goal.invariant-loop-left
 invariant-loop-left l =
-    plain_names l.names ++ map (λ (p : Part). p.content.items) l.left
+    plain_texts l.names ++ map (λ (p : Part). p.content.items) l.left
     ≡ map (λ (p : Part). p.content.items) l.parts.items
 
 abbrev pub decreases-loop-left : goal.decreases-loop-left

@@ -1,8 +1,8 @@
 use Rattle.std.proofs.Common.{◌≡◌, ◌++◌, map}
-use Rattle.headers.specs.Charsets.{text_in}
+use Rattle.headers.specs.Charset.{text_in}
 use Rattle.mime_tree.specs.Decoding.{lines_in}
-use Rattle.mime_tree.specs.Views.{plain_lines}
+use Rattle.mail_base.specs.Series.{plain_texts}
 use Rattle.mime_tree.proofs.text.lines_of.Given as goal
 
 abbrev pub invariant-loop-bytes : goal.invariant-loop-bytes
-invariant-loop-bytes l = plain_lines l.lines ++ map (text_in l.charset) l.bytes-iterator ≡ lines_in l.charset l.fn.text
+invariant-loop-bytes l = plain_texts l.lines ++ map (text_in l.charset) l.bytes-iterator ≡ lines_in l.charset l.fn.text

@@ -10,7 +10,7 @@ returns-in-Some c = λ lines.
     let told = c.args.self in
     let named = c.named in
     let k = c.in-Some.at in
-    let place = sym c.colon_of.ensures.place ∙ c.in-Some.is in
+    let place = sym c.colon_of.ensures.value ∙ c.in-Some.is in
     let text : take (length line - (k + 1)) (drop (k + 1) line) ≡ drop (k + 1) line =
     take_all _ _ (omega (arith, length-drop (k + 1) line)) in
     told_by-line told c.with_text.result named.result line _ lines c.with_text.ensures.field c.with_text.ensures.flags
@@ -22,7 +22,7 @@ returns-in-None c = λ lines.
     let line = c.args.line.now in
     let told = c.args.self in
     let with = c.with_text-in-None in
-    let place = sym c.colon_of.ensures.place ∙ c.in-None.is in
+    let place = sym c.colon_of.ensures.value ∙ c.in-None.is in
     let more = sym c.is_continuation.ensures ∙ c.if-is_continuation.true in
     told_by-line told with.result told.field line line lines with.ensures.field with.ensures.flags
     (GoOn-continued (codes "Status") line lines (is_status told.field) place more)

@@ -1,30 +1,12 @@
--- What stands before the first blank of a text and behind it.
+-- The stamp that stands behind a blank of a text.
 use Rattle.std.proofs.Common.{◌≡◌, ◌+◌, ◌<◌, ◌≤◌, ℕ, zero, suc, Bool, true, false, cond, List, [], ◌∷◌, Some, None}
 use Rattle.std.proofs.Common.{length, take, drop, position, refl, sym, ap, ◌∙◌, arith, take_all}
-use Rattle.std.specs.List.{before_first, after_first, position_or_len, prefix_len}
+use Rattle.std.specs.List.{position_or_len, prefix_len}
 use Rattle.std.specs.Prelude.{if◌then◌else◌, not, slice_index}
-use Rattle.std.proofs.lemmas.List.{drop_all}
 use Rattle.std.proofs.lemmas.List.Quantifiers.{position-Some}
-use Rattle.std.proofs.lemmas.Bool.Decides.{nat_tests}
-use Rattle.mail_base.specs.Lines.{is_blank}
+use Rattle.mail_base.specs.Blanks.{is_blank}
+use Rattle.mail_base.proofs.PlacesLemmas.{place_none}
 use Rattle.folder_core.specs.Mbox.{first_some, stamp, stamp_behind}
-
-pub before_first-Some : (p : ℕ → Bool) (xs : List ℕ) (k : ℕ) → Some k ≡ position p xs → take k xs ≡ before_first p xs
-before_first-Some p xs k h = ap (λ n. take n xs) (grind (arith, nat_tests))
-
-pub after_first-Some : (p : ℕ → Bool) (xs : List ℕ) (k : ℕ) → Some k ≡ position p xs
-    → drop (k + 1) xs ≡ after_first p xs
-after_first-Some p xs k h = ap (λ n. drop (n + 1) xs) (grind (arith, nat_tests))
-
-pub before_first-None : (p : ℕ → Bool) (xs : List ℕ) → None ≡ position p xs → xs ≡ before_first p xs
-before_first-None p xs h =
-    let past : length xs ≤ position_or_len p xs = grind (arith, nat_tests) in
-    sym (take_all (position_or_len p xs) xs past)
-
-pub after_first-None : (p : ℕ → Bool) (xs : List ℕ) → None ≡ position p xs → [] ≡ after_first p xs
-after_first-None p xs h =
-    let past : length xs ≤ position_or_len p xs = grind (arith, nat_tests) in
-    sym (drop_all (position_or_len p xs + 1) xs (omega arith))
 
 -- the stamp that stands behind a blank of a text
 stamp_behind-blank : (text : List ℕ) (k : ℕ) → k < length text → is_blank (slice_index text k) ≡ true
@@ -57,5 +39,4 @@ stamp_behind-Some text k h =
 
 pub stamp_behind-None : (text : List ℕ) → position is_blank text ≡ None → stamp_behind text ≡ None
 stamp_behind-None text h =
-    let past : length text ≤ position_or_len is_blank text = grind (arith, nat_tests) in
-    stamp_behind-no_blank text past
+    stamp_behind-no_blank text (place_none is_blank text h)
