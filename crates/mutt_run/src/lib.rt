@@ -19,7 +19,6 @@ mod screen;
 mod session;
 mod show;
 mod status;
-mod subject;
 mod turn;
 mod words;
 

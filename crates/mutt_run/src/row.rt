@@ -5,8 +5,8 @@ ghost use Rattle.mutt_run.specs.Screen as spec;
 ghost use Rattle.mutt_run.specs.Subject.{subject_of};
 
 use crate::columns::cut;
-use crate::subject::text_subject;
 use folder_core::{Archive, Listed};
+use headers::read_subject;
 use mail_base::{Bytes, Flags, Id, Line, NoMemory};
 use std::alloc::Global;
 
@@ -63,6 +63,7 @@ fn read_char(flags: Flags) -> u8
 }
 
 /// The subject of an id's letter; empty where the archive has none.
+#[tactic(auto, unfolding(crate::specs::Subject::text_subject))]
 fn letter_subject(alloc: Global, archive: &Archive, id: Id) -> Result<Line, NoMemory>
     ensures { IfOk result (λ subject. subject.items
         ≡ subject_of (spec.letter_at (map plain_letter archive.now.items) id.0)) }
@@ -70,9 +71,9 @@ fn letter_subject(alloc: Global, archive: &Archive, id: Id) -> Result<Line, NoMe
     match archive.get(id.0 as usize) {
         Some(letter) => {
             let text = letter.core.as_slice().get(letter.text_at..).unwrap_or(b"");
-            text_subject(alloc, text)
+            read_subject(alloc, text)
         }
-        None => text_subject(alloc, b""),
+        None => read_subject(alloc, b""),
     }
 }
 
