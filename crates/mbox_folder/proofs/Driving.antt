@@ -32,7 +32,7 @@ saw_listed : (file : FileRead) (found : Found) (archive new_archive : List Mail)
     → IsListedFile file.bytes.items archive new_archive found.came.items
     → GoesOn (FileSeen (Ok file) known.path) old new
     → GoesOn (Saw Mbox archive new_archive (known_file known found.came.items file) (Ok found)) old new
-saw_listed file found archive new_archive known None new listed seen = tt
+saw_listed file found archive new_archive known None new listed seen = seen
 saw_listed file found archive new_archive known (Some past) None listed seen = absurd seen
 saw_listed file found archive new_archive known (Some past) (Some next) listed seen = record {
   mark = seen.mark;
@@ -73,7 +73,7 @@ read_tells NoMemory tree archive new_archive known is = tt
 
 pub saw_unread : (why : ScanError) (archive new_archive : List Mail) (known : KnownFolder) (old new : Option Past)
     → GoesOn (FileSeen (Err why) known.path) old new → GoesOn (Saw Mbox archive new_archive known (Err why)) old new
-saw_unread why archive new_archive known None new seen = tt
+saw_unread why archive new_archive known None new seen = seen
 saw_unread why archive new_archive known (Some past) None seen = absurd seen
 saw_unread why archive new_archive known (Some past) (Some next) seen = record {
   mark = seen.mark;
@@ -100,7 +100,7 @@ saw_known : (why : ScanError) (file : FileRead) (archive new_archive : List Mail
     (old new : Option Past)
     → IsUnlisted file.bytes.items (length archive) why
     → GoesOn (FileSeen (Ok file) known.path) old new → GoesOn (Saw Mbox archive new_archive known (Err why)) old new
-saw_known why file archive new_archive known None new told seen = tt
+saw_known why file archive new_archive known None new told seen = seen
 saw_known why file archive new_archive known (Some past) None told seen = absurd seen
 saw_known why file archive new_archive known (Some past) (Some next) told seen = record {
   mark = seen.mark;

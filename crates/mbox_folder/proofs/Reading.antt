@@ -139,7 +139,7 @@ file_told : (answer : Result ReadPair DiskError) (result : Result FileRead ScanE
     → LooksOnly old new
     → ((there : Option TreeNode) → IsJudged answer (read_at there most_bytes) → IsRead result there)
     → GoesOn (FileSeen result path) old new
-file_told answer result path None new step looks tells = tt
+file_told answer result path None new step looks tells = step
 file_told answer result path (Some past) None step looks tells = absurd step
 file_told answer result path (Some past) (Some next) step looks tells =
     let met = met_at answer (ReadAll path most_bytes) (λ tree. read_of tree path most_bytes) past next step in
@@ -159,7 +159,7 @@ ReadCalled answer path old new = Called answer (ReadAll path most_bytes) (λ tre
 pub ok_seen : (file : FileRead) (path : List ℕ) (old new : Option Past)
     → ReadCalled (Ok (file.stat, file.bytes.items)) path old new
     → LooksOnly old new → GoesOn (FileSeen (Ok file) path) old new
-ok_seen file path old new step looks = file_told (Ok (file.stat, file.bytes.items)) (Ok file) path old new step looks
+ok_seen file path old new step looks = file_told (Ok (file.stat, file.bytes.items)) (Ok file) path old new step.goes looks
     (λ there judged. node_ok file there judged)
 
 called_as : (e f : DiskError) (path : List ℕ) (old new : Option Past) → e ≡ f → ReadCalled (Err e) path old new
@@ -170,34 +170,34 @@ pub missing_seen : (e : DiskError) (path : List ℕ) (old new : Option Past) →
     → ReadCalled (Err e) path old new
     → LooksOnly old new → GoesOn (FileSeen (Err NoFolder) path) old new
 missing_seen e path old new is step looks =
-    file_told (Err Missing) (Err NoFolder) path old new (called_as e Missing path old new is step) looks
+    file_told (Err Missing) (Err NoFolder) path old new (called_as e Missing path old new is step).goes looks
     (λ there judged. node_missing there judged)
 
 pub wrong_seen : (e : DiskError) (path : List ℕ) (old new : Option Past) → e ≡ WrongNode
     → ReadCalled (Err e) path old new
     → LooksOnly old new → GoesOn (FileSeen (Err (NotMailbox 0)) path) old new
 wrong_seen e path old new is step looks =
-    file_told (Err WrongNode) (Err (NotMailbox 0)) path old new (called_as e WrongNode path old new is step) looks
+    file_told (Err WrongNode) (Err (NotMailbox 0)) path old new (called_as e WrongNode path old new is step).goes looks
     (λ there judged. node_wrong there judged)
 
 pub long_seen : (e : DiskError) (size : ℕ) (path : List ℕ) (old new : Option Past) → e ≡ Long size
     → ReadCalled (Err e) path old new
     → LooksOnly old new → GoesOn (FileSeen (Err (TooLarge size)) path) old new
 long_seen e size path old new is step looks =
-    file_told (Err (Long size)) (Err (TooLarge size)) path old new (called_as e (Long size) path old new is step) looks
+    file_told (Err (Long size)) (Err (TooLarge size)) path old new (called_as e (Long size) path old new is step).goes looks
     (λ there judged. node_long size there judged)
 
 pub fault_seen : (e : DiskError) (path : List ℕ) (old new : Option Past) → e ≡ Fault → ReadCalled (Err e) path old new
     → LooksOnly old new → GoesOn (FileSeen (Err FolderFault) path) old new
 fault_seen e path old new is step looks =
-    file_told (Err Fault) (Err FolderFault) path old new (called_as e Fault path old new is step) looks
+    file_told (Err Fault) (Err FolderFault) path old new (called_as e Fault path old new is step).goes looks
     (λ there judged. tt)
 
 -- for want of memory nothing was called
 pub memory_seen : (e : DiskError) (path : List ℕ) (old new : Option Past) → e ≡ NoMemory
     → ReadCalled (Err e) path old new
     → LooksOnly old new → GoesOn (FileSeen (Err WantOfMemory) path) old new
-memory_seen e path None new is step looks = tt
+memory_seen e path None new is step looks = looks
 memory_seen e path (Some past) None is step looks = absurd looks
 memory_seen e path (Some past) (Some next) is step looks =
     let longer = length_longer past next (looked_longer past next looks) in

@@ -4,11 +4,12 @@
 mod environment;
 
 use crate::environment::command_words;
-use disk_model::{Device, RealDisk};
+use disk_model::Device;
 use folder_core::{Archive, Drivers};
 use mail_base::{RealClock, StdSink, StdSource};
 use mbox_folder::MboxDriver;
 use mutt_run::{Events, Status, Trace, run};
+use real_disk::RealDisk;
 use std::io;
 use std::process::ExitCode;
 

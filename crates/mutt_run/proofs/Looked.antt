@@ -7,7 +7,7 @@ use Rattle.disk_model.specs.Journal.{Past, Entry, Own, Others, NoForeign, has_fo
 use Rattle.disk_model.specs.Judge.{GoesOn}
 use Rattle.disk_model.specs.Looking.{HasLooked, LooksOnly}
 use Rattle.disk_model.specs.State.{tree_at}
-use Rattle.disk_model.proofs.Looking.{looked_longer}
+use Rattle.disk_model.proofs.Looking.{looked_longer, looks_silent}
 use Rattle.disk_model.proofs.Marks.{tree_at-longer}
 use Rattle.folder_core.specs.Kinds.{KindSeen, kind_at}
 use Rattle.folder_core.specs.Known.{KnownFolder}
@@ -51,7 +51,7 @@ alone_later old mid new first then none =
 -- no driver reads a folder of this kind
 pub kind_told : (kind : Kind) (path : List ℕ) (old new : Option Past) → GoesOn (KindSeen (Ok kind) path) old new
     → GoesOn (λ (o n : Past). WasKind path kind (length o.journal) (length n.journal) n) old new
-kind_told kind path None new seen = tt
+kind_told kind path None new seen = seen
 kind_told kind path (Some o) None seen = absurd seen
 kind_told kind path (Some o) (Some n) seen = record
     { look = seen.mark; from = seen.from; to = seen.to; kind_is = sym seen.is }
@@ -82,7 +82,7 @@ pub found_told : (kind : Kind) (path : List ℕ) (before archive : List Mail) (k
     → GoesOn (Saw kind before archive known (Ok found)) mid new
     → GoesOn (λ (o n : Past). WasOpened archive path kind found.came.items (length o.journal) (length n.journal) o n)
     old new
-found_told kind path before archive known found None mid new none at seen first then saw = tt
+found_told kind path before archive known found None mid new none at seen first then saw = looks_silent mid new seen then
 found_told kind path before archive known found (Some o) None new none at seen first then saw = absurd seen
 found_told kind path before archive known found (Some o) (Some m) None none at seen first then saw = absurd then
 found_told kind path before archive known found (Some o) (Some m) (Some n) none at seen first then saw =
@@ -131,7 +131,7 @@ pub refused_told : (kind : Kind) (path : List ℕ) (why : ScanError) (before arc
     → GoesOn (KindSeen (Ok kind) path) old mid → LooksOnly mid new
     → GoesOn (Saw kind before archive known (Err why)) mid new
     → GoesOn (λ (o n : Past). WasRefused path (Folder why) (length o.journal) (length n.journal) n) old new
-refused_told kind path why before archive known None mid new none at seen then saw = tt
+refused_told kind path why before archive known None mid new none at seen then saw = looks_silent mid new seen then
 refused_told kind path why before archive known (Some o) None new none at seen then saw = absurd seen
 refused_told kind path why before archive known (Some o) (Some m) None none at seen then saw = absurd then
 refused_told kind path why before archive known (Some o) (Some m) (Some n) none at seen then saw =

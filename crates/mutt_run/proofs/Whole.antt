@@ -115,7 +115,7 @@ happened_append archive (e ∷ events) more old new all keys =
 happened_told : (archive : List Mail) (events more : List Happening) (old new : Option Past)
     → GoesOn (AllHappened archive events) old new → AreKeys more
     → GoesOn (AllHappened archive (events ++ more)) old new
-happened_told archive events more None new all keys = tt
+happened_told archive events more None new all keys = all
 happened_told archive events more (Some o) None all keys = absurd all
 happened_told archive events more (Some o) (Some n) all keys = happened_append archive events more o n all keys
 
