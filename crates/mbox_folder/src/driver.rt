@@ -19,6 +19,12 @@ use std::alloc::Global;
 #[derive(Drop)]
 pub struct MboxDriver;
 
+impl MboxDriver {
+    pub fn new() -> Self {
+        MboxDriver
+    }
+}
+
 impl Driver for MboxDriver {
     ghost sort = { λ driver. Mbox };
 
@@ -53,7 +59,7 @@ fn scan_file(
     ensures err_archive { OnErr result (archive.new.items ≡ archive.old.items) }
     ensures err_known { OnErr result (known.new ≡ known.old) }
     ensures full { IsErrOf result ScanError.ArchiveFull
-        → most_letters < length archive.old.items + (most_messages + 1) }
+        → most_letters < length archive.old.items + most_messages }
     ensures looks { LooksOnly (seen disk.old).told (seen disk.new).told }
     ensures marks { (seen disk.old).marks ≤ (seen disk.new).marks }
     ensures faults { (seen disk.old).faults ≤ (seen disk.new).faults }

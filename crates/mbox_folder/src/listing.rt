@@ -1,6 +1,7 @@
 ghost use Rattle.std.specs.Prelude.{◌≡◌, ◌≤◌, ◌+◌, ◌++◌, ◌^◌, ◌<◌, length, map, take, IfOk, IfErr};
 ghost use Rattle.folder_core.specs.Letters.{plain_letter};
-ghost use Rattle.folder_core.specs.Mbox.{raw_messages, regions as regions_lem, status};
+ghost use Rattle.folder_core.specs.Mbox.{IsClockMoment, raw_messages, received as received_lem, regions as regions_lem};
+ghost use Rattle.folder_core.specs.Mbox.{status};
 ghost use Rattle.folder_core.specs.Reads.{count_refusal as count_refusal_lem, letters_from, listed_from, mbox_letter};
 ghost use Rattle.folder_core.specs.Reads.{most_letters};
 ghost use Rattle.mbox_folder.specs.ListedFile.{IsListedFile, IsUnlisted};
@@ -87,14 +88,22 @@ fn list_messages(
 fn letter_of(alloc: Global, raw: &[u8], id: u32) -> Result<Letter, NoMemory>
     ensures { IfOk result (λ letter. plain_letter letter ≡ mbox_letter id raw.now) }
 {
-    let postmark = first_line(raw);
+    let core = core_of(alloc, raw)?;
     Ok(Letter {
         order: u64::from(id),
         key: Bytes::new(alloc),
-        core: core_of(alloc, raw)?,
-        text_at: postmark.len(),
-        received: read_postmark(postmark).unwrap_or(0),
+        text_at: first_line(core.as_slice()).len(),
+        core,
+        received: received(raw),
     })
+}
+
+/// The moment of a message's postmark, or 0 where it has none.
+fn received(raw: &[u8]) -> i64
+    ensures value { result ≡ received_lem raw.now }
+    ensures range { IsClockMoment result }
+{
+    read_postmark(first_line(raw)).unwrap_or(0)
 }
 
 fn listed(raw: &[u8], id: u32) -> Listed

@@ -8,7 +8,8 @@ use mail_base::{blank_at, without_feed};
 /// The line stands with the LF that ends it, or without.
 #[tactic(auto, unfolding(folder_core::specs::Mbox::postmark))]
 pub fn read_postmark(line: &[u8]) -> Option<i64>
-    ensures { result ≡ spec.postmark line.now }
+    ensures value { result ≡ spec.postmark line.now }
+    ensures range { IfSome result spec.IsClockMoment }
 {
     let text = line.strip_prefix(b"From ".as_slice())?;
     stamp_behind(without_feed(text))
@@ -35,7 +36,8 @@ fn behind_blank(text: &[u8]) -> Option<&[u8]>
 
 /// The moment of a stamp that stands behind a blank at the end of the text.
 fn stamp_behind(text: &[u8]) -> Option<i64>
-    ensures { result ≡ spec.stamp_behind text.now }
+    ensures value { result ≡ spec.stamp_behind text.now }
+    ensures range { IfSome result spec.IsClockMoment }
 {
     let mut left = text;
     while let Some(rest) = behind_blank(left) {

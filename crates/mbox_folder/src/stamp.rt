@@ -13,7 +13,8 @@ const LAST_SECOND: i64 = 253_000_000_000;
 /// The moment of a time stamp as `Thu Jan  1 00:00:10 1970`, which has to be the whole text.
 #[tactic(auto, unfolding(folder_core::specs::Mbox::stamp))]
 pub fn read_stamp(text: &[u8]) -> Option<i64>
-    ensures { result ≡ spec.stamp text.now }
+    ensures value { result ≡ spec.stamp text.now }
+    ensures range { IfSome result spec.IsClockMoment }
 {
     if !is_weekday(first_word(text)) {
         return None;
@@ -224,7 +225,8 @@ fn moment_of(month: u8, day: u8, clock: u32, ending: (u16, i32)) -> Option<i64>
     requires day { day < 100 }
     requires clock { clock < 86_400 }
     requires ending { IsEnding ending }
-    ensures { result ≡ spec.moment_of (Some month) (Some day) (Some clock) (Some ending) }
+    ensures value { result ≡ spec.moment_of (Some month) (Some day) (Some clock) (Some ending) }
+    ensures range { IfSome result spec.IsClockMoment }
 {
     let (year, offset) = ending;
     let start = midnight(year, month, day)?;
@@ -236,7 +238,8 @@ fn moment_at(start: i64, clock: u32, offset: i32) -> i64
     requires start { IsMidnight start }
     requires clock { clock < 86_400 }
     requires offset { IsOffset offset }
-    ensures { result ≡ spec.in_clock_range (start +ℤ pos clock -ℤ offset) }
+    ensures value { result ≡ spec.in_clock_range (start +ℤ pos clock -ℤ offset) }
+    ensures range { spec.IsClockMoment result }
 {
     (start + i64::from(clock) - i64::from(offset)).clamp(0, LAST_SECOND)
 }

@@ -29,18 +29,18 @@ module _ (Has : Kind → Type 0) (path : List ℕ) (before after : ℕ) (new : P
   no_kind : (why : ScanError) → WasNoKind path why before after new → ⊥
   no_kind why was = readable.there was.look why was.from was.to was.kind_is
 
-  listed : (why : ScanError) → WasNotListed path why before after new → ⊥
+  listed : (why : ScanError) → WasNotListed Has path why before after new → ⊥
   listed why was =
       let none = readable.taken was.look was.seen was.kind was.from was.then was.to was.kind_is in
       let some = was.refused in
       cc
 
   refused_neither : (why : ScanError)
-      → WasNoKind path why before after new ⊎ WasNotListed path why before after new → ⊥
+      → WasNoKind path why before after new ⊎ WasNotListed Has path why before after new → ⊥
   refused_neither why (inl was) = no_kind why was
   refused_neither why (inr was) = listed why was
 
-  pub not_refused : (why : OpenFault) (faults faults' : ℕ) → IsStated why → WasRefused path why before after new
+  pub not_refused : (why : OpenFault) (faults faults' : ℕ) → IsStated why → WasRefused Has path why before after new
       → IsCause Has why faults faults' → ⊥
   not_refused Taken faults faults' stated was cause = stated
   not_refused (NoDriver kind) faults faults' stated was cause =
@@ -59,7 +59,7 @@ module _ (Has : Kind → Type 0) (choice : Choice) (archive : List Mail) (old ne
   -- the folder was refused with a cause of the tree
   not_opened : (a b : Option Past) (why : OpenFault) (events : List Happening)
       → IsReadableTold Has (folder_of choice) old.marks new.marks a b
-      → IsRunFrom choice Unopened events → GoesOn (AllHappened archive events) a b → AllCounted Has old new events
+      → IsRunFrom choice Unopened events → GoesOn (AllHappened Has archive events) a b → AllCounted Has old new events
       → IsStated why → IsRefused why events → ⊥
   not_opened None b why events readable run happened counted stated refused = readable
   not_opened (Some p) None why events readable run happened counted stated refused = readable
@@ -93,7 +93,7 @@ module _ (Has : Kind → Type 0) (choice : Choice) (archive : List Mail) (old ne
 
   plain_end : (status : Status) (events : List Happening)
       → IsReadableTold Has (folder_of choice) old.marks new.marks old.told new.told
-      → IsRunFrom choice Unopened events → GoesOn (AllHappened archive events) old.told new.told
+      → IsRunFrom choice Unopened events → GoesOn (AllHappened Has archive events) old.told new.told
       → AllCounted Has old new events → EndsAs choice status events left → IsNoUsage status
       → (Rose old.faults new.faults → ⊥) → (status ≡ KeysFault → ⊥) → (status ≡ OutFault → ⊥) → IsPlainEnd status
   plain_end Done events readable run happened counted ends words disk keys out = tt

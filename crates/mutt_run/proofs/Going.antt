@@ -24,6 +24,7 @@ use Rattle.mutt_run.specs.declared.key.Key.TheVariants.{Char}
 use Rattle.mutt_run.specs.declared.place.Next.TheVariants.{Go, Quit}
 use Rattle.mutt_run.specs.declared.status.Status.{Status}
 use Rattle.mutt_run.specs.declared.status.Status.TheVariants.{Done, OutFault, NoMemory}
+use Rattle.mutt_run.specs.Taken.{most_keys}
 
 -- Lists of events that grow by one.
 
@@ -198,6 +199,11 @@ module _ (choice : Choice) (archive : List Mail) (view v : View) (old mid new : 
       → Went choice archive view Over old new out out2 keys keys2 clock clock2 []
   went_quit at sent = went_on Over [] (ap stage_of at) (sent_all out1 out2 [] sent) (omega arith)
 
+  pub quit_count : (at : after_key v (Char b) ≡ None) (sent : Appends out1 out2 [])
+      → length (went_quit at sent).bytes ≡ length went.bytes + 1
+  unfolding went_quit went_on
+  quit_count at sent = length-append went.bytes (b ∷ [])
+
   pub went_count : (next : View) (rest : List ℕ) (at : after_key v (Char b) ≡ Some next)
       (sent : Sent out1 out2 (screen archive next) rest)
       → length (went_go next rest at sent).bytes ≡ length went.bytes + 1
@@ -242,16 +248,18 @@ pub ends_between : (status : Status) (choice : Choice) (archive : List Mail) (vi
     (turns : ℕ)
     → Gone choice archive view (Reading v) old new out out' keys keys1 clock clock' [] turns → new2 ≡ new
     → Keeps keys1 keys2
-    → EndsKeys status (Reading v) turns keys2 []
+    → EndsKeys status (Reading v) turns keys2 [] → turns ≤ most_keys
     → GoesToEnd choice archive view status old new2 out out' keys keys2 clock clock'
 unfolding went_keeps
 ends_between status choice archive view v old new new2 out out' keys keys1 keys2 clock clock' turns gone same keeps ends
-    = record {
+    low = record {
       stage = Reading v;
       rest = [];
       went = went_keeps choice archive view (Reading v) old new new2 out out' keys keys1 keys2 clock clock' [] gone.went
           same keeps;
       ends = subst (λ (n : ℕ). EndsKeys status (Reading v) n keys2 []) (sym gone.count) ends;
+      few = subst (λ (n : ℕ). n ≤ most_keys) (sym gone.count) low;
+      whole = λ over. absurd over;
     }
 
 ends_free : (status : Status) (stage : Stage) (count : ℕ) (left : Option (List ℕ)) (rest : List ℕ)
@@ -284,21 +292,25 @@ module _ (choice : Choice) (archive archive1 : List Mail) (view v next : View) (
       }
 
   -- and it ended the run
-  pub ends_quit : Turned (Ok Quit) archive1 v next (Char b) out1 out2
+  pub ends_quit : Turned (Ok Quit) archive1 v next (Char b) out1 out2 → turns + 1 ≤ most_keys
       → GoesToEnd choice archive view Done old new out out2 keys keys2 clock clock2
-  ends_quit turned = record {
+  ends_quit turned low = record {
     stage = Over;
     rest = [];
     went = went_quit choice archive view v old mid new out out1 out2 keys keys1 keys2 clock clock1 clock2 b event.0
         gone.went put byte event.2 turned.0 turned.1;
     ends = (tt, refl);
+    few = subst (λ (n : ℕ). n ≤ most_keys)
+        (sym (quit_count choice archive view v old mid new out out1 out2 keys keys1 keys2 clock clock1 clock2 b event.0
+        gone.went put byte event.2 turned.0 turned.1 ∙ ap (λ (n : ℕ). n + 1) gone.count)) low;
+    whole = λ over. refl;
   }
 
   -- and its screen was not printed whole
   pub ends_fault : (status : Status) → (status ≡ OutFault) ⊎ (status ≡ NoMemory)
-      → Turned (Err status) archive1 v next (Char b) out1 out2
+      → Turned (Err status) archive1 v next (Char b) out1 out2 → turns + 1 ≤ most_keys
       → GoesToEnd choice archive view status old new out out2 keys keys2 clock clock2
-  ends_fault status which turned =
+  ends_fault status which turned low =
       let sent : Sent out1 out2 (screen archive next) turned.1.0 =
       subst (λ (a : List Mail). Sent out1 out2 (screen a next) turned.1.0) same_archive turned.1.1 in
       record {
@@ -307,4 +319,8 @@ module _ (choice : Choice) (archive archive1 : List Mail) (view v next : View) (
         went = went_go choice archive view v old mid new out out1 out2 keys keys1 keys2 clock clock1 clock2 b event.0
             gone.went put byte event.2 next turned.1.0 turned.0 sent;
         ends = ends_free status (Reading next) _ keys2 turned.1.0 which;
+        few = subst (λ (n : ℕ). n ≤ most_keys)
+            (sym (went_count choice archive view v old mid new out out1 out2 keys keys1 keys2 clock clock1 clock2 b
+            event.0 gone.went put byte event.2 next turned.1.0 turned.0 sent ∙ ap (λ (n : ℕ). n + 1) gone.count)) low;
+        whole = λ over. absurd over;
       }

@@ -6,3 +6,4 @@ pub mod Printing
 pub mod Shape
 pub mod Whole
 pub mod Completing
+pub mod OpenLemmas

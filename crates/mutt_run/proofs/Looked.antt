@@ -90,12 +90,13 @@ found_told kind path before archive known found (Some o) (Some m) (Some n) none 
     (subst (λ (b : List Mail). Saw kind b archive known (Ok found) m n) none saw)
 
 -- the folder was not listed
-not_listed : (kind : Kind) (path : List ℕ) (why : ScanError) (known : KnownFolder) (mark : ℕ) (old mid new : Past)
+not_listed : (Has : Kind → Type 0) (kind : Kind) (path : List ℕ) (why : ScanError) (known : KnownFolder) (mark : ℕ) (old mid new : Past)
     → known.path ≡ path → length mid.journal ≤ mark
     → mark ≤ length new.journal → KindSeen (Ok kind) path old mid → HasLooked mid new
-    → refusal kind 0 (tree_at new mark) known.path ≡ Some why
-    → WasNotListed path why (length old.journal) (length new.journal) new
-not_listed kind path why known mark old mid new at low high seen then refused = record {
+    → refusal kind 0 (tree_at new mark) known.path ≡ Some why → Has kind
+    → WasNotListed Has path why (length old.journal) (length new.journal) new
+not_listed Has kind path why known mark old mid new at low high seen then refused has = record {
+  driver = has;
   kind = kind;
   look = seen.mark;
   seen = mark;
@@ -106,35 +107,35 @@ not_listed kind path why known mark old mid new at low high seen then refused = 
   refused = subst (λ (p : List ℕ). refusal kind 0 (tree_at new mark) p ≡ Some why) at refused;
 }
 
-refused_past : (kind : Kind) (path : List ℕ) (why : ScanError) (archive : List Mail) (known : KnownFolder) (mark : ℕ)
+refused_past : (Has : Kind → Type 0) (kind : Kind) (path : List ℕ) (why : ScanError) (archive : List Mail) (known : KnownFolder) (mark : ℕ)
     (old mid new : Past) → known.path ≡ path
     → length mid.journal ≤ mark → mark ≤ length new.journal → KindSeen (Ok kind) path old mid → HasLooked mid new
-    → IsScanned kind (tree_at new mark) [] archive known (Err why)
-    → WasRefused path (Folder why) (length old.journal) (length new.journal) new
-refused_past kind path Fault archive known mark old mid new at low high seen then refused = tt
-refused_past kind path NoMemory archive known mark old mid new at low high seen then refused = tt
-refused_past kind path Missing archive known mark old mid new at low high seen then refused =
-    inr (not_listed kind path Missing known mark old mid new at low high seen then refused)
-refused_past kind path (NotMailbox n) archive known mark old mid new at low high seen then refused =
-    inr (not_listed kind path (NotMailbox n) known mark old mid new at low high seen then refused)
-refused_past kind path (TooMany n) archive known mark old mid new at low high seen then refused =
-    inr (not_listed kind path (TooMany n) known mark old mid new at low high seen then refused)
-refused_past kind path (TooLarge n) archive known mark old mid new at low high seen then refused =
-    inr (not_listed kind path (TooLarge n) known mark old mid new at low high seen then refused)
-refused_past kind path Unfinished archive known mark old mid new at low high seen then refused =
-    inr (not_listed kind path Unfinished known mark old mid new at low high seen then refused)
-refused_past kind path ArchiveFull archive known mark old mid new at low high seen then refused =
-    inr (not_listed kind path ArchiveFull known mark old mid new at low high seen then refused)
+    → IsScanned kind (tree_at new mark) [] archive known (Err why) → Has kind
+    → WasRefused Has path (Folder why) (length old.journal) (length new.journal) new
+refused_past Has kind path Fault archive known mark old mid new at low high seen then refused has = tt
+refused_past Has kind path NoMemory archive known mark old mid new at low high seen then refused has = tt
+refused_past Has kind path Missing archive known mark old mid new at low high seen then refused has =
+    inr (not_listed Has kind path Missing known mark old mid new at low high seen then refused has)
+refused_past Has kind path (NotMailbox n) archive known mark old mid new at low high seen then refused has =
+    inr (not_listed Has kind path (NotMailbox n) known mark old mid new at low high seen then refused has)
+refused_past Has kind path (TooMany n) archive known mark old mid new at low high seen then refused has =
+    inr (not_listed Has kind path (TooMany n) known mark old mid new at low high seen then refused has)
+refused_past Has kind path (TooLarge n) archive known mark old mid new at low high seen then refused has =
+    inr (not_listed Has kind path (TooLarge n) known mark old mid new at low high seen then refused has)
+refused_past Has kind path Unfinished archive known mark old mid new at low high seen then refused has =
+    inr (not_listed Has kind path Unfinished known mark old mid new at low high seen then refused has)
+refused_past Has kind path ArchiveFull archive known mark old mid new at low high seen then refused has =
+    inr (not_listed Has kind path ArchiveFull known mark old mid new at low high seen then refused has)
 
-pub refused_told : (kind : Kind) (path : List ℕ) (why : ScanError) (before archive : List Mail) (known : KnownFolder)
+pub refused_told : (Has : Kind → Type 0) (kind : Kind) (path : List ℕ) (why : ScanError) (before archive : List Mail) (known : KnownFolder)
     (old mid new : Option Past) → before ≡ [] → known.path ≡ path
     → GoesOn (KindSeen (Ok kind) path) old mid → LooksOnly mid new
-    → GoesOn (Saw kind before archive known (Err why)) mid new
-    → GoesOn (λ (o n : Past). WasRefused path (Folder why) (length o.journal) (length n.journal) n) old new
-refused_told kind path why before archive known None mid new none at seen then saw = looks_silent mid new seen then
-refused_told kind path why before archive known (Some o) None new none at seen then saw = absurd seen
-refused_told kind path why before archive known (Some o) (Some m) None none at seen then saw = absurd then
-refused_told kind path why before archive known (Some o) (Some m) (Some n) none at seen then saw =
+    → GoesOn (Saw kind before archive known (Err why)) mid new → Has kind
+    → GoesOn (λ (o n : Past). WasRefused Has path (Folder why) (length o.journal) (length n.journal) n) old new
+refused_told Has kind path why before archive known None mid new none at seen then saw has = looks_silent mid new seen then
+refused_told Has kind path why before archive known (Some o) None new none at seen then saw has = absurd seen
+refused_told Has kind path why before archive known (Some o) (Some m) None none at seen then saw has = absurd then
+refused_told Has kind path why before archive known (Some o) (Some m) (Some n) none at seen then saw has =
     let first : Saw kind [] archive known (Err why) m n = subst
     (λ (b : List Mail). Saw kind b archive known (Err why) m n) none saw in
-    refused_past kind path why archive known first.mark o m n at first.from first.to seen then first.seen
+    refused_past Has kind path why archive known first.mark o m n at first.from first.to seen then first.seen has

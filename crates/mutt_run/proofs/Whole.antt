@@ -1,5 +1,5 @@
 -- A run from the opening on: its folder is shown, and then keys go on.
-use Rattle.std.proofs.Common.{◌≡◌, ◌≤◌, ℕ, ℤ, List, [], ◌∷◌, ◌++◌, ◌⊎◌, inl, inr, Option, Some, None, Result, Ok, Err}
+use Rattle.std.proofs.Common.{◌≡◌, ◌≤◌, ℕ, ℤ, List, [], ◌∷◌, ◌++◌, ◌⊎◌, inl, inr, Option, Some, None, Result, Ok, Err, IfErr}
 use Rattle.std.proofs.Common.{length, refl, sym, ◌∙◌, ap, subst, arith}
 use Rattle.std.proofs.lemmas.List.{append-nil, length-map}
 use Rattle.std.specs.Io.KnownBytes.{Appends}
@@ -16,7 +16,8 @@ use Rattle.mutt_run.specs.Events.{Happening, KeyPressed, FolderOpened, FolderRef
 use Rattle.mutt_run.specs.Keys.{after_key}
 use Rattle.mutt_run.specs.Happened.{AllCounted, AllHappened}
 use Rattle.mutt_run.specs.Moments.{Clocked, Gives, IsStart, pressed_moments}
-use Rattle.mutt_run.specs.Opening.{IsShown, Opens}
+use Rattle.mutt_run.specs.Notes.{TellsNote}
+use Rattle.mutt_run.specs.Opening.{IsEnd, IsShown, Opens}
 use Rattle.mutt_run.specs.Place.{View}
 use Rattle.mutt_run.specs.Printed.{EndsAs, IsChosen, IsDone, IsNoUsage, IsOpened, IsReading, Prints, PrintsBut}
 use Rattle.mutt_run.specs.Printed.{last_length}
@@ -33,6 +34,8 @@ use Rattle.mutt_run.specs.declared.status.Status.TheVariants.{Done, Usage, NotOp
 use Rattle.mutt_run.specs.declared.status.Status.TheVariants.{NoMemory, TooManyKeys}
 use Rattle.mutt_run.proofs.Going.{after-append, run-append, screens-append, keys-append, moments-append, consumes_none}
 use Rattle.mutt_run.proofs.Going.{gives_none, gives_then, sent_short, sent_then, sent_all}
+use Rattle.mutt_run.specs.Happened.{AllListed}
+use Rattle.mutt_run.specs.Printed.{IsOver}
 
 -- The events of an opening alone.
 
@@ -102,22 +105,22 @@ start_append start (FolderOpened path kind moment came marks ∷ events) more be
     (begun.0, start_append start events more begun.1 keys)
 start_append start (FolderRefused path why marks ∷ events) more begun keys = start_append start events more begun keys
 
-happened_append : (archive : List Mail) (events more : List Happening) (old new : Past)
-    → AllHappened archive events old new → AreKeys more → AllHappened archive (events ++ more) old new
-happened_append archive [] [] old new all keys = tt
-happened_append archive [] (KeyPressed key moment ∷ more) old new all keys =
-    (tt, happened_append archive [] more old new tt keys)
-happened_append archive [] (FolderOpened path kind moment came marks ∷ more) old new all keys = absurd keys
-happened_append archive [] (FolderRefused path why marks ∷ more) old new all keys = absurd keys
-happened_append archive (e ∷ events) more old new all keys =
-    (all.0, happened_append archive events more old new all.1 keys)
+happened_append : (Has : Kind → Type 0) (archive : List Mail) (events more : List Happening) (old new : Past)
+    → AllHappened Has archive events old new → AreKeys more → AllHappened Has archive (events ++ more) old new
+happened_append Has archive [] [] old new all keys = tt
+happened_append Has archive [] (KeyPressed key moment ∷ more) old new all keys =
+    (tt, happened_append Has archive [] more old new tt keys)
+happened_append Has archive [] (FolderOpened path kind moment came marks ∷ more) old new all keys = absurd keys
+happened_append Has archive [] (FolderRefused path why marks ∷ more) old new all keys = absurd keys
+happened_append Has archive (e ∷ events) more old new all keys =
+    (all.0, happened_append Has archive events more old new all.1 keys)
 
-happened_told : (archive : List Mail) (events more : List Happening) (old new : Option Past)
-    → GoesOn (AllHappened archive events) old new → AreKeys more
-    → GoesOn (AllHappened archive (events ++ more)) old new
-happened_told archive events more None new all keys = all
-happened_told archive events more (Some o) None all keys = absurd all
-happened_told archive events more (Some o) (Some n) all keys = happened_append archive events more o n all keys
+happened_told : (Has : Kind → Type 0) (archive : List Mail) (events more : List Happening) (old new : Option Past)
+    → GoesOn (AllHappened Has archive events) old new → AreKeys more
+    → GoesOn (AllHappened Has archive (events ++ more)) old new
+happened_told Has archive events more None new all keys = all
+happened_told Has archive events more (Some o) None all keys = absurd all
+happened_told Has archive events more (Some o) (Some n) all keys = happened_append Has archive events more o n all keys
 
 counted_append : (Has : Kind → Type 0) (old new : Seen) (events more : List Happening) → AllCounted Has old new events
     → AreKeys more → AllCounted Has old new (events ++ more)
@@ -126,6 +129,14 @@ counted_append Has old new [] (KeyPressed key moment ∷ more) all keys = (tt, c
 counted_append Has old new [] (FolderOpened path kind moment came marks ∷ more) all keys = absurd keys
 counted_append Has old new [] (FolderRefused path why marks ∷ more) all keys = absurd keys
 counted_append Has old new (e ∷ events) more all keys = (all.0, counted_append Has old new events more all.1 keys)
+
+listed_append : (archive : List Mail) (events more : List Happening) → AllListed archive events → AreKeys more
+    → AllListed archive (events ++ more)
+listed_append archive [] [] all keys = tt
+listed_append archive [] (KeyPressed key moment ∷ more) all keys = (tt, listed_append archive [] more tt keys)
+listed_append archive [] (FolderOpened path kind moment came marks ∷ more) all keys = absurd keys
+listed_append archive [] (FolderRefused path why marks ∷ more) all keys = absurd keys
+listed_append archive (e ∷ events) more all keys = (all.0, listed_append archive events more all.1 keys)
 
 -- What is printed.
 
@@ -191,7 +202,8 @@ ends_free choice status events left (inr e) = subst (λ (s : Status). EndsAs cho
 module _ (choice : Choice) (start first : ℤ) (Has : Kind
     → Type 0) (archive : List Mail) (events : List Happening) (old new : Seen) (view : View)
     (out out1 keys : Option (List ℕ)) (clock : Option (List ℤ)) (same : start ≡ first)
-    (opens : Opens choice start Has archive events old new) (shown : IsShown choice events view) where
+    (opens : Opens choice start Has archive events old new) (listed : AllListed archive events)
+    (shown : IsShown choice events view) where
   begun : IsStart first events
   begun = subst (λ (s : ℤ). IsStart s events) same opens.start_is
 
@@ -206,7 +218,7 @@ module _ (choice : Choice) (start first : ℤ) (Has : Kind
   reads_first status which sent = record {
     run = opens.run;
     ends = ends_free choice status events keys which;
-    taken = record { bytes = []; keys = opens.no_keys; taken = consumes_none keys };
+    taken = record { bytes = []; keys = opens.no_keys; taken = consumes_none keys; few = omega arith };
     start_is = begun;
     given = subst (λ (l : List ℤ). Gives clock clock l) (sym opens.no_moments) (gives_none clock);
     printed = prints_but status (screens_from choice archive Unopened events) out out1 which (record {
@@ -216,8 +228,10 @@ module _ (choice : Choice) (start first : ℤ) (Has : Kind
       short = subst (λ (l : List (List ℕ)). length sent.0 ≤ last_length l) (sym first_screens)
           (sent_short out out1 (screen archive view) sent.0 sent.1);
     });
+    whole = λ over. absurd (subst IsOver shown.stage over);
     happened = opens.happened;
     counted = opens.counted;
+    listed = listed;
   }
 
   -- its first screen was printed, and keys went on
@@ -258,7 +272,7 @@ module _ (choice : Choice) (start first : ℤ) (Has : Kind
             (subst (λ (s : Stage). IsRunFrom choice s more) (sym shown.stage) went.run);
         ends = ends_as choice status (events ++ more) goes.stage (length went.bytes) keys2 goes.rest
             (opened_more events more shown.opened) at count goes.ends;
-        taken = record { bytes = went.bytes; keys = pressed; taken = went.taken };
+        taken = record { bytes = went.bytes; keys = pressed; taken = went.taken; few = goes.few };
         start_is = start_append first events more begun keys_only;
         given = subst (λ (l : List ℤ). Gives clock clock2 l)
             (sym (moments-append events more ∙ ap (λ (l : List ℤ). l ++ pressed_moments more) opens.no_moments))
@@ -267,9 +281,47 @@ module _ (choice : Choice) (start first : ℤ) (Has : Kind
             (prints_keys status goes.stage (length went.bytes) keys2
             (screen archive view ∷ screens_from choice archive (Reading view) more) out out2 goes.rest goes.ends
             sent short);
-        happened = happened_told archive events more old.told new.told opens.happened keys_only;
+        whole = λ over. subst (λ (l : List (List ℕ)). Appends out out2 (concat l)) (sym screens)
+            (sent_whole out out2 (concat (screen archive view ∷ screens_from choice archive (Reading view) more))
+            goes.rest (goes.whole (subst IsOver at over)) sent);
+        happened = happened_told Has archive events more old.told new.told opens.happened keys_only;
         counted = counted_append Has old new events more opens.counted keys_only;
+        listed = listed_append archive events more listed keys_only;
       }))
+
+-- without screens nothing is printed
+prints_nothing : (status : Status) (screens : List (List ℕ)) (out : Option (List ℕ)) → screens ≡ []
+    → Prints status screens out out
+prints_nothing status screens out none =
+    subst (λ (l : List (List ℕ)). Prints status l out out) (sym none) (whole status)
+  where
+    whole : (status : Status) → Prints status [] out out
+    whole Done = appends_none out
+    whole (Usage word) = appends_none out
+    whole (NotOpened why) = appends_none out
+    whole DiskFault = appends_none out
+    whole KeysFault = appends_none out
+    whole OutFault = record { rest = []; sent = sent_none out []; short = omega arith }
+    whole NoMemory = record { rest = []; sent = sent_none out []; short = omega arith }
+    whole TooManyKeys = appends_none out
+
+-- a folder that was not opened ends the run
+pub reads_end : (choice : Choice) (start first : ℤ) (Has : Kind → Type 0) (archive : List Mail) (status : Status)
+    (events : List Happening) (old new : Seen) (out keys : Option (List ℕ)) (clock : Option (List ℤ)) → start ≡ first
+    → Opens choice start Has archive events old new → AllListed archive events → IsEnd choice archive events status
+    → Reads choice first Has archive status events old new out out keys keys clock clock
+reads_end choice start first Has archive status events old new out keys clock same opens listed ends = record {
+  run = opens.run;
+  ends = ends.ends keys;
+  taken = record { bytes = []; keys = opens.no_keys; taken = consumes_none keys; few = omega arith };
+  start_is = subst (λ (s : ℤ). IsStart s events) same opens.start_is;
+  given = subst (λ (l : List ℤ). Gives clock clock l) (sym opens.no_moments) (gives_none clock);
+  printed = prints_nothing status (screens_from choice archive Unopened events) out ends.no_screens;
+  whole = λ over. subst (λ (l : List (List ℕ)). Appends out out (concat l)) (sym ends.no_screens) (appends_none out);
+  happened = opens.happened;
+  counted = opens.counted;
+  listed = listed;
+}
 
 -- keys never end a run for its words
 pub no_usage : (status : Status) (stage : Stage) (count : ℕ) (left : Option (List ℕ)) (rest : List ℕ)
@@ -299,20 +351,41 @@ pub prints_none : (status : Status) (choice : Choice) (archive : List Mail) (eve
     (out : Option (List ℕ)) → events ≡ []
     → Prints status (screens_from choice archive Unopened events) out out
 prints_none status choice archive events out none =
-    subst (λ (l : List Happening). Prints status (screens_from choice archive Unopened l) out out) (sym none)
-    (whole status)
-  where
-    whole : (status : Status) → Prints status [] out out
-    whole Done = appends_none out
-    whole (Usage word) = appends_none out
-    whole (NotOpened why) = appends_none out
-    whole DiskFault = appends_none out
-    whole KeysFault = appends_none out
-    whole OutFault = record { rest = []; sent = sent_none out []; short = omega arith }
-    whole NoMemory = record { rest = []; sent = sent_none out []; short = omega arith }
-    whole TooManyKeys = appends_none out
+    prints_nothing status (screens_from choice archive Unopened events) out (ap (screens_from choice archive Unopened) none)
 
 -- want of memory says nothing of the words
 pub chosen_memory : (choice : Result Choice (List ℕ)) → IsChosen choice NoMemory
 chosen_memory (Ok choice) = tt
 chosen_memory (Err word) = tt
+
+-- where the words are a command line nothing is owed, else this is
+pub owed : (choice : Result Choice (List ℕ)) (P : Type 0) → P → IfErr choice (λ word. P)
+owed (Ok choice) P p = tt
+owed (Err word) P p = p
+
+-- a note that belongs to a status with which the run ends
+told_here : (Ends : Status → Type 0) (Rises : Type 0) (path : List ℕ) (given result : Status)
+    (old new : Option (List ℕ)) → Ends given
+    → TellsNote (λ end. end ≡ given) Rises path result old new → TellsNote Ends Rises path result old new
+told_here Ends Rises path given Done old new is told = told
+told_here Ends Rises path given (Usage word) old new is told = told
+told_here Ends Rises path given (NotOpened why) old new is told = told
+told_here Ends Rises path given DiskFault old new is told = told
+told_here Ends Rises path given KeysFault old new is told = told
+told_here Ends Rises path given OutFault old new is told = record {
+  status = told.status;
+  ended = subst Ends (sym told.ended) is;
+  cause = told.cause;
+  rest = told.rest;
+  sent = told.sent;
+}
+told_here Ends Rises path given NoMemory old new is told = told
+told_here Ends Rises path given TooManyKeys old new is told = told
+
+-- the same at a path that is another's
+pub told_of : (Ends : Status → Type 0) (Rises : Type 0) (here path : List ℕ) (given result : Status)
+    (old new : Option (List ℕ)) → here ≡ path → Ends given
+    → TellsNote (λ end. end ≡ given) Rises here result old new → TellsNote Ends Rises path result old new
+told_of Ends Rises here path given result old new same is told =
+    told_here Ends Rises path given result old new is
+    (subst (λ (p : List ℕ). TellsNote (λ end. end ≡ given) Rises p result old new) same told)

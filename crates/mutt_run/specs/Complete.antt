@@ -1,4 +1,4 @@
--- Runs with nothing in their way: these come to the end of the keys.
+-- Runs with nothing in their way: these are done, or stop for memory or at the limit of keys.
 use Rattle.std.specs.Prelude.{◌≡◌, ◌≤◌, ℕ, List, Option, Some, None, Result, Ok, Err}
 use Rattle.mail_base.specs.declared.kind.Kind.{Kind}
 use Rattle.disk_model.specs.Journal.{Past}
@@ -34,7 +34,7 @@ NamesReadable Has (Err word) old new = ⊥
 NamesReadable Has (Ok choice) old new =
     IsReadableTold Has (folder_of choice) old.marks new.marks old.told new.told
 
--- the run came to the end of the keys, or memory was wanted
+-- a key ended the run, the keys came to their end or to their limit, or memory was wanted
 abbrev pub IsPlainEnd : Status → Type 0
 IsPlainEnd Done = Unit {0}
 IsPlainEnd TooManyKeys = Unit {0}

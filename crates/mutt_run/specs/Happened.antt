@@ -1,5 +1,5 @@
 -- What the events of a run say of the disk.
-use Rattle.std.specs.Prelude.{◌≡◌, ◌≤◌, ◌⊎◌, ℕ, List, [], ◌∷◌, Some, None, Ok, Err}
+use Rattle.std.specs.Prelude.{◌≡◌, ◌≤◌, ◌⊎◌, ℕ, List, [], ◌∷◌, length, map, Some, None, Ok, Err}
 use Rattle.mail_base.specs.Faults.{Rose}
 use Rattle.mail_base.specs.declared.kind.Kind.{Kind}
 use Rattle.disk_model.specs.Journal.{Past, NoForeign}
@@ -11,6 +11,7 @@ use Rattle.folder_core.specs.declared.listing.Listed.{Listed}
 use Rattle.folder_core.specs.Kinds.{kind_at}
 use Rattle.folder_core.specs.Letters.{Mail}
 use Rattle.folder_core.specs.Reads.{letters_from, listed_from, reads, refusal}
+use Rattle.folder_core.specs.Scanned.{ids_from}
 use Rattle.mutt_run.specs.Events.{Happening, KeyPressed, FolderOpened, FolderRefused}
 use Rattle.mutt_run.specs.declared.event.Marks.{Marks}
 use Rattle.mutt_run.specs.declared.event.OpenFault.{OpenFault}
@@ -45,8 +46,8 @@ pub record WasNoKind (path : List ℕ) (why : ScanError) (before after : ℕ) (n
   pub to : look ≤ after
   pub kind_is : kind_at (tree_at new look) path ≡ Err why
 
--- the folder was of a kind, and then was not listed for this cause
-pub record WasNotListed (path : List ℕ) (why : ScanError) (before after : ℕ) (new : Past) : Type 0 where
+-- the folder was of a kind that has a driver, and then was not listed for this cause
+pub record WasNotListed (Has : Kind → Type 0) (path : List ℕ) (why : ScanError) (before after : ℕ) (new : Past) : Type 0 where
   pub kind : Kind
   pub look : ℕ
   pub seen : ℕ
@@ -54,29 +55,31 @@ pub record WasNotListed (path : List ℕ) (why : ScanError) (before after : ℕ)
   pub then : look ≤ seen
   pub to : seen ≤ after
   pub kind_is : kind_at (tree_at new look) path ≡ Ok kind
+  pub driver : Has kind
   pub refused : refusal kind 0 (tree_at new seen) path ≡ Some why
 
 -- why the folder was not opened, as the tree shows it
-abbrev pub WasRefused : List ℕ → OpenFault → ℕ → ℕ → Past → Type 0
-WasRefused path Taken before after new = ⊥
-WasRefused path (NoDriver kind) before after new = WasKind path kind before after new
-WasRefused path (Folder Fault) before after new = Unit {0}
-WasRefused path (Folder NoMemory) before after new = Unit {0}
-WasRefused path (Folder why) before after new =
-    WasNoKind path why before after new ⊎ WasNotListed path why before after new
+abbrev pub WasRefused : (Kind → Type 0) → List ℕ → OpenFault → ℕ → ℕ → Past → Type 0
+WasRefused Has path Taken before after new = ⊥
+WasRefused Has path (NoDriver kind) before after new = WasKind path kind before after new
+WasRefused Has path (Folder Fault) before after new = Unit {0}
+WasRefused Has path (Folder NoMemory) before after new = Unit {0}
+WasRefused Has path (Folder why) before after new =
+    WasNoKind path why before after new ⊎ WasNotListed Has path why before after new
 
 -- what an event says is true of the journal
-abbrev pub Happened : List Mail → Past → Past → Happening → Type 0
-Happened archive old new (KeyPressed key moment) = Unit {0}
-Happened archive old new (FolderOpened path kind moment came marks) =
+abbrev pub Happened : (Kind → Type 0) → List Mail → Past → Past → Happening → Type 0
+Happened Has archive old new (KeyPressed key moment) = Unit {0}
+Happened Has archive old new (FolderOpened path kind moment came marks) =
     WasOpened archive path kind came marks.mark_before marks.mark_after old new
-Happened archive old new (FolderRefused path why marks) =
-    WasRefused path why marks.mark_before marks.mark_after new
+Happened Has archive old new (FolderRefused path why marks) =
+    WasRefused Has path why marks.mark_before marks.mark_after new
 
 -- what each event says is true of the journal
-abbrev pub AllHappened : List Mail → List Happening → Past → Past → Type 0
-AllHappened archive [] old new = Unit {0}
-AllHappened archive (event ∷ events) old new = Happened archive old new event × AllHappened archive events old new
+abbrev pub AllHappened : (Kind → Type 0) → List Mail → List Happening → Past → Past → Type 0
+AllHappened Has archive [] old new = Unit {0}
+AllHappened Has archive (event ∷ events) old new =
+    Happened Has archive old new event × AllHappened Has archive events old new
 
 -- marks and faults are the device's at the start and at the end of an opening
 pub record AreMarks (old new : Seen) (marks : Marks) : Type 0 where
@@ -104,3 +107,18 @@ IsCounted Has old new (FolderRefused path why marks) =
 abbrev pub AllCounted : (Kind → Type 0) → Seen → Seen → List Happening → Type 0
 AllCounted Has old new [] = Unit {0}
 AllCounted Has old new (event ∷ events) = IsCounted Has old new event × AllCounted Has old new events
+
+-- the listed messages have the first ids, and a letter each
+abbrev pub IsFresh : List Mail → List Listed → Type 0
+IsFresh archive came = (map (λ listed. listed.id) came ≡ ids_from 0 came) × (length archive ≡ length came)
+
+-- what an opening makes of an archive, whatever the disk tells; a folder that was not opened leaves no letter
+abbrev pub IsListed : List Mail → Happening → Type 0
+IsListed archive (KeyPressed key moment) = Unit {0}
+IsListed archive (FolderOpened path kind moment came marks) = IsFresh archive came
+IsListed archive (FolderRefused path why marks) = archive ≡ []
+
+-- the same of each event
+abbrev pub AllListed : List Mail → List Happening → Type 0
+AllListed archive [] = Unit {0}
+AllListed archive (event ∷ events) = IsListed archive event × AllListed archive events

@@ -1,5 +1,5 @@
 -- What is told on the fault stream and by the exit status.
-use Rattle.std.specs.Prelude.{ℕ, List, [], ◌∷◌, ◌++◌, codes, Option}
+use Rattle.std.specs.Prelude.{◌≡◌, ◌⊎◌, ℕ, List, [], ◌∷◌, ◌++◌, codes, Option}
 use Rattle.std.specs.Fmt.{decimal}
 use Rattle.std.specs.Io.KnownBytes.{Appends, Keeps}
 use Rattle.mail_base.specs.Streams.{Sent}
@@ -59,14 +59,18 @@ exit_status OutFault = 5
 exit_status WantOfMemory = 6
 exit_status TooManyKeys = 8
 
--- the note of a status was begun
-pub record BegunNote (path : List ℕ) (old new : Option (List ℕ)) : Type 0 where
+-- The note of a status with which the run could end was begun; where the fault stream did not fail, another stream
+-- did, and nothing was told.
+pub record BegunNote (IsEnd : Status → Type 0) (Rises : Type 0) (path : List ℕ) (old new : Option (List ℕ))
+    : Type 0 where
   pub status : Status
+  pub ended : IsEnd status
+  pub cause : (status ≡ OutFault) ⊎ Rises
   pub rest : List ℕ
   pub sent : Sent old new (note path status) rest
 
 -- the note is told whole; where a stream failed its front may be there, and for want of memory nothing
-abbrev pub TellsNote : List ℕ → Status → Option (List ℕ) → Option (List ℕ) → Type 0
-TellsNote path OutFault old new = BegunNote path old new
-TellsNote path WantOfMemory old new = Keeps old new
-TellsNote path status old new = Appends old new (note path status)
+abbrev pub TellsNote : (Status → Type 0) → Type 0 → List ℕ → Status → Option (List ℕ) → Option (List ℕ) → Type 0
+TellsNote IsEnd Rises path OutFault old new = BegunNote IsEnd Rises path old new
+TellsNote IsEnd Rises path WantOfMemory old new = Keeps old new
+TellsNote IsEnd Rises path status old new = Appends old new (note path status)

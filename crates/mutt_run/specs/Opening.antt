@@ -22,11 +22,11 @@ use Rattle.mutt_run.specs.declared.status.Status.TheVariants.{Done, Usage, NotOp
 use Rattle.mutt_run.specs.declared.status.Status.TheVariants.{NoMemory, TooManyKeys}
 
 -- what was read at a path, or why not, as the journal shows it
-abbrev pub WasLooked : List Mail → List ℕ → Result Opened OpenFault → Past → Past → Type 0
-WasLooked archive path (Ok opened) old new =
+abbrev pub WasLooked : (Kind → Type 0) → List Mail → List ℕ → Result Opened OpenFault → Past → Past → Type 0
+WasLooked Has archive path (Ok opened) old new =
     WasOpened archive path opened.kind opened.came.items (length old.journal) (length new.journal) old new
-WasLooked archive path (Err why) old new =
-    WasRefused path why (length old.journal) (length new.journal) new
+WasLooked Has archive path (Err why) old new =
+    WasRefused Has path why (length old.journal) (length new.journal) new
 
 -- events of an opening alone: they are a run, and what they say is true
 pub record Opens (choice : Choice) (start : ℤ) (Has : Kind
@@ -35,7 +35,7 @@ pub record Opens (choice : Choice) (start : ℤ) (Has : Kind
   pub start_is : IsStart start events
   pub no_keys : pressed_keys events ≡ []
   pub no_moments : pressed_moments events ≡ []
-  pub happened : GoesOn (AllHappened archive events) old.told new.told
+  pub happened : GoesOn (AllHappened Has archive events) old.told new.told
   pub counted : AllCounted Has old new events
 
 -- the folder is shown after these events

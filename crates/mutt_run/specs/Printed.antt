@@ -39,6 +39,12 @@ IsReading Unopened = ⊥
 IsReading (Reading view) = Unit {0}
 IsReading Over = ⊥
 
+-- the run is over
+abbrev pub IsOver : Stage → Type 0
+IsOver Unopened = ⊥
+IsOver (Reading view) = ⊥
+IsOver Over = Unit {0}
+
 -- the folder was opened first
 abbrev pub IsOpened : List Happening → Type 0
 IsOpened [] = ⊥

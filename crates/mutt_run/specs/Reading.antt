@@ -1,16 +1,18 @@
 -- A run from the opening of its folder on.
 use Rattle.std.specs.Prelude.{ℕ, ℤ, List, Option}
+use Rattle.std.specs.Io.KnownBytes.{Appends}
+use Rattle.std.specs.List.{concat}
 use Rattle.mail_base.specs.declared.kind.Kind.{Kind}
 use Rattle.disk_model.specs.Judge.{GoesOn}
 use Rattle.disk_model.specs.Seen.{Seen}
 use Rattle.folder_core.specs.Letters.{Mail}
 use Rattle.mutt_run.specs.Words.{Choice}
 use Rattle.mutt_run.specs.Events.{Happening}
-use Rattle.mutt_run.specs.Runs.{IsRunFrom, Unopened, screens_from}
+use Rattle.mutt_run.specs.Runs.{IsRunFrom, Unopened, after_events, screens_from}
 use Rattle.mutt_run.specs.Moments.{Gives, IsStart, pressed_moments}
 use Rattle.mutt_run.specs.Taken.{TakesKeys}
-use Rattle.mutt_run.specs.Printed.{EndsAs, Prints}
-use Rattle.mutt_run.specs.Happened.{AllCounted, AllHappened}
+use Rattle.mutt_run.specs.Printed.{EndsAs, IsOver, Prints}
+use Rattle.mutt_run.specs.Happened.{AllCounted, AllHappened, AllListed}
 use Rattle.mutt_run.specs.declared.status.Status.{Status}
 
 -- The events are a run that ends with this status; their keys and moments were taken, their screens were printed, and
@@ -24,5 +26,8 @@ pub record Reads (choice : Choice) (start : ℤ) (Has : Kind
   pub start_is : IsStart start events
   pub given : Gives clock clock' (pressed_moments events)
   pub printed : Prints status (screens_from choice archive Unopened events) out out'
-  pub happened : GoesOn (AllHappened archive events) old.told new.told
+  pub whole : IsOver (after_events choice Unopened events)
+      → Appends out out' (concat (screens_from choice archive Unopened events))
+  pub happened : GoesOn (AllHappened Has archive events) old.told new.told
   pub counted : AllCounted Has old new events
+  pub listed : AllListed archive events

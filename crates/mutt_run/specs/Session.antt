@@ -9,7 +9,7 @@ use Rattle.mutt_run.specs.Events.{Happening}
 use Rattle.mutt_run.specs.Keys.{after_key}
 use Rattle.mutt_run.specs.Moments.{Gives, pressed_moments}
 use Rattle.mutt_run.specs.Place.{View}
-use Rattle.mutt_run.specs.Printed.{IsDone, IsReading, last_length}
+use Rattle.mutt_run.specs.Printed.{IsDone, IsOver, IsReading, last_length}
 use Rattle.mutt_run.specs.Runs.{Stage, Reading, IsRunFrom, after_events, screens_from}
 use Rattle.mutt_run.specs.Screen.{screen}
 use Rattle.mutt_run.specs.Taken.{keys_of, most_keys, pressed_keys}
@@ -61,3 +61,5 @@ pub record GoesToEnd (choice : Choice) (archive : List Mail) (view : View) (stat
   pub rest : List ℕ
   pub went : Went choice archive view stage old new out out' keys keys' clock clock' rest
   pub ends : EndsKeys status stage (length went.bytes) keys' rest
+  pub few : length went.bytes ≤ most_keys
+  pub whole : IsOver stage → rest ≡ []

@@ -1,5 +1,5 @@
 -- The keys of a run: each byte is one key.
-use Rattle.std.specs.Prelude.{◌≡◌, ℕ, List, [], ◌∷◌, map, Option}
+use Rattle.std.specs.Prelude.{◌≡◌, ◌≤◌, ℕ, List, [], ◌∷◌, length, map, Option}
 use Rattle.std.specs.Io.KnownBytes.{Consumes}
 use Rattle.mutt_run.specs.Events.{Happening, KeyPressed, FolderOpened, FolderRefused}
 use Rattle.mutt_run.specs.declared.key.Key.{Key}
@@ -25,3 +25,4 @@ pub record TakesKeys (old new : Option (List ℕ)) (events : List Happening) : T
   pub bytes : List ℕ
   pub keys : pressed_keys events ≡ keys_of bytes
   pub taken : Consumes old new bytes
+  pub few : length bytes ≤ most_keys

@@ -10,7 +10,8 @@ use std::alloc::Global;
 
 /// Tells on the fault stream how a run ended, in one write. Where that fails it ended with a fault of a stream.
 pub fn tell<E: Sink>(alloc: Global, errs: &mut E, path: &[u8], status: Status) -> Status
-    ensures tells { spec.TellsNote path.now result (E.written errs.old) (E.written errs.new) }
+    ensures tells { spec.TellsNote (λ end. end ≡ status) (Rose (E.faults errs.old) (E.faults errs.new)) path.now result
+        (E.written errs.old) (E.written errs.new) }
     ensures status { (result ≡ status) ⊎ (result ≡ Status.OutFault) ⊎ (result ≡ Status.NoMemory) }
     ensures cause { (result ≡ status) ⊎ (result ≡ Status.NoMemory) ⊎ Rose (E.faults errs.old) (E.faults errs.new) }
     ensures later { E.faults errs.old ≤ E.faults errs.new }

@@ -2,6 +2,7 @@ ghost use Rattle.std.specs.Prelude.{◌≡◌, ◌≤◌, ◌∷◌, ℕ, [], Li
 ghost use Rattle.disk_model.specs.Looking.{LooksOnly};
 ghost use Rattle.folder_core.specs.Letters.{plain_letter};
 ghost use Rattle.mutt_run.specs.Events.{FolderRefused, plain_events};
+ghost use Rattle.mutt_run.specs.Happened.{AllListed};
 ghost use Rattle.mutt_run.specs.Opening.{IsEnd, IsOpenEnd, IsPossible, IsShown, Opens};
 ghost use Rattle.mutt_run.specs.Place.{plain_place};
 ghost use Rattle.mutt_run.specs.Printed.{EndsAs};
@@ -36,6 +37,7 @@ pub fn open(
         (λ kind. Any (λ d. sort (d.vtable, d.value) ≡ kind) drivers.now.list.items)
         (map plain_letter trace.new.archive.items) (plain_events trace.new.events.items)
         (seen (dev.old.disk.vtable, dev.old.disk.value)) (seen (dev.new.disk.vtable, dev.new.disk.value)) }
+    ensures listed { AllListed (map plain_letter trace.new.archive.items) (plain_events trace.new.events.items) }
     ensures shown { IfOk result (λ place. IsShown (plain_options options.now) (plain_events trace.new.events.items)
         (plain_place place)) }
     ensures tall { IfOk result (λ place. 6 ≤ place.rows) }

@@ -1,16 +1,18 @@
-ghost use Rattle.std.specs.Prelude.{◌≡◌, ◌≤◌, ◌⊎◌, ℕ, [], List, Any, map};
+ghost use Rattle.std.specs.Prelude.{◌≡◌, ◌≤◌, ◌⊎◌, ℕ, [], List, Any, IfErr, map};
+ghost use Rattle.std.specs.Io.KnownBytes.{Appends};
+ghost use Rattle.std.specs.List.{concat};
 ghost use Rattle.mail_base.specs.Faults.{Rose};
 ghost use Rattle.disk_model.specs.Judge.{GoesOn};
 ghost use Rattle.disk_model.specs.Looking.{LooksOnly};
 ghost use Rattle.folder_core.specs.Letters.{plain_letter};
 ghost use Rattle.mutt_run.specs.Complete.{IsPlainEnd, NamesReadable};
 ghost use Rattle.mutt_run.specs.Events.{plain_events};
-ghost use Rattle.mutt_run.specs.Happened.{AllCounted, AllHappened};
+ghost use Rattle.mutt_run.specs.Happened.{AllCounted, AllHappened, AllListed};
 ghost use Rattle.mutt_run.specs.Moments.{Clocked};
 ghost use Rattle.mutt_run.specs.Notes.{TellsNote};
-ghost use Rattle.mutt_run.specs.Printed.{EndsAs, IsChosen, IsNoUsage, Prints};
+ghost use Rattle.mutt_run.specs.Printed.{EndsAs, IsChosen, IsNoUsage, IsOver, Prints};
 ghost use Rattle.mutt_run.specs.Reading.{Reads};
-ghost use Rattle.mutt_run.specs.Runs.{IsRunFrom, Unopened, screens_from};
+ghost use Rattle.mutt_run.specs.Runs.{IsRunFrom, Unopened, after_events, screens_from};
 ghost use Rattle.mutt_run.specs.Taken.{TakesKeys};
 ghost use Rattle.mutt_run.specs.Words.{IsText, choice_of, chosen, folder_of, plain_options, plain_words};
 ghost use Rattle.mutt_run.specs.declared.status.Status.TheVariants.{DiskFault, KeysFault, OutFault};
@@ -59,11 +61,19 @@ pub fn run<K: Source, O: Sink, E: Sink, C: Clock>(
     ensures out { Prints result (screens_from (chosen (plain_words words.now.items)) (map plain_letter
         trace.new.archive.items) Unopened
         (plain_events trace.new.events.items)) (O.written out.old) (O.written out.new) }
-    ensures errs { TellsNote (folder_of (chosen (plain_words words.now.items))) result (E.written errs.old)
-        (E.written errs.new) }
+    ensures errs { TellsNote (λ status. EndsAs (chosen (plain_words words.now.items)) status
+        (plain_events trace.new.events.items) (K.left keys.new) × IsChosen (choice_of (plain_words words.now.items)) status)
+        (Rose (E.faults errs.old) (E.faults errs.new)) (folder_of (chosen (plain_words words.now.items))) result
+        (E.written errs.old) (E.written errs.new) }
+    // Behind the event that ends a run nothing is missing of its screens.
+    ensures whole { IsOver (after_events (chosen (plain_words words.now.items)) Unopened
+        (plain_events trace.new.events.items))
+        → Appends (O.written out.old) (O.written out.new) (concat (screens_from (chosen (plain_words words.now.items))
+        (map plain_letter trace.new.archive.items) Unopened (plain_events trace.new.events.items))) }
 
     // What the events say of the disk is true.
-    ensures happened { GoesOn (AllHappened (map plain_letter trace.new.archive.items) (plain_events
+    ensures happened { GoesOn (AllHappened (λ kind. Any (λ d. sort (d.vtable, d.value) ≡ kind)
+        drivers.old.list.items) (map plain_letter trace.new.archive.items) (plain_events
         trace.new.events.items))
         (seen (dev.old.disk.vtable, dev.old.disk.value)).told (seen (dev.new.disk.vtable, dev.new.disk.value)).told }
     ensures counted { AllCounted (λ kind. Any (λ d. sort (d.vtable, d.value) ≡ kind) drivers.old.list.items)
@@ -71,6 +81,11 @@ pub fn run<K: Source, O: Sink, E: Sink, C: Clock>(
         (plain_events trace.new.events.items) }
     ensures looks { LooksOnly (seen (dev.old.disk.vtable, dev.old.disk.value)).told
         (seen (dev.new.disk.vtable, dev.new.disk.value)).told }
+    ensures listed { AllListed (map plain_letter trace.new.archive.items) (plain_events trace.new.events.items) }
+    ensures drivers { drivers.new.list.items ≡ drivers.old.list.items }
+
+    // Words that are no command line open nothing.
+    ensures unopened { IfErr (choice_of (plain_words words.now.items)) (λ word. plain_events trace.new.events.items ≡ []) }
 
     // A fault is answered only where its count rose.
     ensures disk_cause { result ≡ DiskFault → Rose (seen (dev.old.disk.vtable, dev.old.disk.value)).faults
@@ -79,7 +94,7 @@ pub fn run<K: Source, O: Sink, E: Sink, C: Clock>(
     ensures out_cause { result ≡ OutFault
         → Rose (O.faults out.old) (O.faults out.new) ⊎ Rose (E.faults errs.old) (E.faults errs.new) }
 
-    // With a readable folder and no fault the keys are read to their end.
+    // With a readable folder and no fault the run is done, or stops for memory or at the limit of keys.
     ensures complete { NamesReadable (λ kind. Any (λ d. sort (d.vtable, d.value) ≡ kind) drivers.old.list.items)
         (choice_of (plain_words words.now.items))
         (seen (dev.old.disk.vtable, dev.old.disk.value)) (seen (dev.new.disk.vtable, dev.new.disk.value))

@@ -1,4 +1,4 @@
-use Rattle.std.proofs.Common.{ap, map, ◌∙◌}
+use Rattle.std.proofs.Common.{rules, ap, map, ◌∙◌}
 use Rattle.folder_core.specs.Known.{KnownFolder}
 use Rattle.folder_core.specs.Letters.{plain_letter}
 use Rattle.disk_model.proofs.Looking.{looks_then}
@@ -22,9 +22,9 @@ returns-in-Ok-scan-clause-looks g c = looks_then _ _ _ c.in-Ok.ensures.looks c.i
 
 pub returns-clause-looked : goal.returns-clause-looked
 returns-clause-looked g c =
-    refused_told c.in-Ok.kind _ c.in-Err-scan.why _ _ _ _ _ _ (ap (map plain_letter) c.requires)
+    refused_told _ c.in-Ok.kind _ c.in-Err-scan.why _ _ _ _ _ _ (ap (map plain_letter) c.requires)
     (ap (λ (k : KnownFolder). k.path) (c.in-Err-scan.ensures.err_known ∙ c.in-Ok-new.ensures))
-    c.in-Ok.ensures.kind c.in-Err-scan.ensures.looks c.in-Err-scan.ensures.saw
+    c.in-Ok.ensures.kind c.in-Err-scan.ensures.looks c.in-Err-scan.ensures.saw (search rules)
 
 pub returns-clause-looks : goal.returns-clause-looks
 returns-clause-looks g c = looks_then _ _ _ c.in-Ok.ensures.looks c.in-Err-scan.ensures.looks

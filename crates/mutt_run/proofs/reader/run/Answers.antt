@@ -1,10 +1,10 @@
-use Rattle.std.proofs.Common.{ap, arith, FitsSigned, w64}
+use Rattle.std.proofs.Common.{ap, arith, rules, FitsSigned, w64}
 use Rattle.std.proofs.lemmas.Int.{ints as signed_arith}
 use Rattle.std.proofs.lemmas.Int.{to_z-of_z}
 use Rattle.mutt_run.specs.Events.{plain_events}
 use Rattle.mutt_run.specs.Words.{chosen, plain_words}
 use Rattle.mutt_run.proofs.Completing.{read_plain, told_plain}
-use Rattle.mutt_run.proofs.Whole.{chosen_memory, clocked, prints_none}
+use Rattle.mutt_run.proofs.Whole.{chosen_memory, clocked, owed, prints_none, told_of}
 use Rattle.mutt_run.proofs.reader.run.Goals as goal
 
 pub returns-in-Ok-clause-moments : goal.returns-in-Ok-clause-moments
@@ -27,3 +27,10 @@ returns-in-Err-Usage-clause-out g c = prints_none _ (chosen (plain_words c.args.
 
 pub returns-in-Err-NoMemory-clause-words : goal.returns-in-Err-NoMemory-clause-words
 returns-in-Err-NoMemory-clause-words g c = chosen_memory _
+
+pub returns-in-Err-NoMemory-clause-unopened : goal.returns-in-Err-NoMemory-clause-unopened
+returns-in-Err-NoMemory-clause-unopened g c = owed _ _ (ap plain_events c.requires.events)
+
+pub returns-in-Ok-clause-errs : goal.returns-in-Ok-clause-errs
+returns-in-Ok-clause-errs g c =
+    told_of _ _ _ _ c.read-status.result c.tell.result _ _ (search rules) (search rules) c.tell.ensures.tells

@@ -32,18 +32,18 @@ loop-turn-preserved g c = record {
 pub returns-then-is_err-clause-went : goal.returns-then-is_err-clause-went
 returns-then-is_err-clause-went g c = λ choice.
     ends_between _ choice _ _ _ _ _ _ _ _ _ _ _ _ _ _ (c.loop-turn.invariant.gone choice)
-    (ap plain_events c.reserve.ensures.items) (search rules) tt
+    (ap plain_events c.reserve.ensures.items) (search rules) tt (omega arith)
 
 pub returns-in-Ok-None-clause-went : goal.returns-in-Ok-None-clause-went
 returns-in-Ok-None-clause-went g c = λ choice.
     ends_between _ choice _ _ _ _ _ _ _ _ _ _ _ _ _ _ (c.loop-turn.invariant.gone choice)
     (ap plain_events c.reserve.ensures.items) (search rules)
-    (((rw c.in-Ok-None.field-0-is at c.in-Ok-None.ensures.byte).0, omega arith), refl)
+    (((rw c.in-Ok-None.field-0-is at c.in-Ok-None.ensures.byte).0, omega arith), refl) (omega arith)
 
 pub returns-in-Err-clause-went : goal.returns-in-Err-clause-went
 returns-in-Err-clause-went g c = λ choice.
     ends_between _ choice _ _ _ _ _ _ _ _ _ _ _ _ _ _ (c.loop-turn.invariant.gone choice)
-    (ap plain_events c.reserve.ensures.items) (search rules) (search rules)
+    (ap plain_events c.reserve.ensures.items) (search rules) (search rules) (omega arith)
 
 pub returns-in-Ok-Quit-clause-went : goal.returns-in-Ok-Quit-clause-went
 returns-in-Ok-Quit-clause-went g c = λ choice.
@@ -52,7 +52,7 @@ returns-in-Ok-Quit-clause-went g c = λ choice.
     (ap (λ (a : Held Letter). map plain_letter a.items) c.loop-turn.invariant.archive)
     (ap plain_events c.reserve.ensures.items)
     (rw c.in-Ok-Some.field-0-is at c.in-Ok-Some.ensures.byte) c.in-Ok-Quit.ensures.event
-    (rw c.in-Ok-Quit.field-0-is at c.in-Ok-Quit.ensures.turned)
+    (rw c.in-Ok-Quit.field-0-is at c.in-Ok-Quit.ensures.turned) (omega arith)
 
 pub returns-in-Err-turn-clause-went : goal.returns-in-Err-turn-clause-went
 returns-in-Err-turn-clause-went g c = λ choice.
@@ -60,9 +60,9 @@ returns-in-Err-turn-clause-went g c = λ choice.
     (ap (λ (a : Held Letter). map plain_letter a.items) c.loop-turn.invariant.archive)
     (ap plain_events c.reserve.ensures.items)
     (rw c.in-Ok-Some.field-0-is at c.in-Ok-Some.ensures.byte) c.in-Err-turn.ensures.event _ c.in-Err-turn.ensures.which
-    c.in-Err-turn.ensures.turned
+    c.in-Err-turn.ensures.turned (omega arith)
 
 pub returns-clause-went : goal.returns-clause-went
 returns-clause-went g c = λ choice.
     ends_between _ choice _ _ _ _ _ _ _ _ _ _ _ _ _ _ (c.loop-turn.invariant.gone choice) refl (search rules)
-    (search rules)
+    (search rules) (omega arith)

@@ -16,11 +16,11 @@ returns-then-moments-self c =
     let more : place + 1 < length moments = grind arith in
     let fits : SFits w64 c.moment-now.result = search rules in
     let given : to_z w64 (of_z w64 c.moment-now.result) ≡ moment_of (get_or moments place 0)
-          = to_z-of_z w64 c.moment-now.result fits ∙ c.moment-now.ensures
-            ∙ ap (λ (l : List ℕ). moment_of (get_or l place 0)) known in
+    = to_z-of_z w64 c.moment-now.result fits ∙ c.moment-now.ensures
+    ∙ ap (λ (l : List ℕ). moment_of (get_or l place 0)) known in
     subst (λ (before : List ℤ). Ticks (Some before) (Some (map moment_of (drop (place + 1) moments)))
-        (to_z w64 (of_z w64 c.moment-now.result)))
+    (to_z w64 (of_z w64 c.moment-now.result)))
     c.self.view_is
     (subst (λ (now : ℤ). Ticks (Some (map moment_of (drop place moments)))
-        (Some (map moment_of (drop (place + 1) moments))) now)
+    (Some (map moment_of (drop (place + 1) moments))) now)
     (sym given) (ticks_on moments place more))
