@@ -4,7 +4,7 @@ use Rattle.std.proofs.Common.{Option, Some, None, option_map, refl, sym, ap, ◌
 use Rattle.std.specs.Prelude.{is_some, encode_utf8}
 use Rattle.std.specs.Str.{IsUtf8, encode_utf8_all}
 use Rattle.std.proofs.lemmas.Str.{IsUtf8-from_is_utf8, length-encode, len_utf8_bounds}
-use Rattle.std.proofs.lemmas.List.{drop_at}
+use Rattle.std.proofs.lemmas.List.{append-nil}
 use Rattle.std.proofs.lemmas.Bool.{and_parts, or_parts}
 use lib.Utf8.{scalar, scalars}
 use Rattle.bstr.specs.Utf8.{Decoded, decoded, good}
@@ -15,7 +15,7 @@ use Rattle.headers.specs.Decode.{first_word, found_at, with_text}
 use Rattle.headers.specs.EncodedWord.{encoded_word, written_word}
 use Rattle.headers.specs.Laws.{has_mark, PlainTextStays, Utf8Stays}
 use Rattle.headers.proofs.DecodeLemmas.{decoded_from-absent}
-use Rattle.headers.proofs.CharsetLemmas.{utf8_text-nil, utf8_text-step}
+use Rattle.headers.proofs.CharsetLemmas.{utf8_text-nil, utf8_text_front}
 
 none_of : (o : Option (List ℕ)) → is_some o ≡ false → o ≡ None
 none_of None e = refl
@@ -40,27 +40,9 @@ no_word_found (b ∷ rest) none =
 pub plain_text_stays : PlainTextStays
 plain_text_stays s none = decoded_from-absent (length s) false s (no_word_found s none)
 
-encoded_some : (c : ℕ) → 0 < length (encode_utf8 c)
-encoded_some c = let bounds = len_utf8_bounds c in omega (arith, length-encode c)
-
-shown_chars : (cs : List ℕ) → scalars cs ≡ true → utf8_text (encode_utf8_all cs) ≡ encode_utf8_all cs
-shown_chars [] all = utf8_text-nil
-shown_chars (c ∷ cs) all =
-    let both = and_parts (scalar c) (scalars cs) all in
-    let first = encode_utf8 c in
-    let later = encode_utf8_all cs in
-    let some : 0 < length (first ++ later) = omega (arith, encoded_some c, length-append first later) in
-    let read : decoded (first ++ later) ≡ good c (length first) = decoded-encode c later both.0 in
-    let rest_is : drop (decoded (first ++ later)).size (first ++ later) ≡ later =
-    drop_at first later _ (sym (ap (λ (p : Decoded). p.size) read)) in
-    utf8_text-step (first ++ later) some
-    ∙ ap (λ (p : Decoded). shown p.char p.size ++ utf8_text (drop (decoded (first ++ later)).size (first ++ later)))
-    read
-    ∙ ap (λ t. first ++ utf8_text t) rest_is
-    ∙ ap (λ t. first ++ t) (shown_chars cs both.1)
-
 pub shown_utf8 : (s : List ℕ) → IsUtf8 s → utf8_text s ≡ s
-shown_utf8 s utf8 = ap utf8_text (sym utf8.1.1) ∙ shown_chars utf8.0 utf8.1.0 ∙ utf8.1.1
+shown_utf8 s utf8 =
+    ap utf8_text (sym (append-nil s)) ∙ utf8_text_front s [] utf8 ∙ ap (λ t. s ++ t) utf8_text-nil ∙ append-nil s
 
 pub utf8_stays : Utf8Stays
 utf8_stays s utf8 = shown_utf8 s (IsUtf8-from_is_utf8 s utf8)

@@ -1,10 +1,12 @@
 //! Charsets, and bytes shown as UTF-8 by the charset that they are in (RFC 2047, section 2).
 
-ghost use Rattle.std.specs.Prelude.{◌≡◌, ◌++◌, ◌<◌, OnOk, length, encode_utf8, replicate};
-ghost use Rattle.std.specs.Str.{encode_utf8_all};
+ghost use Rattle.std.specs.Prelude.{◌≡◌, ◌++◌, ◌≤◌, IfOk, OnOk, length, encode_utf8, replicate};
+ghost use Rattle.std.specs.Str.{IsAscii, encode_utf8_all};
 ghost use Rattle.headers.specs.Charset as spec;
 
+use bstr::ByteSlice;
 use mail_base::{Line, NoMemory, is_same_name};
+use std::alloc::Global;
 
 /// A charset that is shown (RFC 2047, section 2); the bytes past ASCII of all others are marked, as those of US-ASCII.
 #[derive(Clone, Copy, Debug, PartialEq, Eq)]
@@ -28,8 +30,17 @@ impl Charset {
         }
     }
 
-    /// Adds the bytes at the end of the line, as UTF-8.
-    pub fn append_to(self, line: &mut Line, bytes: &[u8]) -> Result<(), NoMemory>
+    /// Bytes of the charset as a line of UTF-8.
+    pub fn line_of(self, alloc: Global, bytes: &[u8]) -> Result<Line, NoMemory>
+        ensures { IfOk result (λ l. l.items ≡ spec.text_in self bytes.now) }
+    {
+        let mut line = Line::new(alloc);
+        self.append_to(&mut line, bytes)?;
+        Ok(line)
+    }
+
+    // Adds the bytes at the end of the line, as UTF-8. For want of memory their front may stand there.
+    pub(crate) fn append_to(self, line: &mut Line, bytes: &[u8]) -> Result<(), NoMemory>
         ensures { OnOk result (line.new.items ≡ line.old.items ++ spec.text_in self bytes.now) }
     {
         match self {
@@ -56,44 +67,37 @@ fn push_marks(line: &mut Line, count: usize) -> Result<(), NoMemory>
     Ok(())
 }
 
+// The front of the bytes that is ASCII, and what follows it.
+fn split_ascii(bytes: &[u8]) -> (&[u8], &[u8])
+    ensures whole { bytes.now ≡ result.0.now ++ result.1.now }
+    ensures ascii { IsAscii result.0.now }
+{
+    match bytes.find_non_ascii_byte() {
+        Some(at) => bytes.split_at(at),
+        None => (bytes, &[]),
+    }
+}
+
+// Adds the front of the bytes that is ASCII, and gives what follows it.
+fn append_front<'a>(line: &mut Line, bytes: &'a [u8]) -> Result<&'a [u8], NoMemory>
+    ensures ascii { IfOk result (λ rest. line.new.items ++ spec.ascii_text rest.now
+        ≡ line.old.items ++ spec.ascii_text bytes.now) }
+    ensures latin1 { IfOk result (λ rest. line.new.items ++ encode_utf8_all rest.now
+        ≡ line.old.items ++ encode_utf8_all bytes.now) }
+    ensures shorter { IfOk result (λ rest. length rest.now ≤ length bytes.now) }
+{
+    let (front, rest) = split_ascii(bytes);
+    line.append_bytes(front)?;
+    Ok(rest)
+}
+
 fn append_ascii(line: &mut Line, bytes: &[u8]) -> Result<(), NoMemory>
     ensures { OnOk result (line.new.items ≡ line.old.items ++ spec.ascii_text bytes.now) }
 {
-    for b in bytes {
-        line.push(if *b < 128 { *b } else { b'?' })?;
-    }
-    Ok(())
-}
-
-// The first character or malformed piece, its size, and what follows it.
-fn split_first(bytes: &[u8]) -> (Option<char>, usize, &[u8])
-    requires { 0 < length bytes.now }
-    ensures text { spec.utf8_text bytes.now ≡ spec.shown result.0 result.1 ++ spec.utf8_text result.2.now }
-    ensures shorter { length result.2.now < length bytes.now }
-{
-    let (found, size) = bstr::decode_utf8(bytes);
-    let (_, rest) = bytes.split_at(size);
-    (found, size, rest)
-}
-
-fn append_shown(line: &mut Line, found: Option<char>, size: usize) -> Result<(), NoMemory>
-    ensures { OnOk result (line.new.items ≡ line.old.items ++ spec.shown found size) }
-{
-    match found {
-        Some(c) => push_char(line, c),
-        None => push_marks(line, size),
-    }
-}
-
-/// Adds UTF-8 at the end of the line, with a `?` in place of each malformed byte.
-pub fn append_utf8(line: &mut Line, bytes: &[u8]) -> Result<(), NoMemory>
-    ensures { OnOk result (line.new.items ≡ line.old.items ++ spec.utf8_text bytes.now) }
-{
-    let mut left = bytes;
-    while !left.is_empty() {
-        let (found, size, rest) = split_first(left);
-        append_shown(line, found, size)?;
-        left = rest;
+    let mut left = append_front(line, bytes)?;
+    while let [first, rest @ ..] = left {
+        line.push(if *first < 128 { *first } else { b'?' })?;
+        left = append_front(line, rest)?;
     }
     Ok(())
 }
@@ -101,10 +105,22 @@ pub fn append_utf8(line: &mut Line, bytes: &[u8]) -> Result<(), NoMemory>
 fn append_latin1(line: &mut Line, bytes: &[u8]) -> Result<(), NoMemory>
     ensures { OnOk result (line.new.items ≡ line.old.items ++ encode_utf8_all bytes.now) }
 {
-    let mut left = bytes;
+    let mut left = append_front(line, bytes)?;
     while let [first, rest @ ..] = left {
         push_char(line, char::from(*first))?;
-        left = rest;
+        left = append_front(line, rest)?;
+    }
+    Ok(())
+}
+
+// Adds UTF-8 at the end of the line, with a `?` in place of each malformed byte. For want of memory its front may
+// stand there.
+pub(crate) fn append_utf8(line: &mut Line, bytes: &[u8]) -> Result<(), NoMemory>
+    ensures { OnOk result (line.new.items ≡ line.old.items ++ spec.utf8_text bytes.now) }
+{
+    for chunk in bytes.utf8_chunks() {
+        line.append(chunk.valid())?;
+        push_marks(line, chunk.invalid().len())?;
     }
     Ok(())
 }

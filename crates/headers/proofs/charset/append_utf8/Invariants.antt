@@ -1,9 +1,8 @@
-use Rattle.std.proofs.Common.{◌≡◌, ◌++◌, length}
+use Rattle.std.proofs.Common.{◌≡◌, ◌++◌}
+use Rattle.std.specs.Str.Chunks.{utf8_chunks_rest}
 use Rattle.headers.specs.Charset.{utf8_text}
 use Rattle.headers.proofs.charset.append_utf8.Given as goal
 
-abbrev pub invariant-loop-left : goal.invariant-loop-left
-invariant-loop-left l = l.line.items ++ utf8_text l.left ≡ l.initial.line.items ++ utf8_text l.bytes
-
-abbrev pub decreases-loop-left : goal.decreases-loop-left
-decreases-loop-left l = length l.left
+abbrev pub invariant-loop-chunk : goal.invariant-loop-chunk
+invariant-loop-chunk l =
+    l.line.items ++ utf8_text (utf8_chunks_rest l.chunk-iterator) ≡ l.initial.line.items ++ utf8_text l.fn.bytes
