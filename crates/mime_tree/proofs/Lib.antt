@@ -6,3 +6,4 @@ pub mod Joining
 pub mod Levels
 pub mod LineEnds
 pub mod Sections
+pub mod QuotedLemmas

@@ -30,20 +30,22 @@ is_solid b = not (is_blank b || b == byte "\n" || b == byte "\r")
 abbrev pub from_base64 : List ℕ → List ℕ
 from_base64 text = unwrap_or (result_ok (decode_of standard (filter is_solid text))) text
 
--- what a byte gives, and how many of the bytes behind it belong to it
-abbrev pub with_escape : ℕ → Option (ℕ × List ℕ) → ℕ × ℕ
-with_escape b None = (b, 0)
-with_escape b (Some found) = (found.0, 2)
+-- what two digits give, and how many bytes belong to them; a `=` without them is itself
+abbrev pub escaped_by : Option (ℕ × List ℕ) → ℕ × ℕ
+escaped_by None = (byte "=", 0)
+escaped_by (Some found) = (found.0, 2)
 
--- the byte with which a quoted text begins, and how many of the bytes behind it belong to it (section 6.7, rule 1)
-abbrev pub quoted_byte : ℕ → List ℕ → ℕ × ℕ
-quoted_byte b rest = with_escape b (if b == byte "=" then hex_byte rest else None)
+-- the byte that a `=` and what follows it write, and how many of the bytes behind it belong to it (rule 1)
+abbrev pub escaped_byte : List ℕ → ℕ × ℕ
+escaped_byte rest = escaped_by (hex_byte rest)
 
 -- a text with its quoted bytes decoded, whose first so many bytes belong to a byte already read
 abbrev pub unquoted_from : ℕ → List ℕ → List ℕ
 unquoted_from skip [] = []
 unquoted_from (suc n) (b ∷ rest) = unquoted_from n rest
-unquoted_from zero (b ∷ rest) = (quoted_byte b rest).0 ∷ unquoted_from (quoted_byte b rest).1 rest
+unquoted_from zero (b ∷ rest) =
+    if b == byte "=" then (escaped_byte rest).0 ∷ unquoted_from (escaped_byte rest).1 rest
+    else b ∷ unquoted_from 0 rest
 
 -- a text with its quoted bytes decoded
 abbrev pub unquoted : List ℕ → List ℕ

@@ -1,23 +1,21 @@
-ghost use Rattle.std.specs.Prelude.{◌≡◌, ◌++◌, ◌≤◌, ◌<◌, length, IfOk, OnOk};
+//! Bodies in quoted-printable (RFC 2045, section 6.7).
+
+ghost use Rattle.std.specs.Prelude.{◌≡◌, ◌++◌, ◌≤◌, length, IfOk, OnOk};
 ghost use Rattle.mime_tree.specs.Decoding as spec;
 
 use bstr::ByteSlice;
-use mail_base::{Bytes, NoMemory, read_hex_byte, without_last_blanks, without_line_end};
+use mail_base::{
+    Bytes, NoMemory, read_hex_byte, split_once, without_last_blanks, without_line_end,
+};
 use std::alloc::Global;
 
-// What a byte gives, and what follows the bytes that it is written by.
-fn quoted_byte(first: u8, rest: &[u8]) -> (u8, &[u8])
-    ensures byte { result.0 ≡ (spec.quoted_byte first rest.now).0 }
-    ensures text { spec.unquoted_from (spec.quoted_byte first rest.now).1 rest.now ≡ spec.unquoted result.1.now }
+// The byte that an `=` and what follows it write, and what follows that; a `=` that means nothing is itself.
+fn escaped_byte(rest: &[u8]) -> (u8, &[u8])
+    ensures byte { result.0 ≡ (spec.escaped_byte rest.now).0 }
+    ensures text { spec.unquoted_from (spec.escaped_byte rest.now).1 rest.now ≡ spec.unquoted result.1.now }
     ensures shorter { length result.1.now ≤ length rest.now }
 {
-    if first != b'=' {
-        return (first, rest);
-    }
-    match read_hex_byte(rest) {
-        Some((byte, rest)) => (byte, rest),
-        None => (first, rest),
-    }
+    read_hex_byte(rest).unwrap_or((b'=', rest))
 }
 
 // Adds a text with its quoted bytes decoded.
@@ -25,11 +23,13 @@ fn append_unquoted(bytes: &mut Bytes, text: &[u8]) -> Result<(), NoMemory>
     ensures { OnOk result (bytes.new.items ≡ bytes.old.items ++ spec.unquoted text.now) }
 {
     let mut left = text;
-    while let [first, rest @ ..] = left {
-        let (byte, rest) = quoted_byte(*first, rest);
+    while let Some((plain, rest)) = split_once(b'=', left) {
+        let (byte, rest) = escaped_byte(rest);
+        bytes.append(plain)?;
         bytes.push(byte)?;
         left = rest;
     }
+    bytes.append(left)?;
     Ok(())
 }
 

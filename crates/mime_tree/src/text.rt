@@ -1,6 +1,8 @@
+//! The text of a part, decoded to lines.
+
 ghost use Rattle.std.specs.Prelude.{◌≡◌, ◌≤◌, length, slice_range, IfOk};
-ghost use Rattle.mime_tree.specs.Decoding as spec;
 ghost use Rattle.mail_base.specs.Series.{plain_texts};
+ghost use Rattle.mime_tree.specs.Decoding as spec;
 
 use crate::base64_body::decode_base64;
 use crate::encoding::Encoding;
@@ -8,27 +10,15 @@ use crate::part::Part;
 use crate::quoted::decode_quoted;
 use bstr::ByteSlice;
 use headers::Charset;
-use mail_base::{Bytes, Line, Lines, NoMemory, behind_line};
+use mail_base::{Lines, NoMemory, behind_line};
 use std::alloc::Global;
-
-fn decode(alloc: Global, encoding: Encoding, body: &[u8]) -> Result<Bytes, NoMemory>
-    ensures { IfOk result (λ b. b.items ≡ spec.decoded encoding body.now) }
-{
-    match encoding {
-        Encoding::Plain => Bytes::copy_of(alloc, body),
-        Encoding::Base64 => decode_base64(alloc, body),
-        Encoding::Quoted => decode_quoted(alloc, body),
-    }
-}
 
 fn lines_of(alloc: Global, charset: Charset, text: &[u8]) -> Result<Lines, NoMemory>
     ensures { IfOk result (λ l. plain_texts l ≡ spec.lines_in charset text.now) }
 {
     let mut lines = Lines::new(alloc);
     for bytes in text.lines() {
-        let mut line = Line::new(alloc);
-        charset.append_to(&mut line, bytes)?;
-        lines.push(line)?;
+        lines.push(charset.line_of(alloc, bytes)?)?;
     }
     Ok(lines)
 }
@@ -42,7 +32,10 @@ pub fn decoded_text(alloc: Global, raw: &[u8], part: &Part) -> Result<Lines, NoM
         (slice_range raw.now part.now.body_at part.now.body_end)) }
 {
     let body = behind_line(&raw[part.body_at..part.body_end]);
-    let text = decode(alloc, part.encoding, body)?;
     let charset = Charset::from_name(part.charset.as_slice());
-    lines_of(alloc, charset, text.as_slice())
+    match part.encoding {
+        Encoding::Plain => lines_of(alloc, charset, body),
+        Encoding::Base64 => lines_of(alloc, charset, decode_base64(alloc, body)?.as_slice()),
+        Encoding::Quoted => lines_of(alloc, charset, decode_quoted(alloc, body)?.as_slice()),
+    }
 }
