@@ -67,14 +67,26 @@ fn push_marks(line: &mut Line, count: usize) -> Result<(), NoMemory>
     Ok(())
 }
 
-// The front of the bytes that is ASCII, and what follows it.
-fn split_ascii(bytes: &[u8]) -> (&[u8], &[u8])
+// The bytes before the first that is no ASCII, and those from it on.
+fn split_at_high(bytes: &[u8]) -> (&[u8], &[u8])
     ensures whole { bytes.now ≡ result.0.now ++ result.1.now }
     ensures ascii { IsAscii result.0.now }
 {
     match bytes.find_non_ascii_byte() {
         Some(at) => bytes.split_at(at),
         None => (bytes, &[]),
+    }
+}
+
+// The front of the bytes that is ASCII, and what follows it. Most lines are ASCII, and that is the faster test.
+fn split_ascii(bytes: &[u8]) -> (&[u8], &[u8])
+    ensures whole { bytes.now ≡ result.0.now ++ result.1.now }
+    ensures ascii { IsAscii result.0.now }
+{
+    if bytes.is_ascii() {
+        (bytes, &[])
+    } else {
+        split_at_high(bytes)
     }
 }
 
