@@ -5,5 +5,6 @@ pub mod IdsLemmas
 pub mod LawsOfFields
 pub mod LawsOfPeople
 pub mod LawsOfText
+pub mod ReferencesLemmas
 pub mod SubjectLemmas
 pub mod ValuesLemmas

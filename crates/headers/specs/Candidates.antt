@@ -1,8 +1,9 @@
 -- The ids of the messages that a message may answer (RFC 5322, section 3.6.4).
-use Rattle.std.specs.Prelude.{◌++◌, ℕ, List, [], ◌∷◌, take, reverse, option_to_list, codes, if◌then◌else◌}
+use Rattle.std.specs.Prelude.{◌++◌, ℕ, List, [], ◌∷◌, option_to_list, codes, if◌then◌else◌}
 use Rattle.std.specs.List.{list_any}
 use Rattle.std.specs.Str.{bytes_eq}
 use Rattle.mail_base.specs.Lines.{PlainField}
+use Rattle.headers.specs.References.{last_ids}
 use Rattle.headers.specs.Values.{id_in, references}
 
 -- an id behind others, unless it is one of them
@@ -17,7 +18,7 @@ new_ids names (id ∷ rest) =
 
 -- whom a message may answer: the first id replied to, then at most 64 references from the last on, each once
 abbrev pub candidates_of : List (List ℕ) → List (List ℕ) → List (List ℕ)
-candidates_of replied references = new_ids [] (replied ++ take 64 (reverse references))
+candidates_of replied references = new_ids [] (replied ++ last_ids references)
 
 -- the ids of the messages that this one may answer, the most likely first
 abbrev pub candidates : List PlainField → List (List ℕ)

@@ -13,6 +13,7 @@ pub mod Ids
 pub mod Laws
 pub mod People
 pub mod Person
+pub mod References
 pub mod SentDate
 pub mod Subject
 pub mod Values

@@ -1,19 +1,18 @@
 //! The ids of the messages that a message may answer (RFC 5322, section 3.6.4).
 
-ghost use Rattle.std.specs.Prelude.{◌≡◌, ◌++◌, map, take, reverse, option_map, option_to_list, IfOk, OnOk};
+ghost use Rattle.std.specs.Prelude.{◌≡◌, ◌++◌, map, option_map, option_to_list, IfOk, OnOk};
 ghost use Rattle.std.specs.List.{list_any};
 ghost use Rattle.std.specs.Str.{bytes_eq};
 ghost use Rattle.mail_base.specs.Series.{plain_texts};
 ghost use Rattle.headers.specs.Candidates as spec;
 ghost use Rattle.headers.specs.Field.{plain_field};
+ghost use Rattle.headers.specs.References.{last_ids};
 
 use crate::field::Field;
-use crate::values::{id_in, references_of};
+use crate::references::last_references;
+use crate::values::id_in;
 use mail_base::{Bytes, Names, NoMemory};
 use std::alloc::Global;
-
-// How many ids of References count.
-const MOST: usize = 64;
 
 fn is_among(names: &[Bytes], id: &[u8]) -> bool
     ensures { result ≡ list_any (λ n. bytes_eq id.now n.items) names.now }
@@ -44,11 +43,14 @@ fn names_of(alloc: Global, id: Option<Bytes>) -> Result<Names, NoMemory>
     }
 }
 
+// The most ids of References that are taken.
+const MOST: usize = 64;
+
 // Adds the last 64 ids, from last to first, each unless it is there already.
 fn add_last(alloc: Global, names: &mut Names, references: &[Bytes]) -> Result<(), NoMemory>
     ensures { OnOk result (plain_texts names.new
         ≡ plain_texts names.old
-        ++ spec.new_ids (plain_texts names.old) (take 64 (reverse (map (λ n. n.items) references.now)))) }
+        ++ spec.new_ids (plain_texts names.old) (last_ids (map (λ n. n.items) references.now))) }
 {
     let mut left = references;
     for _count in 0..MOST {
@@ -66,7 +68,7 @@ fn add_last(alloc: Global, names: &mut Names, references: &[Bytes]) -> Result<()
 pub fn candidates_of(alloc: Global, fields: &[Field]) -> Result<Names, NoMemory>
     ensures { IfOk result (λ n. plain_texts n ≡ spec.candidates (map plain_field fields.now)) }
 {
-    let references = references_of(alloc, fields)?;
+    let references = last_references(alloc, fields)?;
     let mut names = names_of(alloc, id_in(alloc, fields, b"in-reply-to")?)?;
     add_last(alloc, &mut names, references.as_slice())?;
     Ok(names)

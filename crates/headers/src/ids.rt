@@ -1,10 +1,9 @@
 //! Message ids (RFC 5322, section 3.6.4).
 
-ghost use Rattle.std.specs.Prelude.{◌≡◌, ◌++◌, ◌<◌, IfOk, OnOk, IfSome, option_map, length};
+ghost use Rattle.std.specs.Prelude.{◌≡◌, ◌<◌, IfOk, IfSome, option_map, length};
 ghost use Rattle.headers.specs.Ids as spec;
-ghost use Rattle.mail_base.specs.Series.{plain_texts};
 
-use mail_base::{Bytes, Names, NoMemory, split_once};
+use mail_base::{Bytes, NoMemory, split_once};
 use std::alloc::Global;
 
 /// What stands in the brackets of a message id, and behind it.
@@ -35,16 +34,4 @@ pub fn bracketed(alloc: Global, inside: &[u8]) -> Result<Bytes, NoMemory>
     id.append(inside)?;
     id.push(b'>')?;
     Ok(id)
-}
-
-/// Adds the message ids of a text at the end of the list.
-pub fn add_ids(alloc: Global, names: &mut Names, text: &[u8]) -> Result<(), NoMemory>
-    ensures { OnOk result (plain_texts names.new ≡ plain_texts names.old ++ spec.ids text.now) }
-{
-    let mut left = text;
-    while let Some(found) = FoundId::find(left) {
-        names.push(bracketed(alloc, found.inside)?)?;
-        left = found.rest;
-    }
-    Ok(())
 }

@@ -18,6 +18,7 @@ mod ids;
 mod laws;
 mod people;
 mod person;
+mod references;
 mod sent_date;
 mod subject;
 mod values;

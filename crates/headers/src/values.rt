@@ -2,18 +2,17 @@
 
 ghost use Rattle.std.specs.Prelude.{◌≡◌, map, option_map, IfOk};
 ghost use Rattle.std.specs.List.{find};
-ghost use Rattle.mail_base.specs.Series.{plain_texts};
 ghost use Rattle.headers.specs.Field.{plain_field};
 ghost use Rattle.headers.specs.Person.{plain_persons};
 ghost use Rattle.headers.specs.Values as spec;
 
 use crate::decode::decode_words;
 use crate::field::Field;
-use crate::ids::{FoundId, add_ids, bracketed};
+use crate::ids::{FoundId, bracketed};
 use crate::people::add_people;
 use crate::person::Persons;
 use crate::sent_date::SentDate;
-use mail_base::{Bytes, Line, Names, NoMemory, is_same_name};
+use mail_base::{Bytes, Line, NoMemory, is_same_name};
 use std::alloc::Global;
 
 fn first_named<'a>(fields: &'a [Field], name: &[u8]) -> Option<&'a Field>
@@ -73,21 +72,6 @@ pub fn subject_of(alloc: Global, fields: &[Field]) -> Result<Line, NoMemory>
         Some(value) => decode_words(alloc, value),
         None => decode_words(alloc, &[]),
     }
-}
-
-/// The ids of all References fields.
-pub fn references_of(alloc: Global, fields: &[Field]) -> Result<Names, NoMemory>
-    ensures { IfOk result (λ n. plain_texts n ≡ spec.references (map plain_field fields.now)) }
-{
-    let mut names = Names::new(alloc);
-    let mut left = fields;
-    while let [first, rest @ ..] = left {
-        if is_same_name(first.name.as_slice(), b"references") {
-            add_ids(alloc, &mut names, first.value.as_slice())?;
-        }
-        left = rest;
-    }
-    Ok(names)
 }
 
 /// The date of the first Date field.

@@ -1,0 +1,73 @@
+-- How the last 64 ids are kept while more are read.
+use Rattle.std.proofs.Common.{◌≡◌, ℕ, ◌+◌, ◌≤◌, List, [], ◌∷◌, ◌++◌, length, take, drop, reverse, refl, sym, ap, ◌∙◌}
+use Rattle.std.proofs.Common.{◌-◌, Bool, true, false, filter, map, get_or, arith, append_assoc, codes}
+use Rattle.std.specs.List.{flat_map}
+use Rattle.std.specs.Prelude.{if◌then◌else◌}
+use Rattle.std.proofs.lemmas.List.{reverse-append, length-reverse, append-nil, take-take, take-append-le, take_all}
+use Rattle.mail_base.specs.Lines.{PlainField}
+use Rattle.headers.specs.Field.{plain_field}
+use Rattle.headers.specs.Ids.{ids}
+use Rattle.headers.specs.References.{last_ids}
+use Rattle.headers.specs.Values.{is_named, references}
+use Rattle.headers.specs.declared.field.Field.{Field}
+
+-- one more comes first
+last_ids-push : (ids : List (List ℕ)) (id : List ℕ) → last_ids (ids ++ id ∷ []) ≡ id ∷ take 63 (last_ids ids)
+last_ids-push ids id =
+    ap (take 64) (reverse-append ids (id ∷ []))
+    ∙ ap (λ l. id ∷ l) (sym (take-take 63 64 (reverse ids) (omega arith)))
+
+-- more ids push the same ones out
+pub last_ids-append : (xs ys more : List (List ℕ)) → last_ids xs ≡ last_ids ys
+    → last_ids (xs ++ more) ≡ last_ids (ys ++ more)
+last_ids-append xs ys [] same = rw (append-nil xs, append-nil ys) same
+last_ids-append xs ys (id ∷ more) same =
+    ap last_ids (sym (append_assoc xs (id ∷ []) more))
+    ∙ last_ids-append (xs ++ id ∷ []) (ys ++ id ∷ []) more
+    (last_ids-push xs id ∙ ap (λ l. id ∷ take 63 l) same ∙ sym (last_ids-push ys id))
+    ∙ ap last_ids (append_assoc ys (id ∷ []) more)
+
+-- of 64 or more the first is not among those that stay with one more
+pub last_ids-first : (ids : List (List ℕ)) (id : List ℕ) → 64 ≤ length ids
+    → last_ids (drop 1 ids ++ id ∷ []) ≡ last_ids (ids ++ id ∷ [])
+last_ids-first [] id many = absurd (omega arith)
+last_ids-first (first ∷ ids) id many =
+    let enough : 63 ≤ length (reverse ids) = omega (arith, length-reverse ids) in
+    last_ids-push ids id
+    ∙ ap (λ l. id ∷ l) (take-take 63 64 (reverse ids) (omega arith)
+    ∙ sym (take-append-le 63 (reverse ids) (first ∷ []) enough)
+    ∙ ap (take 63) (sym (reverse-append (first ∷ []) ids))
+    ∙ sym (take-take 63 64 (reverse (first ∷ ids)) (omega arith)))
+    ∙ sym (last_ids-push (first ∷ ids) id)
+
+-- all but the first
+pub map_behind_first : {X Y : Type 0} (f : X → Y) (xs : List X) → map f (drop 1 xs) ≡ drop 1 (map f xs)
+map_behind_first f [] = refl
+map_behind_first f (x ∷ xs) = refl
+
+references-cons : (f : PlainField) (fields : List PlainField)
+    → references (f ∷ fields) ≡ references (f ∷ []) ++ references fields
+references-cons f fields = by_name (is_named (codes "references") f)
+  where
+    by_name : (t : Bool)
+        → flat_map ids (map (λ f. f.value) (if t then f ∷ filter (is_named (codes "references")) fields
+        else filter (is_named (codes "references")) fields))
+        ≡ flat_map ids (map (λ f. f.value) (if t then f ∷ [] else [])) ++ references fields
+    by_name true = ap (λ l. l ++ references fields) (sym (append-nil (ids f.value)))
+    by_name false = refl
+
+-- the ids of the first field are read
+pub last_ids_rest : (left : List Field) (d : Field) (done after all : List (List ℕ)) → 1 ≤ length left
+    → last_ids after ≡ last_ids (done ++ references (plain_field (get_or left 0 d) ∷ []))
+    → last_ids (done ++ references (map plain_field left)) ≡ last_ids all
+    → last_ids (after ++ references (map plain_field (take (length left - 1) (drop 1 left)))) ≡ last_ids all
+last_ids_rest [] d done after all some read same = absurd (omega arith)
+last_ids_rest (f ∷ left) d done after all some read same =
+    let whole : take (length (f ∷ left) - 1) left ≡ left = take_all (length (f ∷ left) - 1) left (omega arith) in
+    let first = references (plain_field f ∷ []) in
+    let rest = references (map plain_field left) in
+    ap (λ l. last_ids (after ++ references (map plain_field l))) whole
+    ∙ last_ids-append after (done ++ first) rest read
+    ∙ ap last_ids (append_assoc done first rest)
+    ∙ ap (λ l. last_ids (done ++ l)) (sym (references-cons (plain_field f) (map plain_field left)))
+    ∙ same
