@@ -1,9 +1,8 @@
-pub mod Bodies
-pub mod Children
-pub mod Cuts
-pub mod Dashes
-pub mod Joining
-pub mod Levels
-pub mod LineEnds
-pub mod Sections
+pub mod CutLemmas
+pub mod DashLinesLemmas
+pub mod EntityLemmas
+pub mod LineEndLemmas
+pub mod OrderLemmas
+pub mod PartsLemmas
 pub mod QuotedLemmas
+pub mod SectionLemmas

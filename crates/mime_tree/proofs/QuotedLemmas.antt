@@ -8,7 +8,7 @@ use Rattle.std.proofs.lemmas.List.Quantifiers.{position-Some}
 use Rattle.std.proofs.lemmas.List.Sums.{fails_before_first}
 use Rattle.mail_base.specs.Places.{around, split_once}
 use Rattle.mail_base.proofs.PlacesLemmas.{place_none}
-use Rattle.mime_tree.specs.Decoding.{escaped_byte, unquoted, unquoted_from}
+use Rattle.mime_tree.specs.Quoted.{escaped_byte, unquoted, unquoted_from}
 
 -- what an `=` at the front of a text gives, and what follows
 abbrev pub escaped_text : List ℕ → List ℕ

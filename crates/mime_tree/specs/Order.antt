@@ -1,7 +1,7 @@
 -- How the parts of a message stand in one another and behind one another.
 use Rattle.std.specs.Prelude.{◌≤◌, ℕ, Bool, true, false, nat_lt, List, [], ◌∷◌}
 use Rattle.mime_tree.specs.declared.part.Part.{Part}
-use Rattle.mime_tree.specs.Parts.{PlainPart}
+use Rattle.mime_tree.specs.Part.{PlainPart}
 
 -- a part that stands in the body of another
 abbrev pub IsInside : PlainPart → PlainPart → Type 0

@@ -1,5 +1,7 @@
+//! Bodies in base64 (RFC 2045, section 6.8).
+
 ghost use Rattle.std.specs.Prelude.{◌≡◌, IfOk, filter};
-ghost use Rattle.mime_tree.specs.Decoding as spec;
+ghost use Rattle.mime_tree.specs.Base64Body as spec;
 
 use mail_base::{Bytes, NoMemory, is_blank};
 use std::alloc::Global;

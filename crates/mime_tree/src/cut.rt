@@ -1,10 +1,12 @@
-ghost use Rattle.std.specs.Prelude.{◌≡◌, ◌≤◌, length, map, position, IfOk};
-ghost use Rattle.mime_tree.specs.Cuts as spec;
-ghost use Rattle.mime_tree.specs.DashLines.{dash_view, delimits};
-ghost use Rattle.mime_tree.specs.Delimiters as delimiters;
-ghost use Rattle.mime_tree.specs.Views.{section_view};
+//! A section cut at its first delimiter line.
 
-use crate::dash_line::DashLine;
+ghost use Rattle.std.specs.Prelude.{◌≡◌, ◌≤◌, length, map, position, IfOk};
+ghost use Rattle.mime_tree.specs.Cut as spec;
+ghost use Rattle.mime_tree.specs.DashLines.{plain_dash_line, delimits};
+ghost use Rattle.mime_tree.specs.Delimiter as delimiter;
+ghost use Rattle.mime_tree.specs.Section.{plain_section};
+
+use crate::dash_lines::DashLine;
 use crate::delimiter::LineKind;
 use crate::section::Section;
 use mail_base::{NoMemory, behind_line, without_line_end};
@@ -22,23 +24,23 @@ pub struct Cut<'a> {
 }
 
 fn next_delimiter(boundary: &[u8], lines: &[DashLine<'_>]) -> Option<usize>
-    ensures { result ≡ position (λ line. delimits boundary.now (dash_view line)) lines.now }
+    ensures { result ≡ position (λ line. delimits boundary.now (plain_dash_line line)) lines.now }
 {
     lines.iter().position(|line| LineKind::behind_dashes(boundary, line.text).is_delimiter())
 }
 
 /// Whether the boundary is not empty and occurs in the body.
 pub fn is_cut(boundary: &[u8], body: Section<'_>) -> bool
-    ensures { result ≡ delimiters.is_cut boundary.now body.entry.text.now }
+    ensures { result ≡ delimiter.is_cut boundary.now body.entry.text.now }
 {
     !boundary.is_empty() && next_delimiter(boundary, body.dashes).is_some()
 }
 
 impl<'a> Cut<'a> {
     fn find(boundary: &[u8], section: Section<'a>) -> Option<Cut<'a>>
-        ensures first { spec.first_of boundary.now (section_view section.entry)
-            ≡ spec.front_of (section_view section.entry) result }
-        ensures behind { spec.sections_of boundary.now (section_view section.entry)
+        ensures first { spec.first_of boundary.now (plain_section section.entry)
+            ≡ spec.front_of (plain_section section.entry) result }
+        ensures behind { spec.sections_of boundary.now (plain_section section.entry)
             ≡ spec.behind_cut boundary.now result }
         ensures fewer { spec.lines_left result ≤ length section.entry.dashes.now }
     {
@@ -69,7 +71,7 @@ impl<'a> Cut<'a> {
 
 // The front of a section that is cut, else the section.
 fn front_of<'a>(section: Section<'a>, cut: Option<Cut<'a>>) -> Section<'a>
-    ensures { section_view result ≡ spec.front_of (section_view section.entry) cut.entry }
+    ensures { plain_section result ≡ spec.front_of (plain_section section.entry) cut.entry }
 {
     match cut {
         Some(cut) => cut.front,
@@ -83,8 +85,8 @@ pub fn cut_sections<'a>(
     boundary: &[u8],
     body: Section<'a>,
 ) -> Result<Vec<Section<'a>>, NoMemory>
-    ensures { IfOk result (λ v. map section_view v.items
-        ≡ spec.sections_of boundary.now (section_view body.entry)) }
+    ensures { IfOk result (λ v. map plain_section v.items
+        ≡ spec.sections_of boundary.now (plain_section body.entry)) }
 {
     let mut sections = Vec::new(alloc);
     let mut next = Cut::find(boundary, body);

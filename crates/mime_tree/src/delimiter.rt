@@ -1,7 +1,9 @@
+//! What a line is to a boundary (RFC 2046, section 5.1.1).
+
 ghost use Rattle.std.specs.Prelude.{◌≡◌, codes};
 ghost use Rattle.mail_base.specs.Fronts.{behind_text};
-ghost use Rattle.mime_tree.specs.DashLines.{dash_kind, is_closing};
-ghost use Rattle.mime_tree.specs.Delimiters as spec;
+ghost use Rattle.mime_tree.specs.DashLines.{dash_kind};
+ghost use Rattle.mime_tree.specs.Delimiter as spec;
 
 use mail_base::{behind_text, is_all_blank};
 
@@ -44,7 +46,7 @@ impl LineKind {
     }
 
     pub fn is_closing(self) -> bool
-        ensures { result ≡ is_closing self }
+        ensures { result ≡ spec.is_closing self }
     {
         matches!(self, LineKind::Closing)
     }

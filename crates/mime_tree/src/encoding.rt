@@ -1,5 +1,7 @@
+//! How the body of a part is written (RFC 2045, section 6.1).
+
 ghost use Rattle.std.specs.Prelude.{◌≡◌};
-ghost use Rattle.mime_tree.specs.Decoding as spec;
+ghost use Rattle.mime_tree.specs.Encoding as spec;
 
 use mail_base::{is_same_name, trimmed};
 

@@ -1,13 +1,16 @@
+//! The part that a section holds, and the sections in it.
+
 ghost use Rattle.std.specs.Prelude.{◌≡◌, [], false, map, option_map, unwrap_or, codes, IfOk};
 ghost use Rattle.std.specs.Str.{str_to_ascii_lowercase};
 ghost use Rattle.headers.specs.Field.{plain_field};
 ghost use Rattle.mail_base.specs.Lines.{message_fields};
-ghost use Rattle.mime_tree.specs.Cuts.{body_section};
-ghost use Rattle.mime_tree.specs.Parts as spec;
-ghost use Rattle.mime_tree.specs.Views.{plain_part, section_view};
+ghost use Rattle.mime_tree.specs.Cut.{body_section};
+ghost use Rattle.mime_tree.specs.Entity as spec;
+ghost use Rattle.mime_tree.specs.Part.{plain_part};
+ghost use Rattle.mime_tree.specs.Section.{plain_section};
 
 use crate::cut::{cut_sections, is_cut};
-use crate::dash_line::lines_from;
+use crate::dash_lines::lines_from;
 use crate::encoding::Encoding;
 use crate::media_type::media_type;
 use crate::parameter::parameter_of;
@@ -131,7 +134,7 @@ fn is_attachment(value: &[u8]) -> bool
 
 // What stands behind the header block.
 fn body_in<'a>(section: Section<'a>) -> Section<'a>
-    ensures { section_view result ≡ body_section (section_view section.entry) }
+    ensures { plain_section result ≡ body_section (plain_section section.entry) }
 {
     let text = section.text;
     let body = body_of(text);
@@ -152,7 +155,7 @@ fn sections_in<'a>(
     mut body: Section<'a>,
 ) -> Result<Vec<Section<'a>>, NoMemory>
     requires { body.in_digest ≡ false }
-    ensures { IfOk result (λ v. map section_view v.items
+    ensures { IfOk result (λ v. map plain_section v.items
         ≡ spec.sections_in content.now boundary.now body.entry.start body.entry.text.now) }
 {
     if is_multipart(content) {
@@ -175,8 +178,8 @@ fn part_of(
     content: Bytes,
 ) -> Result<Part, NoMemory>
     requires fields { map plain_field fields.now ≡ message_fields section.text.now }
-    requires content { content.items ≡ spec.type_of (section_view section) }
-    ensures { IfOk result (λ p. plain_part p ≡ spec.part_of nesting (section_view section.entry)) }
+    requires content { content.items ≡ spec.type_of (plain_section section) }
+    ensures { IfOk result (λ p. plain_part p ≡ spec.part_of nesting (plain_section section.entry)) }
 {
     let charset = charset_of(alloc, fields)?;
     let filename = filename_of(alloc, fields)?;
@@ -194,9 +197,9 @@ fn part_of(
 
 impl<'a> Entity<'a> {
     pub fn read(alloc: Global, section: Section<'a>, nesting: u32) -> Result<Entity<'a>, NoMemory>
-        ensures part { IfOk result (λ e. plain_part e.part ≡ spec.part_of nesting (section_view section.entry)) }
+        ensures part { IfOk result (λ e. plain_part e.part ≡ spec.part_of nesting (plain_section section.entry)) }
         ensures children { IfOk result
-            (λ e. map section_view e.children.items ≡ spec.children_of (section_view section.entry)) }
+            (λ e. map plain_section e.children.items ≡ spec.children_of (plain_section section.entry)) }
     {
         let body = body_in(section);
         let fields = read_fields(alloc, section.text)?;

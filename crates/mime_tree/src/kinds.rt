@@ -1,3 +1,5 @@
+//! The content types of parts.
+
 ghost use Rattle.std.specs.Prelude.{◌≡◌, IfOk, map};
 ghost use Rattle.mail_base.specs.Series.{plain_texts};
 

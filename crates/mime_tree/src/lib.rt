@@ -1,26 +1,26 @@
 //! The parts of a message, and their text decoded.
+//! Call `read_parts` for the parts of a message, `decoded_text` for the text of one, and
+//! `kind_list` for the types of all.
 #![tactic(auto)]
 
 mod base64_body;
 mod cut;
-mod dash_line;
+mod dash_lines;
 mod delimiter;
 mod encoding;
 mod entity;
-mod error;
 mod kinds;
 mod media_type;
 mod parameter;
 mod part;
+mod parts;
 mod quoted;
-mod quoting;
-mod reading;
+mod quotes;
 mod section;
 mod text;
 
 pub use encoding::Encoding;
-pub use error::MimeError;
 pub use kinds::kind_list;
 pub use part::{Part, Parts};
-pub use reading::read_parts;
+pub use parts::{MimeError, read_parts};
 pub use text::decoded_text;

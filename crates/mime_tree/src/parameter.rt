@@ -1,10 +1,11 @@
+//! Parameters of a structured field (RFC 2045, section 5.1).
+
 ghost use Rattle.std.specs.Prelude.{◌≡◌, ◌==◌, ◌||◌, ◌≤◌, ◌<◌, false, length, position, option_map, IfOk, IfSome};
 ghost use Rattle.mail_base.specs.Blanks as blanks;
 ghost use Rattle.std.specs.Str.{byte};
-ghost use Rattle.mime_tree.specs.Parameters as spec;
-ghost use Rattle.mime_tree.specs.Views.{value_view, parameter_view};
+ghost use Rattle.mime_tree.specs.Parameter as spec;
 
-use crate::quoting::behind_semicolon;
+use crate::quotes::behind_semicolon;
 use mail_base::{Bytes, NoMemory, behind, is_blank, is_same_name, token_len, without_blanks};
 use std::alloc::Global;
 
@@ -41,7 +42,7 @@ fn plain_len(text: &[u8]) -> usize
 
 // The value of a quoted string behind its first quote, if the string is closed.
 fn quoted_value<'a>(alloc: Global, text: &'a [u8]) -> Result<Option<Value<'a>>, NoMemory>
-    ensures value { IfOk result (λ o. option_map value_view o ≡ spec.quoted_value false text.now) }
+    ensures value { IfOk result (λ o. option_map spec.plain_value o ≡ spec.quoted_value false text.now) }
     ensures shorter { IfOk result (λ o. IfSome o (λ v. length v.rest.now ≤ length text.now)) }
 {
     let mut bytes = Bytes::new(alloc);
@@ -62,7 +63,7 @@ fn quoted_value<'a>(alloc: Global, text: &'a [u8]) -> Result<Option<Value<'a>>, 
 
 impl<'a> Value<'a> {
     fn read(alloc: Global, text: &'a [u8]) -> Result<Option<Value<'a>>, NoMemory>
-        ensures value { IfOk result (λ o. option_map value_view o ≡ spec.value text.now) }
+        ensures value { IfOk result (λ o. option_map spec.plain_value o ≡ spec.value text.now) }
         ensures shorter { IfOk result (λ o. IfSome o (λ v. length v.rest.now ≤ length text.now)) }
     {
         if let Some(inside) = behind(b'"', text) {
@@ -77,7 +78,7 @@ impl<'a> Value<'a> {
 impl<'a> Parameter<'a> {
     /// The parameter that stands behind a semicolon, if it is of the form.
     fn read(alloc: Global, text: &'a [u8]) -> Result<Option<Parameter<'a>>, NoMemory>
-        ensures value { IfOk result (λ o. option_map parameter_view o ≡ spec.parameter text.now) }
+        ensures value { IfOk result (λ o. option_map spec.plain_parameter o ≡ spec.parameter text.now) }
         ensures shorter { IfOk result (λ o. IfSome o (λ p. length p.value.rest.now ≤ length text.now)) }
     {
         let text = without_blanks(text);

@@ -1,3 +1,5 @@
+//! A part of a message.
+
 use crate::encoding::Encoding;
 use mail_base::{Bytes, Line, Series};
 

@@ -1,7 +1,7 @@
 //! Bodies in quoted-printable (RFC 2045, section 6.7).
 
 ghost use Rattle.std.specs.Prelude.{◌≡◌, ◌++◌, ◌≤◌, length, IfOk, OnOk};
-ghost use Rattle.mime_tree.specs.Decoding as spec;
+ghost use Rattle.mime_tree.specs.Quoted as spec;
 
 use bstr::ByteSlice;
 use mail_base::{

@@ -1,8 +1,10 @@
+//! A range of a message that holds a part or its body.
+
 ghost use Rattle.std.specs.Prelude.{◌≡◌, ◌+◌, ◌<◌, ◌^◌, length, map};
 ghost use Rattle.bstr.specs.Text.{lines_of};
-ghost use Rattle.mime_tree.specs.DashLines.{dash_lines, dash_view};
+ghost use Rattle.mime_tree.specs.DashLines.{dash_lines, plain_dash_line};
 
-use crate::dash_line::DashLine;
+use crate::dash_lines::DashLine;
 
 /// A range of a message that holds a part or its body.
 #[derive(Clone, Copy, Debug)]
@@ -14,5 +16,5 @@ pub struct Section<'a> {
     /// Its lines that begin with two dashes.
     pub dashes: &'a [DashLine<'a>],
     ghost fits: { start + length text.now < 2 ^ 64 },
-    ghost marked: { map dash_view dashes.now ≡ dash_lines start (lines_of text.now) },
+    ghost marked: { map plain_dash_line dashes.now ≡ dash_lines start (lines_of text.now) },
 }

@@ -2,7 +2,7 @@
 
 ghost use Rattle.std.specs.Prelude.{◌≡◌, ◌≤◌, length, slice_range, IfOk};
 ghost use Rattle.mail_base.specs.Series.{plain_texts};
-ghost use Rattle.mime_tree.specs.Decoding as spec;
+ghost use Rattle.mime_tree.specs.Text as spec;
 
 use crate::base64_body::decode_base64;
 use crate::encoding::Encoding;

@@ -1,6 +1,6 @@
 use Rattle.std.proofs.Common.{sym, ap, ◌∙◌}
 use Rattle.std.specs.Prelude.{is_some}
-use Rattle.mime_tree.proofs.Cuts.{delimits_is_cut}
+use Rattle.mime_tree.proofs.CutLemmas.{delimits_is_cut}
 use Rattle.mime_tree.proofs.cut.is_cut.Goals as goal
 
 pub returns-then-not-is_empty : goal.returns-then-not-is_empty

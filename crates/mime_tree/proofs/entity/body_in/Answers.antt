@@ -2,7 +2,7 @@ use Rattle.std.proofs.Common.{◌≡◌, ◌+◌, ◌-◌, length, sym, ap, ◌�
 use Rattle.bstr.specs.Text.{lines_of}
 use Rattle.mail_base.specs.Lines.{body_of}
 use Rattle.mime_tree.specs.DashLines.{dash_lines, from_place}
-use Rattle.mime_tree.proofs.Bodies.{body_marked}
+use Rattle.mime_tree.proofs.EntityLemmas.{body_marked}
 use Rattle.mime_tree.proofs.entity.body_in.Goals as goal
 
 pub invariant_of-result : goal.invariant_of-result

@@ -1,5 +1,5 @@
 use Rattle.std.proofs.Common.{◌≡◌, ℕ, ◌≤◌, length}
-use Rattle.mime_tree.specs.Parameters.{value_of, parameters, parameters_from}
+use Rattle.mime_tree.specs.Parameter.{value_of, parameters, parameters_from}
 use Rattle.mime_tree.proofs.parameter.parameter_of.Given as goal
 
 abbrev pub invariant-loop-text : goal.invariant-loop-text

@@ -1,5 +1,5 @@
 use Rattle.std.proofs.Common.{Some, None, List, ℕ, [], ◌∷◌, ◌++◌, sym, ap, ◌∙◌, append_assoc}
-use Rattle.mime_tree.specs.Decoding.{escaped_byte, unquoted}
+use Rattle.mime_tree.specs.Quoted.{escaped_byte, unquoted}
 use Rattle.mime_tree.proofs.QuotedLemmas.{unquoted-split_once}
 use Rattle.mime_tree.proofs.quoted.append_unquoted.Goals as goal
 

@@ -1,5 +1,5 @@
 use Rattle.std.proofs.Common.{◌≡◌, ◌++◌, length}
-use Rattle.mime_tree.specs.Decoding.{unquoted}
+use Rattle.mime_tree.specs.Quoted.{unquoted}
 use Rattle.mime_tree.proofs.quoted.append_unquoted.Given as goal
 
 abbrev pub invariant-loop-plain : goal.invariant-loop-plain

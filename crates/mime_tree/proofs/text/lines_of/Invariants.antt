@@ -1,6 +1,6 @@
 use Rattle.std.proofs.Common.{◌≡◌, ◌++◌, map}
 use Rattle.headers.specs.Charset.{text_in}
-use Rattle.mime_tree.specs.Decoding.{lines_in}
+use Rattle.mime_tree.specs.Text.{lines_in}
 use Rattle.mail_base.specs.Series.{plain_texts}
 use Rattle.mime_tree.proofs.text.lines_of.Given as goal
 

@@ -1,49 +1,49 @@
 use Rattle.std.proofs.Common.{◌∙◌, List, ℕ, [], length, sym, ap, arith}
 use Rattle.bstr.specs.Text.{lines_of}
 use Rattle.bstr.proofs.lemmas.RestLemmas.{concat-lines_of}
-use Rattle.mime_tree.specs.DashLines.{dash_lines, is_closing}
-use Rattle.mime_tree.specs.Delimiters.{Section}
-use Rattle.mime_tree.specs.Views.{section_view}
-use Rattle.mime_tree.proofs.Dashes.{sections_none, text_whole, low, high}
-use Rattle.mime_tree.proofs.Cuts.{IsCut, none_in, section_split, front_marked, front_fits, rest_marked, rest_fits}
-use Rattle.mime_tree.proofs.Cuts.{front_text, rest_sections}
+use Rattle.mime_tree.specs.DashLines.{dash_lines}
+use Rattle.mime_tree.specs.Delimiter.{is_closing}
+use Rattle.mime_tree.specs.Section.{PlainSection, plain_section}
+use Rattle.mime_tree.proofs.DashLinesLemmas.{sections_none, text_whole, low, high}
+use Rattle.mime_tree.proofs.CutLemmas.{IsCut, none_in, section_split, front_marked, front_fits, rest_marked, rest_fits}
+use Rattle.mime_tree.proofs.CutLemmas.{front_text, rest_sections}
 use Rattle.mime_tree.proofs.cut.Cut.find.Goals as goal
 
-with_text : Section → List ℕ → Section
+with_text : PlainSection → List ℕ → PlainSection
 with_text s text = record s { text = text }
 
 pub returns-in_default-clause-first : goal.returns-in_default-clause-first
 unfolding with_text
 returns-in_default-clause-first c =
-    let s = section_view c.args.section in
+    let s = plain_section c.args.section in
     let none = none_in c.args.boundary.now s c.args.section.dashes.now c.args.section.marked
     (sym c.next_delimiter.ensures ∙ c.in_default.is) in
     ap (with_text s) (text_whole c.args.boundary.now [] (lines_of s.text) none ∙ concat-lines_of s.text)
 
 pub returns-in_default-clause-behind : goal.returns-in_default-clause-behind
 returns-in_default-clause-behind c =
-    let s = section_view c.args.section in
+    let s = plain_section c.args.section in
     sections_none c.args.boundary.now s.in_digest s.start (lines_of s.text)
     (none_in c.args.boundary.now s c.args.section.dashes.now c.args.section.marked
     (sym c.next_delimiter.ensures ∙ c.in_default.is))
 
 pub overflow_sub-line : goal.overflow_sub-line
 overflow_sub-line c =
-    low (section_view c.args.section) _ _ _
-    (section_split c.args.boundary.now (section_view c.args.section) c.args.section.dashes.now c.in-Some.index _
+    low (plain_section c.args.section) _ _ _
+    (section_split c.args.boundary.now (plain_section c.args.section) c.args.section.dashes.now c.in-Some.index _
     c.args.section.marked (sym c.next_delimiter.ensures ∙ c.in-Some.is))
 
 pub split_at-requires : goal.split_at-requires
 split_at-requires c =
-    high (section_view c.args.section) _ _ _
-    (section_split c.args.boundary.now (section_view c.args.section) c.args.section.dashes.now c.in-Some.index _
+    high (plain_section c.args.section) _ _ _
+    (section_split c.args.boundary.now (plain_section c.args.section) c.args.section.dashes.now c.in-Some.index _
     c.args.section.marked (sym c.next_delimiter.ensures ∙ c.in-Some.is))
 
 pub invariant_of-result : goal.invariant_of-result
 invariant_of-result c =
     let s = c.args.section in
     let text = c.without_line_end.ensures in
-    let cut : IsCut c.args.boundary.now (section_view s) s.dashes.now c.in-Some.index _ _ _ _ = record {
+    let cut : IsCut c.args.boundary.now (plain_section s) s.dashes.now c.in-Some.index _ _ _ _ = record {
       marked = s.marked;
       first = sym c.next_delimiter.ensures ∙ c.in-Some.is;
       front_is = c.split_at.ensures.front;
@@ -58,7 +58,7 @@ invariant_of-result c =
 pub invariant_of-result-2 : goal.invariant_of-result-2
 invariant_of-result-2 c =
     let s = c.args.section in
-    let cut : IsCut c.args.boundary.now (section_view s) s.dashes.now c.in-Some.index _ _ _ _ = record {
+    let cut : IsCut c.args.boundary.now (plain_section s) s.dashes.now c.in-Some.index _ _ _ _ = record {
       marked = s.marked;
       first = sym c.next_delimiter.ensures ∙ c.in-Some.is;
       front_is = c.split_at.ensures.front;
@@ -74,20 +74,20 @@ pub returns-clause-first : goal.returns-clause-first
 unfolding with_text
 returns-clause-first c =
     let s = c.args.section in
-    let cut : IsCut c.args.boundary.now (section_view s) s.dashes.now c.in-Some.index _ _ _ _ = record {
+    let cut : IsCut c.args.boundary.now (plain_section s) s.dashes.now c.in-Some.index _ _ _ _ = record {
       marked = s.marked;
       first = sym c.next_delimiter.ensures ∙ c.in-Some.is;
       front_is = c.split_at.ensures.front;
       line_on_is = c.split_at.ensures.back;
       tail_is = c.behind_line-rest.ensures.value;
     } in
-    ap (with_text (section_view s)) (front_text cut ∙ sym c.without_line_end.ensures)
+    ap (with_text (plain_section s)) (front_text cut ∙ sym c.without_line_end.ensures)
 
 pub returns-clause-behind : goal.returns-clause-behind
 returns-clause-behind c =
     let s = c.args.section in
     let boundary = c.args.boundary.now in
-    let cut : IsCut boundary (section_view s) s.dashes.now c.in-Some.index _ _ _ _ = record {
+    let cut : IsCut boundary (plain_section s) s.dashes.now c.in-Some.index _ _ _ _ = record {
       marked = s.marked;
       first = sym c.next_delimiter.ensures ∙ c.in-Some.is;
       front_is = c.split_at.ensures.front;
