@@ -13,6 +13,21 @@ pub fn written_people_are_read()
     ensures { spec.WrittenPeopleAreRead }
 {}
 
+/// A person with a phrase in quotes before the brackets is read back.
+pub fn quoted_phrase_is_read()
+    ensures { spec.QuotedPhraseIsRead }
+{}
+
+/// A group gives its members.
+pub fn group_is_read()
+    ensures { spec.GroupIsRead }
+{}
+
+/// A name in a comment behind an address is read back.
+pub fn comment_is_the_name()
+    ensures { spec.CommentIsTheName }
+{}
+
 /// Fields written one a line are read back, and the body is found behind them.
 pub fn written_fields_are_read()
     ensures fields { spec.WrittenFieldsAreRead }

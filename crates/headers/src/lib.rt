@@ -29,7 +29,10 @@ pub use encoding::decode_base64;
 pub use field::{Field, Fields};
 pub use fields_so_far::read_fields;
 pub use header::{Header, read_header, read_subject};
-pub use laws::{plain_text_stays, written_fields_are_read, written_people_are_read};
+pub use laws::{
+    comment_is_the_name, group_is_read, plain_text_stays, quoted_phrase_is_read,
+    written_fields_are_read, written_people_are_read,
+};
 pub use people::read_people;
 pub use person::{Person, Persons};
 pub use sent_date::SentDate;
