@@ -17,32 +17,8 @@ use Rattle.mail_base.specs.Blanks.{without_blanks}
 use Rattle.headers.specs.Laws.{is_name, is_line_byte, is_one_line, written_field, written_message, WrittenFieldsAreRead}
 use Rattle.headers.specs.Laws.{WrittenBodyIsFound}
 use Rattle.mail_base.proofs.BlanksLemmas.{without_blanks_stay}
+use Rattle.mail_base.proofs.LinesLemmas.{lines_feed}
 use Rattle.mail_base.proofs.RoundPlaces.{prefix_stop}
-
--- a line of a text
-
-line_len_at : (content rest : List ℕ) → list_all (λ b. not (b == 10)) content ≡ true
-    → line_len (content ++ 10 ∷ rest) ≡ length content + 1
-unfolding line_len
-line_len_at [] rest none = refl
-line_len_at (b ∷ content) rest none =
-    let both = and_parts (not (b == 10)) (list_all (λ c. not (c == 10)) content) none in
-    let more = line_len_at content rest both.1 in
-    rw (not-true (b == 10) both.0) (omega (arith, more))
-
-first_line : (content rest : List ℕ) → list_all (λ b. not (b == 10)) content ≡ true
-    → lines_of (content ++ 10 ∷ rest) ≡ (content ++ 10 ∷ []) ∷ lines_of rest
-first_line content rest none =
-    let line = content ++ 10 ∷ [] in
-    let text = content ++ 10 ∷ rest in
-    let whole : text ≡ line ++ rest = sym (append_assoc content (10 ∷ []) rest) in
-    let long : length line ≡ line_len text =
-    omega (arith, line_len_at content rest none, length-append content (10 ∷ [])) in
-    let some : 0 < length text = omega (arith, length-append content (10 ∷ rest)) in
-    lines-step text some
-    ∙ ap (λ (t : List ℕ). take (line_len text) t ∷ lines_of (drop (line_len text) t)) whole
-    ∙ ap (λ (l : List ℕ). l ∷ lines_of (drop (line_len text) (line ++ rest))) (take_at line rest (line_len text) long)
-    ∙ ap (λ (l : List ℕ). line ∷ lines_of l) (drop_at line rest (line_len text) long)
 
 -- the field that a written line begins
 
@@ -158,7 +134,7 @@ line_is f = append_assoc f.name (58 ∷ 32 ∷ f.value) (10 ∷ [])
 
 block_is : (fields : List PlainField) (body : List ℕ) → list_all is_one_line fields ≡ true
     → header_block (lines_of (written_message fields body)) ≡ map written_field fields
-block_is [] body all = ap header_block (first_line [] body refl)
+block_is [] body all = ap header_block (lines_feed [] body refl)
 block_is (f ∷ fields) body all =
     let both = and_parts (is_one_line f) (list_all is_one_line fields) all in
     let parts = parts_of f both.0 in
@@ -167,7 +143,7 @@ block_is (f ∷ fields) body all =
     let full : is_empty_line (written_field f) ≡ false =
     ap is_empty_line (line_is f) ∙ not_empty_line f.name (58 ∷ (32 ∷ (f.value ++ 10 ∷ []))) parts.name in
     ap (λ (t : List ℕ). header_block (lines_of t)) apart
-    ∙ ap header_block (first_line (f.name ++ 58 ∷ 32 ∷ f.value) more (no_feed f.name f.value parts.name parts.value))
+    ∙ ap header_block (lines_feed (f.name ++ 58 ∷ 32 ∷ f.value) more (no_feed f.name f.value parts.name parts.value))
     ∙ ap (λ t. if t then [] else written_field f ∷ header_block (lines_of more)) full
     ∙ ap (λ l. written_field f ∷ l) (block_is fields body both.1)
 

@@ -4,9 +4,12 @@ use Rattle.std.proofs.Common.{length, take, drop, slice_index, refl, sym, ap, su
 use Rattle.std.proofs.Common.{length-append, length-drop, length-take-le, get_or-take, take-append-drop, append_assoc}
 use Rattle.std.specs.Prelude.{if◌then◌else◌}
 use Rattle.std.specs.List.{concat}
-use Rattle.std.proofs.lemmas.Bool.{cases_eq, cond-true, cond-false, eq-eqb, ne_eqb}
-use Rattle.std.proofs.lemmas.List.{drop-drop}
-use Rattle.bstr.specs.Text.{line_len, lines_of}
+use Rattle.std.proofs.Common.{◌==◌, ◌&&◌, not, nat_lt}
+use Rattle.std.specs.List.{list_all}
+use Rattle.std.proofs.lemmas.Bool.{and_from, and_parts, cases_eq, cond-true, cond-false, eq-eqb, lt-ltb, ne_eqb}
+use Rattle.std.proofs.lemmas.Bool.{not-true}
+use Rattle.std.proofs.lemmas.List.{drop-drop, drop_at, get_or_push, take_at}
+use Rattle.bstr.specs.Text.{line_len, lines_of, no_cr, without_terminator}
 use Rattle.bstr.proofs.lemmas.LineLemmas.{EndsLine, line_len-bounds, lines-nil, lines-step, lines-append, lines-one}
 use Rattle.bstr.proofs.lemmas.RestLemmas.{concat-lines_of}
 use Rattle.mail_base.specs.Lines.{after_block, behind_first, body_at, body_of, header_block, is_empty_line}
@@ -162,3 +165,50 @@ lines-body_of text =
     ∙ back_whole text (header_block lines ++ take split.0 after) (behind_first after)
     (both_blocks lines ∙ ap (λ ls. header_block lines ++ ls) split.1
     ∙ sym (append_assoc (header_block lines) (take split.0 after) (behind_first after)))
+
+line_len_at : (content rest : List ℕ) → list_all (λ b. not (b == 10)) content ≡ true
+    → line_len (content ++ 10 ∷ rest) ≡ length content + 1
+unfolding line_len
+line_len_at [] rest none = refl
+line_len_at (b ∷ content) rest none =
+    let both = and_parts (not (b == 10)) (list_all (λ c. not (c == 10)) content) none in
+    let more = line_len_at content rest both.1 in
+    rw (not-true (b == 10) both.0) (omega (arith, more))
+
+-- a line that ends in LF stands in front of the others
+pub lines_feed : (content rest : List ℕ) → list_all (λ b. not (b == 10)) content ≡ true
+    → lines_of (content ++ 10 ∷ rest) ≡ (content ++ 10 ∷ []) ∷ lines_of rest
+lines_feed content rest none =
+    let line = content ++ 10 ∷ [] in
+    let text = content ++ 10 ∷ rest in
+    let whole : text ≡ line ++ rest = sym (append_assoc content (10 ∷ []) rest) in
+    let long : length line ≡ line_len text =
+    omega (arith, line_len_at content rest none, length-append content (10 ∷ [])) in
+    let some : 0 < length text = omega (arith, length-append content (10 ∷ rest)) in
+    lines-step text some
+    ∙ ap (λ (t : List ℕ). take (line_len text) t ∷ lines_of (drop (line_len text) t)) whole
+    ∙ ap (λ (l : List ℕ). l ∷ lines_of (drop (line_len text) (line ++ rest))) (take_at line rest (line_len text) long)
+    ∙ ap (λ (l : List ℕ). line ∷ lines_of l) (drop_at line rest (line_len text) long)
+
+-- CR LF goes from the end of a line
+pub terminator_goes : (s : List ℕ) → without_terminator (s ++ 13 ∷ 10 ∷ []) ≡ s
+terminator_goes s =
+    let line = s ++ 13 ∷ 10 ∷ [] in
+    let text = s ++ 13 ∷ [] in
+    let whole : line ≡ text ++ 10 ∷ [] = sym (append_assoc s (13 ∷ []) (10 ∷ [])) in
+    let long : length line ≡ length s + 2 = length-append s (13 ∷ 10 ∷ []) in
+    let size : length text ≡ length s + 1 = length-append s (13 ∷ []) in
+    let feed : (nat_lt 0 (length line) && slice_index line (length line - 1) == 10) ≡ true =
+    let last : length line - 1 ≡ length text = omega arith in
+    let at : slice_index line (length line - 1) ≡ 10 =
+    ap (slice_index line) last ∙ ap (λ l. slice_index l (length text)) whole ∙ get_or_push text 10 0 (length text) refl in
+    and_from _ _ (lt-ltb 0 (length line) (omega arith)) (eq-eqb _ 10 at) in
+    let return : (nat_lt 0 (length text) && slice_index text (length text - 1) == 13) ≡ true =
+    let last : length text - 1 ≡ length s = omega arith in
+    let at : slice_index text (length text - 1) ≡ 13 =
+    ap (slice_index text) last ∙ get_or_push s 13 0 (length s) refl in
+    and_from _ _ (lt-ltb 0 (length text) (omega arith)) (eq-eqb _ 13 at) in
+    cond-true _ _ _ feed
+    ∙ ap no_cr (ap (λ l. take (length line - 1) l) whole ∙ take_at text (10 ∷ []) (length line - 1) (omega arith))
+    ∙ cond-true _ _ _ return
+    ∙ take_at s (13 ∷ []) (length text - 1) (omega arith)

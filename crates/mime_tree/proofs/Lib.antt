@@ -1,6 +1,9 @@
 pub mod CutLemmas
 pub mod DashLinesLemmas
 pub mod EntityLemmas
+pub mod LawsOfParameters
+pub mod LawsOfQuoted
+pub mod LawsOfSections
 pub mod LineEndLemmas
 pub mod OrderLemmas
 pub mod PartsLemmas

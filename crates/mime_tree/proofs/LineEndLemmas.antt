@@ -63,8 +63,8 @@ terminator_append l s some is more =
     ∙ cond_append (ends_in 10 s) l (no_cr (take (length s - 1) s)) s
 
 -- a text with no line feed
-record NoFeed (s : List ℕ) : Type 0 where
-  none : (k : ℕ) → k < length s → slice_index s k ≢ 10
+pub record NoFeed (s : List ℕ) : Type 0 where
+  pub none : (k : ℕ) → k < length s → slice_index s k ≢ 10
 
 feed_taken : (s : List ℕ) (m : ℕ) → ((k : ℕ) → k < m → k < length s → slice_index s k ≢ 10) → NoFeed (take m s)
 feed_taken s m none = record {
@@ -102,7 +102,7 @@ line_feed s line = ⊎_elim
     }
 
 -- a text with no line feed has no line end
-feed_stays : (s : List ℕ) → NoFeed s → without_terminator s ≡ s
+pub feed_stays : (s : List ℕ) → NoFeed s → without_terminator s ≡ s
 feed_stays [] free = refl
 feed_stays (b ∷ r) free =
     let s = b ∷ r in
@@ -112,7 +112,7 @@ feed_stays (b ∷ r) free =
     (λ other. cond-false (ends_in 10 s) _ _ other)
     (cases_Bool (ends_in 10 s))
 
-feed_lines : (s : List ℕ) → NoFeed s → 0 < length s → lines_of s ≡ s ∷ []
+pub feed_lines : (s : List ℕ) → NoFeed s → 0 < length s → lines_of s ≡ s ∷ []
 feed_lines s free some = lines-one s some (λ k less. free.none k (omega (arith, less)))
 
 last_dash : (at : ℕ) (s : List ℕ) (o : Option (List ℕ)) → NoFeed s → behind_text (codes "--") s ≡ o

@@ -4,6 +4,7 @@ pub mod DashLines
 pub mod Delimiter
 pub mod Encoding
 pub mod Entity
+pub mod Laws
 pub mod MediaType
 pub mod Order
 pub mod Parameter

@@ -10,6 +10,7 @@ mod delimiter;
 mod encoding;
 mod entity;
 mod kinds;
+mod laws;
 mod media_type;
 mod parameter;
 mod part;
@@ -21,6 +22,7 @@ mod text;
 
 pub use encoding::Encoding;
 pub use kinds::kind_list;
+pub use laws::{quoted_bytes_are_read, written_parameter_is_read, written_sections_are_cut};
 pub use part::{Part, Parts};
 pub use parts::{MimeError, read_parts};
 pub use text::decoded_text;
