@@ -1,7 +1,8 @@
 //! Cases of what stays of a message when its status changes.
 
 use case_files::{Answer, Case, CaseFault, Subject};
-use mbox_folder::{core_of, first_line};
+use mail_base::first_line;
+use mbox_folder::core_of;
 use std::alloc::Global;
 
 /// `region` is a message with its postmark and its separator.

@@ -2,7 +2,7 @@
 
 use crate::nodes::{disk_of, text_of};
 use case_files::{Answer, Case, CaseFault, Subject, read_number};
-use disk_model::{Device, DiskError, Stat};
+use disk_model::{Device, Disk, DiskError, Stat};
 use std::alloc::Global;
 
 /// Each `call` is its name, its path and, for `read_all`, its limit.
@@ -43,7 +43,7 @@ fn put_call(
 ) -> Result<(), CaseFault> {
     let (name, rest) = call.split_once(' ').ok_or(CaseFault::BadInput)?;
     if name == "stat" {
-        return match dev.stat(rest) {
+        return match dev.disk.stat(rest) {
             Ok(stat) => put_stat(alloc, answer, stat),
             Err(error) => put_error(alloc, answer, error),
         };
@@ -52,7 +52,10 @@ fn put_call(
         return Err(CaseFault::BadInput);
     }
     let (path, limit) = rest.rsplit_once(' ').ok_or(CaseFault::BadInput)?;
-    match dev.read_all(alloc, path, read_number(limit.as_bytes())?) {
+    match dev
+        .disk
+        .read_all(alloc, path, read_number(limit.as_bytes())?)
+    {
         Ok(read) => {
             put_stat(alloc, answer, read.stat)?;
             answer.put(b"bytes", read.bytes.as_slice())

@@ -2,9 +2,9 @@
 
 use crate::nodes::{disk_of, numbers_of, text_of, words_of};
 use case_files::{Answer, Case, CaseFault, Subject};
-use disk_model::Device;
+use disk_model::{Device, Disk};
 use folder_core::{Archive, Drivers};
-use mail_base::{Bytes, MemoryClock, MemorySink, MemorySource, Series};
+use mail_base::{Bytes, MemoryClock, MemorySink, MemorySource, Series, Words};
 use mbox_folder::MboxDriver;
 use mutt_run::{Events, Trace, run};
 use std::alloc::Global;
@@ -27,41 +27,83 @@ impl Subject for WholeRuns {
     }
 
     fn answer(&self, alloc: Global, case: &Case) -> Result<Answer, CaseFault> {
+        let words = words_of(alloc, case)?;
         let mut dev = Device::new(Box::new(alloc, disk_of(alloc, case)?)?);
-        let mut drivers = Drivers::new(alloc);
-        if drivers.add(Box::new(alloc, MboxDriver)?).is_err() {
-            return Err(CaseFault::NoMemory);
-        }
-        let keys = Bytes::copy_of(alloc, case.find(b"keys").unwrap_or(b""))?;
-        let mut source = MemorySource::new(keys, numbers_of(alloc, case, b"failing keys")?);
-        let failing_out = numbers_of(alloc, case, b"failing out")?;
-        let mut out = MemorySink::new(alloc, OUT_ROOM, failing_out)?;
-        let failing_errs = numbers_of(alloc, case, b"failing errs")?;
-        let mut errs = MemorySink::new(alloc, ERRS_ROOM, failing_errs)?;
-        let mut trace = Trace {
-            archive: Archive::new(alloc),
-            events: Events::new(alloc),
-        };
-        let status = run(
-            alloc,
-            &words_of(alloc, case)?,
-            &mut source,
-            &mut out,
-            &mut errs,
-            &mut dev,
-            &mut drivers,
-            &mut MemoryClock::new(moments_of(alloc, case)?),
-            &mut trace,
-        );
+        let mut streams = streams_of(alloc, case)?;
+        let end = end_of_run(alloc, &words, &mut dev, &mut streams)?;
         let mut answer = Answer::new(alloc);
-        answer.put_count(b"status", usize::from(status.number()))?;
-        answer.put(b"errs", errs.written().as_slice())?;
-        answer.put(b"out", out.written().as_slice())?;
-        answer.put_count(b"letters", trace.archive.len())?;
-        put_screens(alloc, &mut answer, out.written().as_slice())?;
+        put_end(&mut answer, &end, &streams)?;
+        put_screens(alloc, &mut answer, streams.out.written().as_slice())?;
         put_nodes(alloc, &mut answer, case, &mut dev)?;
         Ok(answer)
     }
+}
+
+/// What a run reads and writes beside the disk.
+#[derive(Drop)]
+struct Streams {
+    keys: MemorySource,
+    out: MemorySink,
+    errs: MemorySink,
+    clock: MemoryClock,
+}
+
+fn streams_of(alloc: Global, case: &Case) -> Result<Streams, CaseFault> {
+    let keys = Bytes::copy_of(alloc, case.find(b"keys").unwrap_or(b""))?;
+    let failing_keys = numbers_of(alloc, case, b"failing keys")?;
+    let failing_out = numbers_of(alloc, case, b"failing out")?;
+    let failing_errs = numbers_of(alloc, case, b"failing errs")?;
+    Ok(Streams {
+        keys: MemorySource::new(keys, failing_keys),
+        out: MemorySink::new(alloc, OUT_ROOM, failing_out)?,
+        errs: MemorySink::new(alloc, ERRS_ROOM, failing_errs)?,
+        clock: MemoryClock::new(moments_of(alloc, case)?),
+    })
+}
+
+/// How a run ended: its exit status, and the number of letters that it met.
+#[derive(Clone, Copy)]
+struct End {
+    status: u8,
+    letters: usize,
+}
+
+fn end_of_run(
+    alloc: Global,
+    words: &Words,
+    dev: &mut Device,
+    streams: &mut Streams,
+) -> Result<End, CaseFault> {
+    let mut drivers = Drivers::new(alloc);
+    if drivers.add(Box::new(alloc, MboxDriver)?).is_err() {
+        return Err(CaseFault::NoMemory);
+    }
+    let mut trace = Trace {
+        archive: Archive::new(alloc),
+        events: Events::new(alloc),
+    };
+    let status = run(
+        alloc,
+        words,
+        &mut streams.keys,
+        &mut streams.out,
+        &mut streams.errs,
+        dev,
+        &mut drivers,
+        &mut streams.clock,
+        &mut trace,
+    );
+    Ok(End {
+        status: status.number(),
+        letters: trace.archive.len(),
+    })
+}
+
+fn put_end(answer: &mut Answer, end: &End, streams: &Streams) -> Result<(), CaseFault> {
+    answer.put_count(b"status", usize::from(end.status))?;
+    answer.put_count(b"letters", end.letters)?;
+    answer.put(b"errs", streams.errs.written().as_slice())?;
+    answer.put(b"out", streams.out.written().as_slice())
 }
 
 /// The moments that the clock gives, none of them where there is none.
@@ -117,7 +159,7 @@ fn put_nodes(
     for entry in case.entries.as_slice() {
         if entry.role() == b"after".as_slice() {
             let key = entry.key.as_slice();
-            match dev.read_all(alloc, text_of(entry.about())?, u64::MAX) {
+            match dev.disk.read_all(alloc, text_of(entry.about())?, u64::MAX) {
                 Ok(read) => answer.put(key, read.bytes.as_slice())?,
                 Err(error) => answer.put_text(key, format!(in alloc; "{error}")?.as_str())?,
             }

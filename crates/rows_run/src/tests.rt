@@ -17,6 +17,7 @@ fn lists_and_lines_grow(rt: HostRuntime) -> Result<(), Fail> {
     for n in [3, 5, 7] {
         numbers.push(n)?;
     }
+    assert_eq!(rt; numbers.len(), 3);
     numbers.shorten(2);
     assert_eq!(rt; numbers.as_slice(), [3, 5].as_slice());
     let mut line = Line::copy_of(rt.alloc(), "é".as_bytes())?;
