@@ -17,28 +17,12 @@ impl Subject for FlagChanges {
         let flags = flags_named(case.need(b"flags")?)?;
         let added = flags_named(case.find(b"added").unwrap_or(b""))?;
         let cleared = flags_named(case.find(b"cleared").unwrap_or(b""))?;
-        let delta = change(added, cleared).ok_or(CaseFault::BadInput)?;
+        let delta = Delta::new(added, cleared).ok_or(CaseFault::BadInput)?;
         put_flags(&mut answer, b"applied", flags.apply(delta))?;
         for kind in [Kind::Mbox, Kind::Maildir, Kind::Mh, Kind::Mmdf] {
             put_flags(&mut answer, kind_name(kind), flags.stored(kind))?;
         }
         Ok(answer)
-    }
-}
-
-/// The change with these flags, of which none may be in both.
-fn change(added: Flags, cleared: Flags) -> Option<Delta> {
-    let is_apart = !(added.seen && cleared.seen)
-        && !(added.aged && cleared.aged)
-        && !(added.replied && cleared.replied)
-        && !(added.flagged && cleared.flagged)
-        && !(added.passed && cleared.passed)
-        && !(added.draft && cleared.draft)
-        && !(added.trashed && cleared.trashed);
-    if is_apart {
-        Some(Delta { added, cleared })
-    } else {
-        None
     }
 }
 

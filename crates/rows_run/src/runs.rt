@@ -4,7 +4,7 @@ use crate::nodes::{disk_of, numbers_of, text_of, words_of};
 use case_files::{Answer, Case, CaseFault, Subject};
 use disk_model::{Device, Disk};
 use folder_core::{Archive, Drivers};
-use mail_base::{Bytes, MemoryClock, MemorySink, MemorySource, Series, Words};
+use mail_base::{Bytes, MemoryClock, MemorySink, MemorySource, Words};
 use mbox_folder::MboxDriver;
 use mutt_run::{Events, Trace, run};
 use std::alloc::Global;
@@ -57,7 +57,7 @@ fn streams_of(alloc: Global, case: &Case) -> Result<Streams, CaseFault> {
         keys: MemorySource::new(keys, failing_keys),
         out: MemorySink::new(alloc, OUT_ROOM, failing_out)?,
         errs: MemorySink::new(alloc, ERRS_ROOM, failing_errs)?,
-        clock: MemoryClock::new(moments_of(alloc, case)?),
+        clock: MemoryClock::new(numbers_of(alloc, case, b"moments")?),
     })
 }
 
@@ -104,18 +104,6 @@ fn put_end(answer: &mut Answer, end: &End, streams: &Streams) -> Result<(), Case
     answer.put_count(b"letters", end.letters)?;
     answer.put(b"errs", streams.errs.written().as_slice())?;
     answer.put(b"out", streams.out.written().as_slice())
-}
-
-/// The moments that the clock gives, none of them where there is none.
-fn moments_of(alloc: Global, case: &Case) -> Result<Series<i64>, CaseFault> {
-    let mut moments = Series::new(alloc);
-    for number in numbers_of(alloc, case, b"moments")?.as_slice() {
-        match i64::try_from(*number) {
-            Ok(moment) => moments.push(moment)?,
-            Err(_) => return Err(CaseFault::BadInput),
-        }
-    }
-    Ok(moments)
 }
 
 /// Puts how many screens were printed, and each of them. A screen ends with a form feed and a line feed.

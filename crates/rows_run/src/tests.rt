@@ -4,7 +4,7 @@ use disk_model::{Device, Disk, DiskError, MemoryDisk, RealDisk, Script, Stat, Tr
 use folder_core::{Archive, Driver, Drivers, DriversError, Found, Known, ScanError};
 use mail_base::{
     Bytes, Clock, Kind, Line, MemoryClock, MemorySink, MemorySource, NoMemory, Numbers, ReadFault,
-    RealClock, Series, Sink, Source, StdSink, StdSource, WriteFault,
+    RealClock, Sink, Source, StdSink, StdSource, WriteFault,
 };
 use std::alloc::Global;
 use std::test::Fail;
@@ -53,16 +53,29 @@ fn memory_streams_fail_where_they_are_told_to(rt: HostRuntime) -> Result<(), Fai
     Ok(())
 }
 
+/// A clock that says a moment before 1970, which none in memory can.
+#[derive(Drop)]
+struct EarlyClock;
+
+impl Clock for EarlyClock {
+    ghost use Rattle.std.specs.Prelude.{None};
+
+    ghost moments = { λ _. None };
+
+    fn now(&mut self) -> i64 {
+        -3
+    }
+}
+
 #[test]
-fn memory_clock_keeps_its_last_moment(rt: HostRuntime) -> Result<(), Fail> {
-    let mut moments = Series::new(rt.alloc());
-    moments.push(5i64)?;
-    moments.push(-3i64)?;
-    let mut clock = MemoryClock::new(moments);
+fn a_clock_in_memory_keeps_its_last_moment(rt: HostRuntime) -> Result<(), Fail> {
+    let alloc = rt.alloc();
+    let mut clock = MemoryClock::new(numbered(alloc, &[5, u64::MAX])?);
     assert_eq!(rt; clock.now(), 5);
-    assert_eq!(rt; clock.now(), -3);
-    assert_eq!(rt; clock.now(), -3);
-    assert_eq!(rt; MemoryClock::new(Series::new(rt.alloc())).now(), 0);
+    assert_eq!(rt; clock.now(), i64::MAX);
+    assert_eq!(rt; clock.now(), i64::MAX);
+    assert_eq!(rt; MemoryClock::new(Numbers::new(alloc)).now(), 0);
+    assert_eq!(rt; EarlyClock.now(), -3);
     Ok(())
 }
 
