@@ -29,7 +29,7 @@ fn started(rt: &HostRuntime) -> io::Result<Status> {
     };
     let mut dev = Device::new(Box::new(alloc, RealDisk::new(rt.clone()?))?);
     let mut drivers = Drivers::new(alloc);
-    if drivers.add(Box::new(alloc, MboxDriver)?).is_err() {
+    if drivers.add(Box::new(alloc, MboxDriver::new())?).is_err() {
         return Ok(Status::NoMemory);
     }
     let mut trace = Trace {

@@ -75,7 +75,7 @@ fn end_of_run(
     streams: &mut Streams,
 ) -> Result<End, CaseFault> {
     let mut drivers = Drivers::new(alloc);
-    if drivers.add(Box::new(alloc, MboxDriver)?).is_err() {
+    if drivers.add(Box::new(alloc, MboxDriver::new())?).is_err() {
         return Err(CaseFault::NoMemory);
     }
     let mut trace = Trace {

@@ -44,7 +44,7 @@ fn put_scan(
     archive: &mut Archive,
 ) -> Result<(), CaseFault> {
     let mut known = Known::new(alloc, path, Kind::Mbox)?;
-    match MboxDriver.scan(alloc, dev, &mut known, archive) {
+    match MboxDriver::new().scan(alloc, dev, &mut known, archive) {
         Ok(found) => answer.put_count(b"came", found.came.len())?,
         Err(error) => answer.put_text(b"refused", format!(in alloc; "{error}")?.as_str())?,
     }

@@ -1,11 +1,13 @@
 //! What no case can say: streams that fail in mid-stream, the system's own streams, clock and files, and boxes.
 
-use disk_model::{Device, Disk, DiskError, MemoryDisk, RealDisk, Script, Stat, Tree, is_tree};
+use disk_model::{Device, Disk, DiskError, MemoryDisk, Node, RealDisk, Script, Stat, Tree, is_tree};
 use folder_core::{Archive, Driver, Drivers, DriversError, Found, Known, ScanError};
 use mail_base::{
     Bytes, Clock, Kind, Line, MemoryClock, MemorySink, MemorySource, NoMemory, Numbers, ReadFault,
-    RealClock, Sink, Source, StdSink, StdSource, WriteFault,
+    RealClock, Sink, Source, StdSink, StdSource, Words, WriteFault,
 };
+use mbox_folder::MboxDriver;
+use mutt_run::{Event, Events, Key, Trace, run};
 use std::alloc::Global;
 use std::test::Fail;
 use std::{fs, io};
@@ -53,20 +55,6 @@ fn memory_streams_fail_where_they_are_told_to(rt: HostRuntime) -> Result<(), Fai
     Ok(())
 }
 
-/// A clock that says a moment before 1970, which none in memory can.
-#[derive(Drop)]
-struct EarlyClock;
-
-impl Clock for EarlyClock {
-    ghost use Rattle.std.specs.Prelude.{None};
-
-    ghost moments = { λ _. None };
-
-    fn now(&mut self) -> i64 {
-        -3
-    }
-}
-
 #[test]
 fn a_clock_in_memory_keeps_its_last_moment(rt: HostRuntime) -> Result<(), Fail> {
     let alloc = rt.alloc();
@@ -75,7 +63,6 @@ fn a_clock_in_memory_keeps_its_last_moment(rt: HostRuntime) -> Result<(), Fail> 
     assert_eq!(rt; clock.now(), i64::MAX);
     assert_eq!(rt; clock.now(), i64::MAX);
     assert_eq!(rt; MemoryClock::new(Numbers::new(alloc)).now(), 0);
-    assert_eq!(rt; EarlyClock.now(), -3);
     Ok(())
 }
 
@@ -218,6 +205,54 @@ fn each_kind_has_one_driver(rt: HostRuntime) -> Result<(), Fail> {
         let found = drivers.scan(alloc, kind, &mut dev, &mut known, &mut archive);
         assert_eq!(rt; found.err(), Some(wanted), "{kind:?}");
     }
+    Ok(())
+}
+
+/// A clock that says a moment before 1970, which none in memory can.
+#[derive(Drop)]
+struct EarlyClock;
+
+impl Clock for EarlyClock {
+    ghost use Rattle.std.specs.Prelude.{None};
+
+    ghost moments = { λ _. None };
+
+    fn now(&mut self) -> i64 {
+        -3
+    }
+}
+
+#[test]
+fn a_moment_before_1970_counts_as_0(rt: HostRuntime) -> Result<(), Fail> {
+    let alloc = rt.alloc();
+    let mut tree = Tree::new(alloc);
+    tree.push(Node {
+        path: Bytes::copy_of(alloc, b"mbox")?,
+        bytes: Some(Bytes::new(alloc)),
+    })?;
+    assert!(rt; is_tree(&tree));
+    let disk = MemoryDisk::new(alloc, tree, Script::new(alloc), Numbers::new(alloc), None)?;
+    let mut drivers = Drivers::new(alloc);
+    drivers.add(Box::new(alloc, MboxDriver::new())?)?;
+    let mut trace = Trace {
+        archive: Archive::new(alloc),
+        events: Events::new(alloc),
+    };
+    let status = run(
+        alloc,
+        &Words::new(alloc),
+        &mut MemorySource::new(Bytes::copy_of(alloc, b"j")?, Numbers::new(alloc)),
+        &mut MemorySink::new(alloc, 1_000, Numbers::new(alloc))?,
+        &mut MemorySink::new(alloc, 0, Numbers::new(alloc))?,
+        &mut Device::new(Box::new(alloc, disk)?),
+        &mut drivers,
+        &mut EarlyClock,
+        &mut trace,
+    );
+    assert_eq!(rt; status.number(), 0);
+    let pressed = trace.events.get(1);
+    let at_0 = matches!(pressed, Some(Event::Pressed { key: Key::Char('j'), moment: 0 }));
+    assert!(rt; at_0);
     Ok(())
 }
 
