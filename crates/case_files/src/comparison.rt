@@ -3,8 +3,9 @@
 use crate::{Answer, Case, CaseFault, Entry, Report, Subject};
 use mail_base::NoMemory;
 
-/// Tells each key under which the answer is not what the case expects, and whether there is one. All values of a key are
-/// compared in their order; keys of the answer that the case does not name are not.
+/// Tells each key under which the answer is not what the case expects, and whether there is one.
+/// All values of a key are compared in their order; keys of the answer that the case does not name
+/// are not.
 pub fn compare<S: Subject>(
     subject: &S,
     case: &Case,

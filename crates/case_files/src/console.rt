@@ -20,7 +20,8 @@ pub fn play_file<R: Files + AllocGlobal, S: Subject>(
     }
 }
 
-/// Prints a report: in full on standard output, in short on standard error. The status is 1 where a case is wrong.
+/// Prints a report: in full on standard output, in short on standard error. The status is 1 where a
+/// case is wrong.
 pub fn print_report<R: Print + Eprint>(rt: &R, report: &Report) -> io::Result<ExitCode> {
     io::writer(rt).write_all(report.full.as_slice())?;
     let Ok(short) = str::from_utf8(report.short.as_slice()) else {

@@ -1,5 +1,5 @@
-//! The escapes of case files: `\n`, `\r`, `\t`, `\\`, `\}`, `\xNN`, and a piece repeated, `\{N:PIECE}`, in which `\#` is the
-//! number of the turn, from 1.
+//! The escapes of case files: `\n`, `\r`, `\t`, `\\`, `\}`, `\xNN`, and a piece repeated,
+//! `\{N:PIECE}`, in which `\#` is the number of the turn, from 1.
 
 use crate::CaseFault;
 use mail_base::{Bytes, NoMemory};

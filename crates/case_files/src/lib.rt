@@ -1,4 +1,5 @@
-//! Case files: worked rows as plain text. `play` reads one, makes each case's call by a `Subject`, and reports.
+//! Case files: worked rows as plain text. `play` reads one, makes each case's call by a `Subject`,
+//! and reports.
 #![tactic(auto)]
 
 mod answer;

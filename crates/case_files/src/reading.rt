@@ -6,8 +6,9 @@ use crate::{Case, CaseFault, Entry, FileFault, unescaped};
 use mail_base::Bytes;
 use std::alloc::Global;
 
-/// The cases of a file. Lines that begin with `#` are left out, and empty lines part the cases. A line `KEY: VALUE` begins
-/// an entry; a line `| TEXT` adds its text and a line feed to the value above it.
+/// The cases of a file. Lines that begin with `#` are left out, and empty lines part the cases. A
+/// line `KEY: VALUE` begins an entry; a line `| TEXT` adds its text and a line feed to the value
+/// above it.
 pub fn read_cases(alloc: Global, text: &[u8]) -> Result<Vec<Case>, FileFault> {
     let mut cases = Vec::new(alloc);
     let mut is_open = false;
@@ -83,7 +84,8 @@ fn read_entry(alloc: Global, line: &[u8]) -> Result<Entry, CaseFault> {
     })
 }
 
-/// The place of the first colon with a blank or nothing behind it, so that names of files may have colons.
+/// The place of the first colon with a blank or nothing behind it, so that names of files may have
+/// colons.
 fn key_end(line: &[u8]) -> Option<usize>
     ensures { IfSome result (λ place. place < length line.now) }
 {

@@ -7,7 +7,8 @@ use std::alloc::Global;
 /// The most bytes that are told in short.
 const MOST_SHORT: usize = 500;
 
-/// The differences in full with a line a file, and in short the names of the wrong cases, at most 500 bytes.
+/// The differences in full with a line a file, and in short the names of the wrong cases, at most
+/// 500 bytes.
 #[derive(Drop)]
 pub struct Report {
     alloc: Global,

@@ -5,7 +5,8 @@ use crate::{Case, FileFault, Report, Subject, read_cases};
 use mail_base::NoMemory;
 use std::alloc::Global;
 
-/// Reads the cases of a file, makes the call of each, compares, and reports what differs and how many are right.
+/// Reads the cases of a file, makes the call of each, compares, and reports what differs and how
+/// many are right.
 pub fn play<S: Subject>(
     alloc: Global,
     subject: &S,

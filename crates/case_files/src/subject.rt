@@ -3,7 +3,8 @@
 use crate::{Answer, Case, CaseFault};
 use std::alloc::Global;
 
-/// What a case file is about: which words begin the keys of its inputs, and which call it makes of them.
+/// What a case file is about: which words begin the keys of its inputs, and which call it makes of
+/// them.
 pub trait Subject {
     /// The first words of keys that are inputs. All other keys are what is expected.
     fn inputs(&self) -> &[&[u8]];

@@ -1,3 +1,5 @@
+//! Lines cut at display columns (Unicode Standard Annex 11).
+
 ghost use Rattle.std.specs.Prelude.{◌≡◌, ◌≤◌, ◌++◌, encode_utf8, not, true, IfOk, OnOk};
 ghost use Rattle.std.specs.List.{list_all};
 ghost use Rattle.mutt_run.specs.Columns as spec;
@@ -6,8 +8,8 @@ use mail_base::{Bytes, NoMemory};
 use std::alloc::Global;
 use unicode_width::UnicodeWidthChar;
 
-/// A text as a line of the screen shows it: a control character shows as a question mark, and the line is cut at the
-/// columns, where a blank stands for a wide character that does not fit.
+/// A text as a line of the screen shows it: a control character shows as a question mark, and the
+/// line is cut at the columns, where a blank stands for a wide character that does not fit.
 #[tactic(auto, using(crate::proofs::Shape::shown_fits, crate::proofs::Shape::shown_plain))]
 pub fn cut(alloc: Global, text: &str, cols: usize) -> Result<Bytes, NoMemory>
     ensures line { IfOk result (λ line. line.items ≡ spec.cut cols text.now) }

@@ -1,3 +1,5 @@
+//! Where the cursor starts.
+
 ghost use Rattle.std.specs.Prelude.{◌≡◌, position};
 ghost use Rattle.mutt_run.specs.Place as spec;
 

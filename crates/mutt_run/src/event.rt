@@ -1,3 +1,5 @@
+//! What happened in a run.
+
 use crate::key::Key;
 use folder_core::{Archive, Listing, ScanError};
 use mail_base::{Bytes, Kind, Series};

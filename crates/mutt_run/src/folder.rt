@@ -1,3 +1,5 @@
+//! The folder that the words name.
+
 ghost use Rattle.std.specs.Prelude.{◌≡◌};
 ghost use Rattle.mutt_run.specs.Words.{IsText, folder_of, plain_options};
 

@@ -1,3 +1,5 @@
+//! Keys.
+
 /// A key. For now each byte of the keys is one, the character of its number.
 #[derive(Clone, Copy, Debug, PartialEq, Eq)]
 pub enum Key {

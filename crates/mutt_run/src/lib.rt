@@ -1,4 +1,5 @@
-//! A whole run of the reader: words and keys come in, screens go out. Call `run`, which has the theorem.
+//! A whole run of the reader: words and keys come in, screens go out. Call `run`, which has the
+//! theorem.
 #![tactic(auto)]
 
 mod columns;

@@ -1,3 +1,5 @@
+//! Moments of the clock, brought into its range.
+
 ghost use Rattle.std.specs.Prelude.{◌≡◌, ◌∷◌, [], ◌≤ℤ◌, pos};
 ghost use Rattle.mutt_run.specs.Moments.{Gives};
 

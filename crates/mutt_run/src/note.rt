@@ -1,3 +1,5 @@
+//! What the end of a run tells on the fault stream.
+
 ghost use Rattle.std.specs.Prelude.{◌≡◌, ◌≤◌, ◌⊎◌, ◌++◌, codes, IfOk, OnOk};
 ghost use Rattle.mail_base.specs.Faults.{Rose};
 ghost use Rattle.mutt_run.specs.Notes as spec;
@@ -8,12 +10,15 @@ use folder_core::ScanError;
 use mail_base::{Bytes, NoMemory, Sink};
 use std::alloc::Global;
 
-/// Tells on the fault stream how a run ended, in one write. Where that fails it ended with a fault of a stream.
+/// Tells on the fault stream how a run ended, in one write. Where that fails it ended with a fault
+/// of a stream.
 pub fn tell<E: Sink>(alloc: Global, errs: &mut E, path: &[u8], status: Status) -> Status
-    ensures tells { spec.TellsNote (λ end. end ≡ status) (Rose (E.faults errs.old) (E.faults errs.new)) path.now result
+    ensures tells { spec.TellsNote (λ end. end ≡ status)
+        (Rose (E.faults errs.old) (E.faults errs.new)) path.now result
         (E.written errs.old) (E.written errs.new) }
     ensures status { (result ≡ status) ⊎ (result ≡ Status.OutFault) ⊎ (result ≡ Status.NoMemory) }
-    ensures cause { (result ≡ status) ⊎ (result ≡ Status.NoMemory) ⊎ Rose (E.faults errs.old) (E.faults errs.new) }
+    ensures cause { (result ≡ status) ⊎ (result ≡ Status.NoMemory) ⊎ Rose (E.faults errs.old)
+        (E.faults errs.new) }
     ensures later { E.faults errs.old ≤ E.faults errs.new }
 {
     let Ok(note) = note(alloc, path, &status) else {
@@ -51,7 +56,8 @@ fn usage_line(alloc: Global, word: &[u8]) -> Result<Bytes, NoMemory>
 }
 
 fn refusal_line(alloc: Global, path: &[u8], why: OpenFault) -> Result<Bytes, NoMemory>
-    ensures { IfOk result (λ note. note.items ≡ spec.line_of (path.now ++ codes ": " ++ spec.cause why)) }
+    ensures { IfOk result (λ note. note.items ≡ spec.line_of
+        (path.now ++ codes ": " ++ spec.cause why)) }
 {
     let mut text = Bytes::copy_of(alloc, path)?;
     text.append(b": ")?;

@@ -1,3 +1,5 @@
+//! The opening of a folder, with its event.
+
 ghost use Rattle.std.specs.Prelude.{◌≡◌, ◌≤◌, ◌∷◌, ℕ, [], List, Option, Any, IfOk, IfErr, map};
 ghost use Rattle.disk_model.specs.Looking.{LooksOnly};
 ghost use Rattle.folder_core.specs.Letters.{plain_letter};
@@ -20,7 +22,8 @@ use folder_core::{Drivers, Listing, ScanError};
 use mail_base::{Bytes, NoMemory};
 use std::alloc::Global;
 
-/// Opens the folder that the words name. Room for the event is made before the first look at the disk.
+/// Opens the folder that the words name. Room for the event is made before the first look at the
+/// disk.
 pub fn open(
     alloc: Global,
     options: &Options,
@@ -36,12 +39,16 @@ pub fn open(
     ensures opens { Opens (plain_options options.now) moment
         (λ kind. Any (λ d. sort (d.vtable, d.value) ≡ kind) drivers.now.list.items)
         (map plain_letter trace.new.archive.items) (plain_events trace.new.events.items)
-        (seen (dev.old.disk.vtable, dev.old.disk.value)) (seen (dev.new.disk.vtable, dev.new.disk.value)) }
-    ensures listed { AllListed (map plain_letter trace.new.archive.items) (plain_events trace.new.events.items) }
-    ensures shown { IfOk result (λ place. IsShown (plain_options options.now) (plain_events trace.new.events.items)
+        (seen (dev.old.disk.vtable, dev.old.disk.value))
+        (seen (dev.new.disk.vtable, dev.new.disk.value)) }
+    ensures listed { AllListed (map plain_letter trace.new.archive.items)
+        (plain_events trace.new.events.items) }
+    ensures shown { IfOk result (λ place. IsShown (plain_options options.now)
+        (plain_events trace.new.events.items)
         (plain_place place)) }
     ensures tall { IfOk result (λ place. 6 ≤ place.rows) }
-    ensures ends { IfErr result (λ status. IsEnd (plain_options options.now) (map plain_letter trace.new.archive.items)
+    ensures ends { IfErr result (λ status. IsEnd (plain_options options.now)
+        (map plain_letter trace.new.archive.items)
         (plain_events trace.new.events.items) status) }
     ensures which { IfErr result IsOpenEnd }
     ensures looks { LooksOnly (seen (dev.old.disk.vtable, dev.old.disk.value)).told
@@ -96,7 +103,8 @@ fn copied(alloc: Global, listing: &Listing) -> Result<Listing, NoMemory>
 /// How a run ends whose folder was not opened.
 fn refusal_status(why: OpenFault) -> Status
     requires { IsPossible why }
-    ensures ends { (choice : Choice) → (path : List ℕ) → (marks : EventMarks) → (left : Option (List ℕ))
+    ensures ends { (choice : Choice) → (path : List ℕ) → (marks : EventMarks) →
+        (left : Option (List ℕ))
         → EndsAs choice result (FolderRefused path why marks ∷ []) left }
     ensures which { IsOpenEnd result }
 {

@@ -1,3 +1,5 @@
+//! A folder that was read.
+
 use folder_core::Listing;
 use mail_base::Kind;
 

@@ -1,3 +1,5 @@
+//! The reading of a folder at a path.
+
 ghost use Rattle.std.specs.Prelude.{◌≡◌, ◌≤◌, [], Any, map, IfOk, IfErr, OnErr};
 ghost use Rattle.disk_model.specs.Judge.{GoesOn};
 ghost use Rattle.disk_model.specs.Looking.{LooksOnly};
@@ -23,12 +25,15 @@ pub fn read_folder(
     requires { archive.old.items ≡ [] }
     ensures looked { GoesOn (WasLooked (λ kind. Any (λ d. sort (d.vtable, d.value) ≡ kind)
         drivers.now.list.items) (map plain_letter archive.new.items) path.now result)
-        (seen (dev.old.disk.vtable, dev.old.disk.value)).told (seen (dev.new.disk.vtable, dev.new.disk.value)).told }
+        (seen (dev.old.disk.vtable, dev.old.disk.value)).told
+        (seen (dev.new.disk.vtable, dev.new.disk.value)).told }
     ensures cause { IfErr result (λ why. IsCause (λ kind. Any (λ d. sort (d.vtable, d.value) ≡ kind)
         drivers.now.list.items) why (seen (dev.old.disk.vtable, dev.old.disk.value)).faults
         (seen (dev.new.disk.vtable, dev.new.disk.value)).faults) }
-    ensures driver { IfOk result (λ opened. Any (λ d. sort (d.vtable, d.value) ≡ opened.kind) drivers.now.list.items) }
-    ensures fresh { IfOk result (λ opened. IsFresh (map plain_letter archive.new.items) opened.came.items) }
+    ensures driver { IfOk result (λ opened. Any (λ d. sort (d.vtable, d.value) ≡ opened.kind)
+        drivers.now.list.items) }
+    ensures fresh { IfOk result (λ opened. IsFresh (map plain_letter archive.new.items)
+        opened.came.items) }
     ensures none { OnErr result (map plain_letter archive.new.items ≡ []) }
     ensures looks { LooksOnly (seen (dev.old.disk.vtable, dev.old.disk.value)).told
         (seen (dev.new.disk.vtable, dev.new.disk.value)).told }

@@ -1,3 +1,5 @@
+//! What the command line chooses.
+
 use mail_base::Bytes;
 
 /// What the command line chooses. Rows are 6 to 200, columns 20 to 500.

@@ -1,3 +1,5 @@
+//! Where the reader stands, and what keys do there.
+
 ghost use Rattle.std.specs.Prelude.{◌≡◌};
 
 use crate::cursor::first_cursor;
@@ -35,7 +37,8 @@ impl Place {
     ghost use Rattle.mutt_run.specs.Keys.{after_next, after_previous, Steps};
     ghost use Rattle.mutt_run.specs.Place.{first_view, plain_place};
 
-    /// The place after an opening: the cursor is on the first new message, else the first unread, else the last.
+    /// The place after an opening: the cursor is on the first new message, else the first unread,
+    /// else the last.
     pub fn new(listing: Listing, rows: u16, cols: u16) -> Self
         ensures { plain_place result ≡ first_view rows cols listing.items }
     {

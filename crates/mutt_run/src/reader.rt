@@ -1,3 +1,5 @@
+//! A whole run, from the words to its end.
+
 ghost use Rattle.std.specs.Prelude.{◌≡◌, ◌≤◌, ◌⊎◌, ℕ, [], List, Any, IfErr, map};
 ghost use Rattle.std.specs.Io.KnownBytes.{Appends};
 ghost use Rattle.std.specs.List.{concat};
@@ -32,7 +34,8 @@ use folder_core::Drivers;
 use mail_base::{Clock, Sink, Source, Words};
 use std::alloc::Global;
 
-/// Runs the reader on the words of a command line, from the opening of the folder to the end of the keys.
+/// Runs the reader on the words of a command line, from the opening of the folder to the end of the
+/// keys.
 pub fn run<K: Source, O: Sink, E: Sink, C: Clock>(
     alloc: Global,
     words: &Words,
@@ -51,56 +54,74 @@ pub fn run<K: Source, O: Sink, E: Sink, C: Clock>(
     ensures words { IsChosen (choice_of (plain_words words.now.items)) result }
 
     // The events are a run, and it ends as the status says.
-    ensures run { IsRunFrom (chosen (plain_words words.now.items)) Unopened (plain_events trace.new.events.items) }
-    ensures ends { EndsAs (chosen (plain_words words.now.items)) result (plain_events trace.new.events.items)
+    ensures run { IsRunFrom (chosen (plain_words words.now.items)) Unopened
+        (plain_events trace.new.events.items) }
+    ensures ends { EndsAs (chosen (plain_words words.now.items)) result
+        (plain_events trace.new.events.items)
         (K.left keys.new) }
-    ensures keys { TakesKeys (K.left keys.old) (K.left keys.new) (plain_events trace.new.events.items) }
-    ensures moments { Clocked (C.moments clock.old) (C.moments clock.new) (plain_events trace.new.events.items) }
+    ensures keys { TakesKeys (K.left keys.old) (K.left keys.new)
+        (plain_events trace.new.events.items) }
+    ensures moments { Clocked (C.moments clock.old) (C.moments clock.new)
+        (plain_events trace.new.events.items) }
 
     // What is printed and told.
-    ensures out { Prints result (screens_from (chosen (plain_words words.now.items)) (map plain_letter
+    ensures out { Prints result (screens_from (chosen (plain_words words.now.items))
+        (map plain_letter
         trace.new.archive.items) Unopened
         (plain_events trace.new.events.items)) (O.written out.old) (O.written out.new) }
     ensures errs { TellsNote (λ status. EndsAs (chosen (plain_words words.now.items)) status
-        (plain_events trace.new.events.items) (K.left keys.new) × IsChosen (choice_of (plain_words words.now.items)) status)
-        (Rose (E.faults errs.old) (E.faults errs.new)) (folder_of (chosen (plain_words words.now.items))) result
+        (plain_events trace.new.events.items) (K.left keys.new) × IsChosen
+        (choice_of (plain_words words.now.items)) status)
+        (Rose (E.faults errs.old) (E.faults errs.new))
+        (folder_of (chosen (plain_words words.now.items))) result
         (E.written errs.old) (E.written errs.new) }
     // Behind the event that ends a run nothing is missing of its screens.
     ensures whole { IsOver (after_events (chosen (plain_words words.now.items)) Unopened
         (plain_events trace.new.events.items))
-        → Appends (O.written out.old) (O.written out.new) (concat (screens_from (chosen (plain_words words.now.items))
+        → Appends (O.written out.old) (O.written out.new)
+        (concat (screens_from (chosen (plain_words words.now.items))
         (map plain_letter trace.new.archive.items) Unopened (plain_events trace.new.events.items))) }
 
     // What the events say of the disk is true.
     ensures happened { GoesOn (AllHappened (λ kind. Any (λ d. sort (d.vtable, d.value) ≡ kind)
         drivers.old.list.items) (map plain_letter trace.new.archive.items) (plain_events
         trace.new.events.items))
-        (seen (dev.old.disk.vtable, dev.old.disk.value)).told (seen (dev.new.disk.vtable, dev.new.disk.value)).told }
-    ensures counted { AllCounted (λ kind. Any (λ d. sort (d.vtable, d.value) ≡ kind) drivers.old.list.items)
-        (seen (dev.old.disk.vtable, dev.old.disk.value)) (seen (dev.new.disk.vtable, dev.new.disk.value))
+        (seen (dev.old.disk.vtable, dev.old.disk.value)).told
+        (seen (dev.new.disk.vtable, dev.new.disk.value)).told }
+    ensures counted { AllCounted (λ kind. Any (λ d. sort (d.vtable, d.value) ≡ kind)
+        drivers.old.list.items)
+        (seen (dev.old.disk.vtable, dev.old.disk.value))
+        (seen (dev.new.disk.vtable, dev.new.disk.value))
         (plain_events trace.new.events.items) }
     ensures looks { LooksOnly (seen (dev.old.disk.vtable, dev.old.disk.value)).told
         (seen (dev.new.disk.vtable, dev.new.disk.value)).told }
-    ensures listed { AllListed (map plain_letter trace.new.archive.items) (plain_events trace.new.events.items) }
+    ensures listed { AllListed (map plain_letter trace.new.archive.items)
+        (plain_events trace.new.events.items) }
     ensures drivers { drivers.new.list.items ≡ drivers.old.list.items }
 
     // Words that are no command line open nothing.
-    ensures unopened { IfErr (choice_of (plain_words words.now.items)) (λ word. plain_events trace.new.events.items ≡ []) }
+    ensures unopened { IfErr (choice_of (plain_words words.now.items))
+        (λ word. plain_events trace.new.events.items ≡ []) }
 
     // A fault is answered only where its count rose.
-    ensures disk_cause { result ≡ DiskFault → Rose (seen (dev.old.disk.vtable, dev.old.disk.value)).faults
+    ensures disk_cause { result ≡ DiskFault → Rose
+        (seen (dev.old.disk.vtable, dev.old.disk.value)).faults
         (seen (dev.new.disk.vtable, dev.new.disk.value)).faults }
     ensures keys_cause { result ≡ KeysFault → Rose (K.faults keys.old) (K.faults keys.new) }
     ensures out_cause { result ≡ OutFault
         → Rose (O.faults out.old) (O.faults out.new) ⊎ Rose (E.faults errs.old) (E.faults errs.new) }
 
-    // With a readable folder and no fault the run is done, or stops for memory or at the limit of keys.
-    ensures complete { NamesReadable (λ kind. Any (λ d. sort (d.vtable, d.value) ≡ kind) drivers.old.list.items)
+    // With a readable folder and no fault the run is done, or stops for memory or at the limit of
+    // keys.
+    ensures complete { NamesReadable (λ kind. Any (λ d. sort (d.vtable, d.value) ≡ kind)
+        drivers.old.list.items)
         (choice_of (plain_words words.now.items))
-        (seen (dev.old.disk.vtable, dev.old.disk.value)) (seen (dev.new.disk.vtable, dev.new.disk.value))
+        (seen (dev.old.disk.vtable, dev.old.disk.value))
+        (seen (dev.new.disk.vtable, dev.new.disk.value))
         → ¬ (Rose (seen (dev.old.disk.vtable, dev.old.disk.value)).faults
         (seen (dev.new.disk.vtable, dev.new.disk.value)).faults)
-        → ¬ (Rose (K.faults keys.old) (K.faults keys.new)) → ¬ (Rose (O.faults out.old) (O.faults out.new))
+        → ¬ (Rose (K.faults keys.old) (K.faults keys.new)) → ¬
+        (Rose (O.faults out.old) (O.faults out.new))
         → ¬ (Rose (E.faults errs.old) (E.faults errs.new)) → IsPlainEnd result }
 {
     let moment = now(clock);
@@ -135,8 +156,10 @@ fn read<K: Source, O: Sink, C: Clock>(
     ensures reading { Reads (plain_options options.now) moment
         (λ kind. Any (λ d. sort (d.vtable, d.value) ≡ kind) drivers.now.list.items)
         (map plain_letter trace.new.archive.items) result (plain_events trace.new.events.items)
-        (seen (dev.old.disk.vtable, dev.old.disk.value)) (seen (dev.new.disk.vtable, dev.new.disk.value))
-        (O.written out.old) (O.written out.new) (K.left keys.old) (K.left keys.new) (C.moments clock.old)
+        (seen (dev.old.disk.vtable, dev.old.disk.value))
+        (seen (dev.new.disk.vtable, dev.new.disk.value))
+        (O.written out.old) (O.written out.new) (K.left keys.old) (K.left keys.new)
+        (C.moments clock.old)
         (C.moments clock.new) }
     ensures looks { LooksOnly (seen (dev.old.disk.vtable, dev.old.disk.value)).told
         (seen (dev.new.disk.vtable, dev.new.disk.value)).told }

@@ -1,3 +1,5 @@
+//! A row of the index.
+
 ghost use Rattle.std.specs.Prelude.{◌≡◌, ◌<◌, ◌+◌, ◌^◌, ◌++◌, map, IfOk, OnOk};
 ghost use Rattle.std.specs.Fmt.{decimal};
 ghost use Rattle.folder_core.specs.Letters.{plain_letter};
@@ -40,7 +42,8 @@ fn cursor_mark(here: bool) -> &'static str
     if here { "->" } else { "  " }
 }
 
-/// Adds the three status characters: N for new, O for old and unread, r for replied; a blank; ! for flagged.
+/// Adds the three status characters: N for new, O for old and unread, r for replied; a blank; ! for
+/// flagged.
 fn append_status(row: &mut Line, flags: Flags) -> Result<(), NoMemory>
     ensures { OnOk result (row.new.items ≡ row.old.items ++ spec.status_chars flags) }
 {

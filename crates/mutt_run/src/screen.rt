@@ -1,3 +1,5 @@
+//! The screen of a place.
+
 ghost use Rattle.std.specs.Prelude.{◌≡◌, ◌≤◌, ◌<◌, ◌+◌, ◌^◌, ◌++◌, ◌∷◌, [], count_by, length, map, replicate};
 ghost use Rattle.std.specs.Prelude.{IfOk, OnOk};
 ghost use Rattle.folder_core.specs.Letters.{plain_letter};
@@ -18,7 +20,8 @@ pub fn screen(alloc: Global, archive: &Archive, place: &Place) -> Result<Bytes, 
     requires { 6 ≤ place.now.rows }
     ensures bytes { IfOk result (λ bytes. bytes.items
         ≡ spec.screen (map plain_letter archive.now.items) (plain_place place.now)) }
-    ensures rows { length (spec.screen_lines (map plain_letter archive.now.items) (plain_place place.now))
+    ensures rows { length (spec.screen_lines (map plain_letter archive.now.items)
+        (plain_place place.now))
         ≡ place.now.rows }
 {
     let mut out = Bytes::new(alloc);
@@ -75,7 +78,8 @@ fn put_rows(
     requires tall { 6 ≤ place.now.rows }
     requires small { spec.page_start (plain_place place.now) + length page.now < 2 ^ 64 }
     ensures { OnOk result (out.new.items ≡ out.old.items ++ spec.printed_lines (spec.index_rows
-        (map plain_letter archive.now.items) place.now.cols place.now.cursor (spec.page_start (plain_place place.now))
+        (map plain_letter archive.now.items) place.now.cols place.now.cursor
+        (spec.page_start (plain_place place.now))
         page.now)) }
 {
     let mut number = page_start(place);
@@ -134,7 +138,8 @@ fn new_messages(listing: &[Listed]) -> usize
 }
 
 fn message_line(alloc: Global, place: &Place) -> Result<Bytes, NoMemory>
-    ensures { IfOk result (λ line. line.items ≡ columns.cut place.now.cols (spec.message_text place.now.message)) }
+    ensures { IfOk result (λ line. line.items ≡ columns.cut place.now.cols
+        (spec.message_text place.now.message)) }
 {
     cut(alloc, message_text(place.message), place.cols as usize)
 }

@@ -1,3 +1,5 @@
+//! The keys of a run, one after the other.
+
 ghost use Rattle.std.specs.Prelude.{◌≡◌, ◌≤◌, map};
 ghost use Rattle.mail_base.specs.Faults.{Rose};
 ghost use Rattle.folder_core.specs.Letters.{plain_letter};
@@ -30,7 +32,8 @@ pub fn session<K: Source, O: Sink, C: Clock>(
     ensures went { (choice : Choice)
         → GoesToEnd choice (map plain_letter trace.old.archive.items) (plain_place place.old) result
         (plain_events trace.old.events.items) (plain_events trace.new.events.items)
-        (O.written out.old) (O.written out.new) (K.left keys.old) (K.left keys.new) (C.moments clock.old)
+        (O.written out.old) (O.written out.new) (K.left keys.old) (K.left keys.new)
+        (C.moments clock.old)
         (C.moments clock.new) }
     ensures archive { trace.new.archive ≡ trace.old.archive }
     ensures keys_cause { result ≡ KeysFault → Rose (K.faults keys.old) (K.faults keys.new) }

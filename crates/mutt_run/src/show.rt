@@ -1,3 +1,5 @@
+//! A screen, printed.
+
 ghost use Rattle.std.specs.Prelude.{◌≡◌, ◌≤◌, ◌⊎◌, List, ℕ, map, IfErr, OnOk, OnErr, IsErrOf};
 ghost use Rattle.std.specs.Io.KnownBytes.{Appends};
 ghost use Rattle.mail_base.specs.Faults.{Rose};
@@ -25,7 +27,8 @@ pub fn show<O: Sink>(
         (screen_lem (map plain_letter archive.now.items) (plain_place place.now))) }
     ensures err { OnErr result ((rest : List ℕ) × Sent (O.written out.old) (O.written out.new)
         (screen_lem (map plain_letter archive.now.items) (plain_place place.now)) rest) }
-    ensures which { IfErr result (λ status. (status ≡ Status.OutFault) ⊎ (status ≡ Status.NoMemory)) }
+    ensures which { IfErr result (λ status. (status ≡ Status.OutFault) ⊎
+        (status ≡ Status.NoMemory)) }
     ensures cause { IsErrOf result Status.OutFault → Rose (O.faults out.old) (O.faults out.new) }
     ensures later { O.faults out.old ≤ O.faults out.new }
 {

@@ -1,3 +1,5 @@
+//! How a run ends.
+
 ghost use Rattle.std.specs.Prelude.{◌≡◌};
 
 use crate::event::OpenFault;

@@ -1,3 +1,5 @@
+//! One key: taken, done and shown.
+
 ghost use Rattle.std.specs.Prelude.{◌≡◌, ◌≤◌, ◌<◌, ◌⊎◌, ◌++◌, ◌∷◌, [], ℤ, map, IfErr, IsErrOf};
 ghost use Rattle.mail_base.specs.Faults.{Rose};
 ghost use Rattle.folder_core.specs.Letters.{plain_letter};
@@ -31,11 +33,13 @@ pub fn turn<O: Sink, C: Clock>(
         ≡ plain_events trace.old.events.items ++ KeyPressed (Char byte) moment ∷ [])
         × Gives (C.moments clock.old) (C.moments clock.new) (moment ∷ []) }
     ensures archive { trace.new.archive ≡ trace.old.archive }
-    ensures turned { Turned result (map plain_letter trace.old.archive.items) (plain_place place.old)
+    ensures turned { Turned result (map plain_letter trace.old.archive.items)
+        (plain_place place.old)
         (plain_place place.new)
         (Char byte) (O.written out.old) (O.written out.new) }
     ensures rows { place.new.rows ≡ place.old.rows }
-    ensures which { IfErr result (λ status. (status ≡ Status.OutFault) ⊎ (status ≡ Status.NoMemory)) }
+    ensures which { IfErr result (λ status. (status ≡ Status.OutFault) ⊎
+        (status ≡ Status.NoMemory)) }
     ensures cause { IsErrOf result Status.OutFault → Rose (O.faults out.old) (O.faults out.new) }
     ensures later { O.faults out.old ≤ O.faults out.new }
 {

@@ -1,3 +1,5 @@
+//! The words of a command line.
+
 ghost use Rattle.std.specs.Prelude.{◌≡◌, ◌≤◌, true, false, IfSome, IfNone, IfOk};
 ghost use Rattle.std.specs.Str.{all_ascii_digits};
 ghost use Rattle.mutt_run.specs.Words as spec;
@@ -37,7 +39,8 @@ pub fn read_words(alloc: Global, words: &Words) -> Result<Options, WordsError>
 fn after_word(alloc: Global, options: Options, word: &[u8]) -> Result<Options, WordsError>
     requires tall { 6 ≤ options.rows }
     requires text { spec.IsText options.folder }
-    ensures after { spec.IsAfter result (spec.after_word (spec.plain_options options) word.now) word.now }
+    ensures after { spec.IsAfter result (spec.after_word (spec.plain_options options) word.now)
+        word.now }
     ensures tall { IfOk result (λ next. 6 ≤ next.rows) }
     ensures text { IfOk result (λ next. spec.IsText next.folder) }
 {
@@ -68,7 +71,8 @@ fn with_folder(
     folder: &[u8],
     word: &[u8],
 ) -> Result<Options, WordsError>
-    ensures after { spec.IsAfter result (spec.with_folder (spec.plain_options options) folder.now) word.now }
+    ensures after { spec.IsAfter result (spec.with_folder (spec.plain_options options) folder.now)
+        word.now }
     ensures rows { IfOk result (λ next. next.rows ≡ options.rows) }
     ensures text { IfOk result (λ next. spec.IsText next.folder) }
 {
@@ -108,7 +112,8 @@ fn number(text: &[u8], low: u16, high: u16) -> Option<u16>
 
 /// The text, if it is digits alone.
 fn digits(text: &[u8]) -> Option<&str>
-    ensures some { IfSome result (λ digits. (digits.now ≡ text.now) × (spec.is_digits text.now ≡ true)) }
+    ensures some { IfSome result (λ digits. (digits.now ≡ text.now) ×
+        (spec.is_digits text.now ≡ true)) }
     ensures none { IfNone result (spec.is_digits text.now ≡ false) }
 {
     if text.is_empty() || !are_digits(text) {

@@ -7,7 +7,8 @@ use mail_base::Bytes;
 use mime_tree::{MimeError, Part, decoded_text, read_parts};
 use std::alloc::Global;
 
-/// `message` is the raw message, and `lines` the lines of the text of its parts, each with a line feed.
+/// `message` is the raw message, and `lines` the lines of the text of its parts, each with a line
+/// feed.
 pub struct Bodies;
 
 impl Subject for Bodies {

@@ -6,7 +6,8 @@ use headers::{Header, SentDate, read_header};
 use mail_base::Names;
 use std::alloc::Global;
 
-/// `message` is the raw message. A sent date is its seconds since 1970 UTC and its offset in seconds.
+/// `message` is the raw message. A sent date is its seconds since 1970 UTC and its offset in
+/// seconds.
 pub struct Headers;
 
 impl Subject for Headers {

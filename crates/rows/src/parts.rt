@@ -6,8 +6,9 @@ use mail_base::Bytes;
 use mime_tree::{Encoding, MimeError, Part, kind_list, read_parts};
 use std::alloc::Global;
 
-/// `message` is the raw message. Each `part` is its nesting and its type, and behind semicolons what else is known of it;
-/// `place N` is the range of the part of that number, from 1, and `lines N` its text, where it is text.
+/// `message` is the raw message. Each `part` is its nesting and its type, and behind semicolons
+/// what else is known of it; `place N` is the range of the part of that number, from 1, and `lines
+/// N` its text, where it is text.
 pub struct MessageParts;
 
 impl Subject for MessageParts {

@@ -5,7 +5,8 @@ use headers::{Persons, read_people};
 use mail_base::Bytes;
 use std::alloc::Global;
 
-/// `value` is an unfolded value; each `person` is `NAME <ADDRESS>`, with a blank first where there is no name.
+/// `value` is an unfolded value; each `person` is `NAME <ADDRESS>`, with a blank first where there
+/// is no name.
 pub struct People;
 
 impl Subject for People {

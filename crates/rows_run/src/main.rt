@@ -1,4 +1,5 @@
-//! The worked rows of whole runs, of scans and of disks: each case file is read, each case's run made and compared.
+//! The worked rows of whole runs, of scans and of disks: each case file is read, each case's run
+//! made and compared.
 #![tactic(auto)]
 
 mod disks;

@@ -1,4 +1,5 @@
-//! Cases of whole runs over memory: words, nodes, keys and moments in; screens, notes and the status out.
+//! Cases of whole runs over memory: words, nodes, keys and moments in; screens, notes and the
+//! status out.
 
 use crate::nodes::{disk_of, numbers_of, text_of, words_of};
 use case_files::{Answer, Case, CaseFault, Subject};
@@ -15,8 +16,9 @@ const OUT_ROOM: usize = 1_000_000;
 /// The most bytes that a case tells.
 const ERRS_ROOM: usize = 10_000;
 
-/// `words` and then each `word` are the command line, `failing keys`, `failing out`, `failing errs` and `failing disk` the calls
-/// that fail, from 0. `screen N` is a whole screen, `row N M` a line of it, both from 1; `after PATH` what stands there then.
+/// `words` and then each `word` are the command line, `failing keys`, `failing out`, `failing errs`
+/// and `failing disk` the calls that fail, from 0. `screen N` is a whole screen, `row N M` a line
+/// of it, both from 1; `after PATH` what stands there then.
 pub struct WholeRuns;
 
 impl Subject for WholeRuns {
@@ -106,7 +108,8 @@ fn put_end(answer: &mut Answer, end: &End, streams: &Streams) -> Result<(), Case
     answer.put(b"out", streams.out.written().as_slice())
 }
 
-/// Puts how many screens were printed, and each of them. A screen ends with a form feed and a line feed.
+/// Puts how many screens were printed, and each of them. A screen ends with a form feed and a line
+/// feed.
 fn put_screens(alloc: Global, answer: &mut Answer, out: &[u8]) -> Result<(), CaseFault> {
     let screens = out.iter().filter(|byte| **byte == 12).count();
     answer.put_count(b"screens", screens)?;

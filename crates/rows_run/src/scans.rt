@@ -8,8 +8,8 @@ use mail_base::{Flags, Kind};
 use mbox_folder::MboxDriver;
 use std::alloc::Global;
 
-/// Each `scan` is the path of a mailbox, into one archive. A listed message is its id and the letters of its flags, a letter
-/// its order, where its text begins, and when it was received.
+/// Each `scan` is the path of a mailbox, into one archive. A listed message is its id and the
+/// letters of its flags, a letter its order, where its text begins, and when it was received.
 pub struct Scans;
 
 impl Subject for Scans {

@@ -1,6 +1,9 @@
-//! What no case can say: streams that fail in mid-stream, the system's own streams, clock and files, and boxes.
+//! What no case can say: streams that fail in mid-stream, the system's own streams, clock and
+//! files, and boxes.
 
-use disk_model::{Device, Disk, DiskError, MemoryDisk, Node, RealDisk, Script, Stat, Tree, is_tree};
+use disk_model::{
+    Device, Disk, DiskError, MemoryDisk, Node, RealDisk, Script, Stat, Tree, is_tree,
+};
 use folder_core::{Archive, Driver, Drivers, DriversError, Found, Known, ScanError};
 use mail_base::{
     Bytes, Clock, Kind, Line, MemoryClock, MemorySink, MemorySource, NoMemory, Numbers, ReadFault,
@@ -251,7 +254,13 @@ fn a_moment_before_1970_counts_as_0(rt: HostRuntime) -> Result<(), Fail> {
     );
     assert_eq!(rt; status.number(), 0);
     let pressed = trace.events.get(1);
-    let at_0 = matches!(pressed, Some(Event::Pressed { key: Key::Char('j'), moment: 0 }));
+    let at_0 = matches!(
+        pressed,
+        Some(Event::Pressed {
+            key: Key::Char('j'),
+            moment: 0
+        })
+    );
     assert!(rt; at_0);
     Ok(())
 }
