@@ -1,29 +1,29 @@
 //! The worked rows of calls on values: each case file is read, each case's call made and compared.
 #![tactic(auto)]
 
+mod address_lists;
 mod bodies;
 mod cores;
 mod encoded_words;
 mod flags;
-mod headers;
 mod lines;
 mod parts;
-mod people;
 mod postmarks;
 mod regions;
 mod status;
+mod whole_headers;
 
+use crate::address_lists::People;
 use crate::bodies::Bodies;
 use crate::cores::Cores;
 use crate::encoded_words::EncodedWords;
 use crate::flags::FlagChanges;
-use crate::headers::Headers;
 use crate::lines::LineForms;
 use crate::parts::MessageParts;
-use crate::people::People;
 use crate::postmarks::Postmarks;
 use crate::regions::FileRegions;
 use crate::status::StatusFields;
+use crate::whole_headers::Headers;
 use case_files::{Report, play_file, print_report};
 use mail_base::NoMemory;
 use std::io;

@@ -1,6 +1,6 @@
 //! Cases of the header of a message (RFC 5322).
 
-use crate::people::put_persons;
+use crate::address_lists::put_persons;
 use case_files::{Answer, Case, CaseFault, Subject};
 use headers::{Header, SentDate, read_header};
 use mail_base::Names;
