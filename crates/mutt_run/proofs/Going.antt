@@ -10,8 +10,8 @@ use Rattle.mail_base.proofs.Sending.{appends_then, sent_none}
 use Rattle.folder_core.specs.Letters.{Mail}
 use Rattle.mutt_run.specs.Words.{Choice}
 use Rattle.mutt_run.specs.Events.{Happening, KeyPressed, FolderOpened, FolderRefused}
-use Rattle.mutt_run.specs.Keys.{after_key}
-use Rattle.mutt_run.specs.Moments.{Gives, IsGiven, later_moments, pressed_moments}
+use Rattle.mutt_run.specs.Place.{after_key}
+use Rattle.mutt_run.specs.Taken.{Gives, IsGiven, later_moments, pressed_moments}
 use Rattle.mutt_run.specs.Place.{View}
 use Rattle.mutt_run.specs.Printed.{last_length}
 use Rattle.mutt_run.specs.Runs.{Stage, Reading, Over, IsRunFrom, after_event, after_events}

@@ -13,9 +13,9 @@ use Rattle.disk_model.specs.Seen.{Seen}
 use Rattle.folder_core.specs.Letters.{Mail}
 use Rattle.mutt_run.specs.Words.{Choice}
 use Rattle.mutt_run.specs.Events.{Happening, KeyPressed, FolderOpened, FolderRefused}
-use Rattle.mutt_run.specs.Keys.{after_key}
+use Rattle.mutt_run.specs.Place.{after_key}
 use Rattle.mutt_run.specs.Happened.{AllCounted, AllHappened}
-use Rattle.mutt_run.specs.Moments.{Clocked, Gives, IsStart, pressed_moments}
+use Rattle.mutt_run.specs.Taken.{Clocked, Gives, IsStart, pressed_moments}
 use Rattle.mutt_run.specs.Notes.{TellsNote}
 use Rattle.mutt_run.specs.Opening.{IsEnd, IsShown, Opens}
 use Rattle.mutt_run.specs.Place.{View}

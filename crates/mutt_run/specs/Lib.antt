@@ -1,12 +1,9 @@
 pub mod Words
 pub mod Events
 pub mod Place
-pub mod Keys
 pub mod Columns
-pub mod Subject
 pub mod Screen
 pub mod Runs
-pub mod Moments
 pub mod Taken
 pub mod Printed
 pub mod Notes

@@ -10,13 +10,13 @@ use Rattle.mutt_run.specs.Words.{Choice}
 use Rattle.mutt_run.specs.Events.{Happening}
 use Rattle.mutt_run.specs.Place.{View}
 use Rattle.mutt_run.specs.Runs.{Unopened, Reading, IsRunFrom, after_events, screens_from}
-use Rattle.mutt_run.specs.Moments.{IsStart, pressed_moments}
+use Rattle.mutt_run.specs.Taken.{IsStart, pressed_moments}
 use Rattle.mutt_run.specs.Taken.{pressed_keys}
 use Rattle.mutt_run.specs.Printed.{EndsAs, IsOpened}
 use Rattle.mutt_run.specs.Happened.{AllCounted, AllHappened, WasOpened, WasRefused}
 use Rattle.mutt_run.specs.declared.event.OpenFault.{OpenFault}
 use Rattle.mutt_run.specs.declared.event.OpenFault.TheVariants.{Taken, NoDriver, Folder}
-use Rattle.mutt_run.specs.declared.opened.Opened.{Opened}
+use Rattle.mutt_run.specs.declared.open.Opened.{Opened}
 use Rattle.mutt_run.specs.declared.status.Status.{Status}
 use Rattle.mutt_run.specs.declared.status.Status.TheVariants.{Done, Usage, NotOpened, DiskFault, KeysFault, OutFault}
 use Rattle.mutt_run.specs.declared.status.Status.TheVariants.{NoMemory, TooManyKeys}

@@ -9,7 +9,7 @@ use Rattle.folder_core.specs.Letters.{Mail}
 use Rattle.mutt_run.specs.Words.{Choice}
 use Rattle.mutt_run.specs.Events.{Happening}
 use Rattle.mutt_run.specs.Runs.{IsRunFrom, Unopened, after_events, screens_from}
-use Rattle.mutt_run.specs.Moments.{Gives, IsStart, pressed_moments}
+use Rattle.mutt_run.specs.Taken.{Gives, IsStart, pressed_moments}
 use Rattle.mutt_run.specs.Taken.{TakesKeys}
 use Rattle.mutt_run.specs.Printed.{EndsAs, IsOver, Prints}
 use Rattle.mutt_run.specs.Happened.{AllCounted, AllHappened, AllListed}

@@ -4,7 +4,7 @@ use Rattle.folder_core.specs.Letters.{Mail}
 use Rattle.mutt_run.specs.Words.{Choice, folder_of}
 use Rattle.mutt_run.specs.Events.{Happening, KeyPressed, FolderOpened, FolderRefused}
 use Rattle.mutt_run.specs.Place.{View, first_view}
-use Rattle.mutt_run.specs.Keys.{after_key}
+use Rattle.mutt_run.specs.Place.{after_key}
 use Rattle.mutt_run.specs.Screen.{screen}
 
 -- the folder is still to be opened; it is shown; the run is over

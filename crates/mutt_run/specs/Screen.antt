@@ -1,6 +1,6 @@
 -- The screen: computed from scratch from the listing and the place.
-use Rattle.std.specs.Prelude.{◌==◌, ◌+◌, ◌-◌, ◌*◌, ◌/◌, ℕ, Bool, List, [], ◌∷◌, ◌++◌, codes, count_by, length}
-use Rattle.std.specs.Prelude.{take, drop, replicate, pos, slice_get, unwrap_or, if◌then◌else◌}
+use Rattle.std.specs.Prelude.{◌==◌, ◌+◌, ◌-◌, ◌*◌, ◌/◌, ℕ, Bool, List, [], ◌∷◌, ◌++◌, codes, count_by, length, take}
+use Rattle.std.specs.Prelude.{drop, replicate, pos, slice_get, unwrap_or, if◌then◌else◌}
 use Rattle.std.specs.Fmt.{decimal}
 use Rattle.mail_base.specs.declared.flags.Flags.{Flags}
 use Rattle.folder_core.specs.declared.listing.Listed.{Listed}
@@ -9,7 +9,16 @@ use Rattle.mutt_run.specs.declared.place.MessageLine.{MessageLine}
 use Rattle.mutt_run.specs.declared.place.MessageLine.TheVariants.{Blank, NoMessages, NoUndeleted, NotBound}
 use Rattle.mutt_run.specs.Columns.{cut}
 use Rattle.mutt_run.specs.Place.{View, is_new}
-use Rattle.mutt_run.specs.Subject.{subject_of}
+use Rattle.mail_base.specs.Lines.{message_fields}
+use Rattle.headers.specs.Values.{subject}
+
+-- the decoded subject of a text that begins with its header block
+unfoldable pub text_subject : List ℕ → List ℕ
+text_subject text = subject (message_fields text)
+
+-- a letter's subject
+abbrev pub subject_of : Mail → List ℕ
+subject_of mail = text_subject (drop mail.text_at mail.core)
 
 -- the letter of an id; an empty one where the archive has none
 abbrev pub letter_at : List Mail → ℕ → Mail

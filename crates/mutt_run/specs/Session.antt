@@ -6,8 +6,8 @@ use Rattle.mail_base.specs.Streams.{Sent}
 use Rattle.folder_core.specs.Letters.{Mail}
 use Rattle.mutt_run.specs.Words.{Choice}
 use Rattle.mutt_run.specs.Events.{Happening}
-use Rattle.mutt_run.specs.Keys.{after_key}
-use Rattle.mutt_run.specs.Moments.{Gives, pressed_moments}
+use Rattle.mutt_run.specs.Place.{after_key}
+use Rattle.mutt_run.specs.Taken.{Gives, pressed_moments}
 use Rattle.mutt_run.specs.Place.{View}
 use Rattle.mutt_run.specs.Printed.{IsDone, IsOver, IsReading, last_length}
 use Rattle.mutt_run.specs.Runs.{Stage, Reading, IsRunFrom, after_events, screens_from}

@@ -3,24 +3,17 @@
 #![tactic(auto)]
 
 mod columns;
-mod cursor;
 mod event;
-mod folder;
 mod key;
-mod moment;
 mod note;
 mod open;
-mod opened;
-mod opening;
 mod options;
 mod place;
 mod reader;
 mod row;
 mod screen;
 mod session;
-mod show;
 mod status;
-mod turn;
 mod words;
 
 pub use event::{Event, Events, Marks, OpenFault, Trace};

@@ -1,25 +1,24 @@
 //! The opening of a folder, with its event.
 
-ghost use Rattle.std.specs.Prelude.{◌≡◌, ◌≤◌, ◌∷◌, ℕ, [], List, Option, Any, IfOk, IfErr, map};
+ghost use Rattle.std.specs.Prelude.{◌≡◌, ◌≤◌, ◌∷◌, ℕ, [], List, Option, Any, IfOk, IfErr, map, OnErr};
 ghost use Rattle.disk_model.specs.Looking.{LooksOnly};
 ghost use Rattle.folder_core.specs.Letters.{plain_letter};
 ghost use Rattle.mutt_run.specs.Events.{FolderRefused, plain_events};
-ghost use Rattle.mutt_run.specs.Happened.{AllListed};
-ghost use Rattle.mutt_run.specs.Opening.{IsEnd, IsOpenEnd, IsPossible, IsShown, Opens};
+ghost use Rattle.mutt_run.specs.Happened.{AllListed, IsCause, IsFresh};
+ghost use Rattle.mutt_run.specs.Opening.{IsEnd, IsOpenEnd, IsPossible, IsShown, Opens, WasLooked};
 ghost use Rattle.mutt_run.specs.Place.{plain_place};
 ghost use Rattle.mutt_run.specs.Printed.{EndsAs};
 ghost use Rattle.mutt_run.specs.Words.{Choice, IsText, plain_options};
 ghost use Rattle.mutt_run.specs.declared.event.Marks.{Marks as EventMarks};
+ghost use Rattle.disk_model.specs.Judge.{GoesOn};
 
 use crate::event::{Event, Marks, OpenFault, Trace};
-use crate::folder::folder_path;
-use crate::opening::read_folder;
-use crate::options::Options;
+use crate::options::{Options, folder_path};
 use crate::place::Place;
 use crate::status::Status;
 use disk_model::Device;
-use folder_core::{Drivers, Listing, ScanError};
-use mail_base::{Bytes, NoMemory};
+use folder_core::{Archive, Drivers, Known, Listing, ScanError, kind_of};
+use mail_base::{Bytes, Kind, NoMemory};
 use std::alloc::Global;
 
 /// Opens the folder that the words name. Room for the event is made before the first look at the
@@ -113,5 +112,57 @@ fn refusal_status(why: OpenFault) -> Status
         OpenFault::Folder(ScanError::NoMemory) => Status::NoMemory,
         OpenFault::Folder(ScanError::ArchiveFull) | OpenFault::Taken => unreachable!(),
         _ => Status::NotOpened(why),
+    }
+}
+
+/// A folder that was read: its kind and its messages.
+#[derive(Drop)]
+pub struct Opened {
+    pub kind: Kind,
+    pub came: Listing,
+}
+
+/// Reads the folder at a path into an archive that is empty yet.
+pub fn read_folder(
+    alloc: Global,
+    path: &str,
+    dev: &mut Device,
+    drivers: &Drivers,
+    archive: &mut Archive,
+) -> Result<Opened, OpenFault>
+    requires { archive.old.items ≡ [] }
+    ensures looked { GoesOn (WasLooked (λ kind. Any (λ d. sort (d.vtable, d.value) ≡ kind)
+        drivers.now.list.items) (map plain_letter archive.new.items) path.now result)
+        (seen (dev.old.disk.vtable, dev.old.disk.value)).told
+        (seen (dev.new.disk.vtable, dev.new.disk.value)).told }
+    ensures cause { IfErr result (λ why. IsCause (λ kind. Any (λ d. sort (d.vtable, d.value) ≡ kind)
+        drivers.now.list.items) why (seen (dev.old.disk.vtable, dev.old.disk.value)).faults
+        (seen (dev.new.disk.vtable, dev.new.disk.value)).faults) }
+    ensures driver { IfOk result (λ opened. Any (λ d. sort (d.vtable, d.value) ≡ opened.kind)
+        drivers.now.list.items) }
+    ensures fresh { IfOk result (λ opened. IsFresh (map plain_letter archive.new.items)
+        opened.came.items) }
+    ensures none { OnErr result (map plain_letter archive.new.items ≡ []) }
+    ensures looks { LooksOnly (seen (dev.old.disk.vtable, dev.old.disk.value)).told
+        (seen (dev.new.disk.vtable, dev.new.disk.value)).told }
+    ensures faults { (seen (dev.old.disk.vtable, dev.old.disk.value)).faults ≤
+        (seen (dev.new.disk.vtable, dev.new.disk.value)).faults }
+{
+    let kind = match kind_of(alloc, dev, path, Kind::Mbox) {
+        Ok(kind) => kind,
+        Err(why) => return Err(OpenFault::Folder(why)),
+    };
+    if !drivers.has(kind) {
+        return Err(OpenFault::NoDriver(kind));
+    }
+    let Ok(mut known) = Known::new(alloc, path, kind) else {
+        return Err(OpenFault::Folder(ScanError::NoMemory));
+    };
+    match drivers.scan(alloc, kind, dev, &mut known, archive) {
+        Ok(found) => Ok(Opened {
+            kind,
+            came: found.came,
+        }),
+        Err(why) => Err(OpenFault::Folder(why)),
     }
 }

@@ -1,10 +1,10 @@
 //! Where the reader stands, and what keys do there.
 
-ghost use Rattle.std.specs.Prelude.{◌≡◌};
+ghost use Rattle.mutt_run.specs.Place as spec;
+ghost use Rattle.std.specs.Prelude.{◌≡◌, position};
 
-use crate::cursor::first_cursor;
 use crate::key::Key;
-use folder_core::Listing;
+use folder_core::{Listed, Listing};
 
 /// What the last line of the screen says.
 #[derive(Clone, Copy, Debug, PartialEq, Eq)]
@@ -34,7 +34,7 @@ pub struct Place {
 }
 
 impl Place {
-    ghost use Rattle.mutt_run.specs.Keys.{after_next, after_previous, Steps};
+    ghost use Rattle.mutt_run.specs.Place.{after_next, after_previous, Steps};
     ghost use Rattle.mutt_run.specs.Place.{first_view, plain_place};
 
     /// The place after an opening: the cursor is on the first new message, else the first unread,
@@ -92,4 +92,34 @@ impl Place {
             self.message = MessageLine::NoUndeleted;
         }
     }
+}
+
+/// The place of the first new message, else of the first unread, else the last.
+pub fn first_cursor(listing: &[Listed]) -> usize
+    ensures { result ≡ spec.first_cursor listing.now }
+{
+    match (first_new(listing), first_unread(listing)) {
+        (Some(place), _) => place,
+        (None, Some(place)) => place,
+        (None, None) => listing.len().saturating_sub(1),
+    }
+}
+
+fn first_new(listing: &[Listed]) -> Option<usize>
+    ensures { result ≡ position spec.is_new listing.now }
+{
+    listing.iter().position(|listed| is_new(listed))
+}
+
+fn first_unread(listing: &[Listed]) -> Option<usize>
+    ensures { result ≡ position spec.is_unread listing.now }
+{
+    listing.iter().position(|listed| !listed.flags.seen)
+}
+
+/// Whether the message is neither seen nor old.
+pub fn is_new(listed: &Listed) -> bool
+    ensures { result ≡ spec.is_new listed.now }
+{
+    !listed.flags.seen && !listed.flags.aged
 }

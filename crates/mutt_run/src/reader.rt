@@ -10,7 +10,7 @@ ghost use Rattle.folder_core.specs.Letters.{plain_letter};
 ghost use Rattle.mutt_run.specs.Complete.{IsPlainEnd, NamesReadable};
 ghost use Rattle.mutt_run.specs.Events.{plain_events};
 ghost use Rattle.mutt_run.specs.Happened.{AllCounted, AllHappened, AllListed};
-ghost use Rattle.mutt_run.specs.Moments.{Clocked};
+ghost use Rattle.mutt_run.specs.Taken.{Clocked};
 ghost use Rattle.mutt_run.specs.Notes.{TellsNote};
 ghost use Rattle.mutt_run.specs.Printed.{EndsAs, IsChosen, IsNoUsage, IsOver, Prints};
 ghost use Rattle.mutt_run.specs.Reading.{Reads};
@@ -20,13 +20,10 @@ ghost use Rattle.mutt_run.specs.Words.{IsText, choice_of, chosen, folder_of, pla
 ghost use Rattle.mutt_run.specs.declared.status.Status.TheVariants.{DiskFault, KeysFault, OutFault};
 
 use crate::event::Trace;
-use crate::folder::folder_path;
-use crate::moment::now;
 use crate::note::tell;
 use crate::open::open;
-use crate::options::{Options, WordsError};
-use crate::session::session;
-use crate::show::show;
+use crate::options::{Options, WordsError, folder_path};
+use crate::session::{now, session, show};
 use crate::status::Status;
 use crate::words::read_words;
 use disk_model::Device;

@@ -4,7 +4,7 @@ ghost use Rattle.std.specs.Prelude.{◌≡◌, ◌<◌, ◌+◌, ◌^◌, ◌++�
 ghost use Rattle.std.specs.Fmt.{decimal};
 ghost use Rattle.folder_core.specs.Letters.{plain_letter};
 ghost use Rattle.mutt_run.specs.Screen as spec;
-ghost use Rattle.mutt_run.specs.Subject.{subject_of};
+ghost use Rattle.mutt_run.specs.Screen.{subject_of};
 
 use crate::columns::cut;
 use folder_core::{Archive, Listed};
@@ -66,7 +66,7 @@ fn read_char(flags: Flags) -> u8
 }
 
 /// The subject of an id's letter; empty where the archive has none.
-#[tactic(auto, unfolding(crate::specs::Subject::text_subject))]
+#[tactic(auto, unfolding(crate::specs::Screen::text_subject))]
 fn letter_subject(alloc: Global, archive: &Archive, id: Id) -> Result<Line, NoMemory>
     ensures { IfOk result (λ subject. subject.items
         ≡ subject_of (spec.letter_at (map plain_letter archive.now.items) id.0)) }

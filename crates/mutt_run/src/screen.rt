@@ -8,8 +8,7 @@ ghost use Rattle.mutt_run.specs.Place.{is_new as is_new_lem, plain_place};
 ghost use Rattle.mutt_run.specs.Screen as spec;
 
 use crate::columns::cut;
-use crate::cursor::is_new;
-use crate::place::{MessageLine, Place};
+use crate::place::{MessageLine, Place, is_new};
 use crate::row::{append_number, index_row, text_of};
 use folder_core::{Archive, Listed};
 use mail_base::{Bytes, Line, NoMemory};

@@ -1,18 +1,26 @@
 //! The keys of a run, one after the other.
 
-ghost use Rattle.std.specs.Prelude.{◌≡◌, ◌≤◌, map};
+ghost use Rattle.std.specs.Prelude.{◌≡◌, ◌≤◌, map, ◌<◌, ◌⊎◌, ◌++◌, ◌∷◌, [], ℤ, IfErr, IsErrOf, List, ℕ, OnOk, OnErr};
+ghost use Rattle.std.specs.Prelude.{◌≤ℤ◌, pos};
 ghost use Rattle.mail_base.specs.Faults.{Rose};
 ghost use Rattle.folder_core.specs.Letters.{plain_letter};
-ghost use Rattle.mutt_run.specs.Events.{plain_events};
+ghost use Rattle.mutt_run.specs.Events.{plain_events, KeyPressed};
 ghost use Rattle.mutt_run.specs.Place.{plain_place};
-ghost use Rattle.mutt_run.specs.Session.{GoesToEnd};
+ghost use Rattle.mutt_run.specs.Session.{GoesToEnd, Turned};
 ghost use Rattle.mutt_run.specs.Words.{Choice};
 ghost use Rattle.mutt_run.specs.declared.status.Status.TheVariants.{KeysFault, OutFault};
+ghost use Rattle.mutt_run.specs.Taken.{Gives};
+ghost use Rattle.mutt_run.specs.declared.key.Key.TheVariants.{Char};
+ghost use Rattle.std.specs.Io.KnownBytes.{Appends};
+ghost use Rattle.mail_base.specs.Streams.{Sent};
+ghost use Rattle.mutt_run.specs.Screen.{screen as screen_lem};
 
-use crate::event::Trace;
+use crate::event::{Event, Trace};
+use crate::key::Key;
 use crate::place::{Next, Place};
+use crate::screen::screen;
 use crate::status::Status;
-use crate::turn::turn;
+use folder_core::Archive;
 use mail_base::{Clock, Sink, Source};
 use std::alloc::Global;
 
@@ -56,4 +64,78 @@ pub fn session<K: Source, O: Sink, C: Clock>(
         }
     }
     Status::TooManyKeys
+}
+
+/// Takes a key byte as pressed now, does what it is bound to, and prints the next screen.
+pub fn turn<O: Sink, C: Clock>(
+    alloc: Global,
+    byte: u8,
+    out: &mut O,
+    clock: &mut C,
+    place: &mut Place,
+    trace: &mut Trace,
+) -> Result<Next, Status>
+    requires tall { 6 ≤ place.old.rows }
+    requires room { 0 < trace.old.events.room }
+    ensures event { (moment : ℤ) × (plain_events trace.new.events.items
+        ≡ plain_events trace.old.events.items ++ KeyPressed (Char byte) moment ∷ [])
+        × Gives (C.moments clock.old) (C.moments clock.new) (moment ∷ []) }
+    ensures archive { trace.new.archive ≡ trace.old.archive }
+    ensures turned { Turned result (map plain_letter trace.old.archive.items)
+        (plain_place place.old)
+        (plain_place place.new)
+        (Char byte) (O.written out.old) (O.written out.new) }
+    ensures rows { place.new.rows ≡ place.old.rows }
+    ensures which { IfErr result (λ status. (status ≡ Status.OutFault) ⊎
+        (status ≡ Status.NoMemory)) }
+    ensures cause { IsErrOf result Status.OutFault → Rose (O.faults out.old) (O.faults out.new) }
+    ensures later { O.faults out.old ≤ O.faults out.new }
+{
+    let key = Key::Char(char::from(byte));
+    let moment = now(clock);
+    let _ = trace.events.push(Event::Pressed { key, moment });
+    match place.press(key) {
+        Next::Quit => Ok(Next::Quit),
+        Next::Go => {
+            show(alloc, out, &trace.archive, place)?;
+            Ok(Next::Go)
+        }
+    }
+}
+
+/// Prints the screen of a place in one write.
+pub fn show<O: Sink>(
+    alloc: Global,
+    out: &mut O,
+    archive: &Archive,
+    place: &Place,
+) -> Result<(), Status>
+    requires { 6 ≤ place.now.rows }
+    ensures ok { OnOk result (Appends (O.written out.old) (O.written out.new)
+        (screen_lem (map plain_letter archive.now.items) (plain_place place.now))) }
+    ensures err { OnErr result ((rest : List ℕ) × Sent (O.written out.old) (O.written out.new)
+        (screen_lem (map plain_letter archive.now.items) (plain_place place.now)) rest) }
+    ensures which { IfErr result (λ status. (status ≡ Status.OutFault) ⊎
+        (status ≡ Status.NoMemory)) }
+    ensures cause { IsErrOf result Status.OutFault → Rose (O.faults out.old) (O.faults out.new) }
+    ensures later { O.faults out.old ≤ O.faults out.new }
+{
+    let Ok(bytes) = screen(alloc, archive, place) else {
+        return Err(Status::NoMemory);
+    };
+    match out.put_all(bytes.as_slice()) {
+        Ok(()) => Ok(()),
+        Err(_) => Err(Status::OutFault),
+    }
+}
+
+/// The last moment that a clock is read as, in seconds since 1970 UTC.
+const LAST_MOMENT: i64 = 253_000_000_000;
+
+/// The clock's moment, brought into range.
+pub fn now<C: Clock>(clock: &mut C) -> i64
+    ensures gives { Gives (C.moments clock.old) (C.moments clock.new) (result ∷ []) }
+    ensures range { (pos 0 ≤ℤ result) × (result ≤ℤ pos 253_000_000_000) }
+{
+    clock.now().clamp(0, LAST_MOMENT)
 }

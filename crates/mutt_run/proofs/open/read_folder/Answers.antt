@@ -3,7 +3,7 @@ use Rattle.folder_core.specs.Known.{KnownFolder}
 use Rattle.folder_core.specs.Letters.{plain_letter}
 use Rattle.disk_model.proofs.Looking.{looks_then}
 use Rattle.mutt_run.proofs.Looked.{kind_told, found_told, refused_told}
-use Rattle.mutt_run.proofs.opening.read_folder.Goals as goal
+use Rattle.mutt_run.proofs.open.read_folder.Goals as goal
 
 pub returns-then-not-has-clause-looked : goal.returns-then-not-has-clause-looked
 returns-then-not-has-clause-looked g c = kind_told _ _ _ _ c.in-Ok.ensures.kind
