@@ -14,6 +14,7 @@ use Rattle.mutt_run.specs.Complete.{IsReadable, IsReadableTold, IsPlainEnd, Name
 use Rattle.mutt_run.specs.Events.{Happening, KeyPressed, FolderOpened, FolderRefused}
 use Rattle.mutt_run.specs.Happened.{AllCounted, AllHappened, IsCause, WasNoKind, WasNotListed, WasRefused}
 use Rattle.mutt_run.specs.Printed.{EndsAs, IsNoUsage, IsRefused, IsStated}
+use Rattle.mutt_run.specs.Outside.{outside}
 use Rattle.mutt_run.specs.Reading.{Reads}
 use Rattle.mutt_run.specs.Runs.{IsRunFrom, Unopened}
 use Rattle.mutt_run.specs.Words.{Choice, folder_of}
@@ -111,7 +112,7 @@ module _ (Has : Kind → Type 0) (choice : Choice) (archive : List Mail) (old ne
 pub read_plain : (choice : Choice) (start : ℤ) (Has : Kind → Type 0) (archive : List Mail) (status : Status)
     (events : List Happening) (old new : Seen) (out out' keys keys' : Option (List ℕ)) (clock clock' : Option (List ℤ))
     (words : Result Choice (List ℕ))
-    → Reads choice start Has archive status events old new out out' keys keys' clock clock'
+    → Reads choice start Has archive status events (outside out keys clock old) (outside out' keys' clock' new)
     → words ≡ Ok choice → NamesReadable Has words old new → IsNoUsage status
     → (Rose old.faults new.faults → ⊥) → (status ≡ KeysFault → ⊥) → (status ≡ OutFault → ⊥) → IsPlainEnd status
 read_plain choice start Has archive status events old new out out' keys keys' clock clock' words reads named readable

@@ -17,7 +17,8 @@ use Rattle.mutt_run.specs.Printed.{last_length}
 use Rattle.mutt_run.specs.Runs.{Stage, Reading, Over, IsRunFrom, after_event, after_events}
 use Rattle.mutt_run.specs.Runs.{screens_from, stage_of, stage_screens}
 use Rattle.mutt_run.specs.Screen.{screen}
-use Rattle.mutt_run.specs.Session.{EndsKeys, GoesToEnd, Turned, Went}
+use Rattle.mutt_run.specs.Outside.{Streams, streams}
+use Rattle.mutt_run.specs.Session.{EndsKeys, GoesToEnd, Shown, Turned, Went, shown}
 use Rattle.mutt_run.specs.Taken.{pressed_keys}
 use Rattle.mutt_run.specs.declared.key.Key.{Key}
 use Rattle.mutt_run.specs.declared.key.Key.TheVariants.{Char}
@@ -107,10 +108,10 @@ sent_all a b x h = (x, sym (append-nil x), h)
 
 pub went_none : (choice : Choice) (archive : List Mail) (view : View) (events : List Happening)
     (out keys : Option (List ℕ)) (clock : Option (List ℤ))
-    → Went choice archive view (Reading view) events events out out keys keys clock clock []
+    → Went (shown choice archive view) (Reading view) events events (streams out keys clock) (streams out keys clock) []
 went_none choice archive view events out keys clock = record {
   more = [];
-  events = sym (append-nil events);
+  events_are = sym (append-nil events);
   run = tt;
   stage_is = refl;
   sent = sent_none out [];
@@ -132,7 +133,7 @@ sent_short a b piece rest h = omega (arith, ap length h.1, length-append h.0 res
 -- one key more, which was the last one or was followed by a screen
 module _ (choice : Choice) (archive : List Mail) (view v : View) (old mid new : List Happening)
     (out out1 out2 keys keys1 keys2 : Option (List ℕ)) (clock clock1 clock2 : Option (List ℤ)) (b : ℕ) (moment : ℤ)
-    (went : Went choice archive view (Reading v) old mid out out1 keys keys1 clock clock1 [])
+    (went : Went (shown choice archive view) (Reading v) old mid (streams out keys clock) (streams out1 keys1 clock1) [])
     (event : new ≡ mid ++ KeyPressed (Char b) moment ∷ []) (byte : Consumes keys1 keys2 (b ∷ []))
     (tick : Gives clock1 clock2 (moment ∷ [])) where
   abbrev press : Happening
@@ -156,7 +157,7 @@ module _ (choice : Choice) (archive : List Mail) (view v : View) (old mid new : 
   went_on : (stage : Stage) (rest : List ℕ) → stage_of (after_key v (Char b)) ≡ stage
       → Sent out1 out2 (concat (stage_screens archive stage)) rest
       → length rest ≤ last_length (screens_from choice archive (Reading view) went.more ++ stage_screens archive stage)
-      → Went choice archive view stage old new out out2 keys keys2 clock clock2 rest
+      → Went (shown choice archive view) stage old new (streams out keys clock) (streams out2 keys2 clock2) rest
   went_on stage rest at sent short =
       let all : screens_from choice archive (Reading view) (went.more ++ press ∷ []) ≡ screens_from choice archive
       (Reading view) went.more ++ stage_screens archive stage =
@@ -164,7 +165,7 @@ module _ (choice : Choice) (archive : List Mail) (view v : View) (old mid new : 
       s) at in
       record {
         more = went.more ++ press ∷ [];
-        events = event ∙ ap (λ (l : List Happening). l ++ press ∷ []) went.events
+        events_are = event ∙ ap (λ (l : List Happening). l ++ press ∷ []) went.events_are
             ∙ append_assoc old went.more (press ∷ []);
         run = run-append choice (Reading view) went.more (press ∷ []) went.run
             (subst (λ (s : Stage). IsRunFrom choice s (press ∷ [])) went.stage_is (tt, tt));
@@ -185,7 +186,7 @@ module _ (choice : Choice) (archive : List Mail) (view v : View) (old mid new : 
 
   pub went_go : (next : View) (rest : List ℕ) → after_key v (Char b) ≡ Some next
       → Sent out1 out2 (screen archive next) rest
-      → Went choice archive view (Reading next) old new out out2 keys keys2 clock clock2 rest
+      → Went (shown choice archive view) (Reading next) old new (streams out keys clock) (streams out2 keys2 clock2) rest
   went_go next rest at sent =
       went_on (Reading next) rest (ap stage_of at)
       (subst (λ (l : List ℕ). Sent out1 out2 l rest) (sym (append-nil (screen archive next))) sent)
@@ -196,7 +197,7 @@ module _ (choice : Choice) (archive : List Mail) (view v : View) (old mid new : 
       ))
 
   pub went_quit : after_key v (Char b) ≡ None → Appends out1 out2 []
-      → Went choice archive view Over old new out out2 keys keys2 clock clock2 []
+      → Went (shown choice archive view) Over old new (streams out keys clock) (streams out2 keys2 clock2) []
   went_quit at sent = went_on Over [] (ap stage_of at) (sent_all out1 out2 [] sent) (omega arith)
 
   pub quit_count : (at : after_key v (Char b) ≡ None) (sent : Appends out1 out2 [])
@@ -211,14 +212,14 @@ module _ (choice : Choice) (archive : List Mail) (view v : View) (old mid new : 
   went_count next rest at sent = length-append went.bytes (b ∷ [])
 
 -- keys were pressed, so many of them
-pub record Gone (choice : Choice) (archive : List Mail) (view : View) (stage : Stage) (old new : List Happening)
-    (out out' keys keys' : Option (List ℕ)) (clock clock' : Option (List ℤ)) (rest : List ℕ) (turns : ℕ) : Type 0 where
-  pub went : Went choice archive view stage old new out out' keys keys' clock clock' rest
+pub record Gone (from : Shown) (stage : Stage) (events events' : List Happening) (old new : Streams) (rest : List ℕ)
+    (turns : ℕ) : Type 0 where
+  pub went : Went from stage events events' old new rest
   pub count : length went.bytes ≡ turns
 
 pub gone_none : (choice : Choice) (archive : List Mail) (view : View) (events : List Happening)
     (out keys : Option (List ℕ)) (clock : Option (List ℤ))
-    → Gone choice archive view (Reading view) events events out out keys keys clock clock [] 0
+    → Gone (shown choice archive view) (Reading view) events events (streams out keys clock) (streams out keys clock) [] 0
 unfolding went_none
 gone_none choice archive view events out keys clock =
     record { went = went_none choice archive view events out keys clock; count = refl }
@@ -226,11 +227,11 @@ gone_none choice archive view events out keys clock =
 -- nothing was taken
 went_keeps : (choice : Choice) (archive : List Mail) (view : View) (stage : Stage) (old new new2 : List Happening)
     (out out' keys keys1 keys2 : Option (List ℕ)) (clock clock' : Option (List ℤ)) (rest : List ℕ)
-    → Went choice archive view stage old new out out' keys keys1 clock clock' rest → new2 ≡ new → Keeps keys1 keys2
-    → Went choice archive view stage old new2 out out' keys keys2 clock clock' rest
+    → Went (shown choice archive view) stage old new (streams out keys clock) (streams out' keys1 clock') rest → new2 ≡ new → Keeps keys1 keys2
+    → Went (shown choice archive view) stage old new2 (streams out keys clock) (streams out' keys2 clock') rest
 went_keeps choice archive view stage old new new2 out out' keys keys1 keys2 clock clock' rest went same keeps = record {
   more = went.more;
-  events = same ∙ went.events;
+  events_are = same ∙ went.events_are;
   run = went.run;
   stage_is = went.stage_is;
   sent = went.sent;
@@ -246,10 +247,10 @@ went_keeps choice archive view stage old new new2 out out' keys keys1 keys2 cloc
 pub ends_between : (status : Status) (choice : Choice) (archive : List Mail) (view v : View)
     (old new new2 : List Happening) (out out' keys keys1 keys2 : Option (List ℕ)) (clock clock' : Option (List ℤ))
     (turns : ℕ)
-    → Gone choice archive view (Reading v) old new out out' keys keys1 clock clock' [] turns → new2 ≡ new
+    → Gone (shown choice archive view) (Reading v) old new (streams out keys clock) (streams out' keys1 clock') [] turns → new2 ≡ new
     → Keeps keys1 keys2
     → EndsKeys status (Reading v) turns keys2 [] → turns ≤ most_keys
-    → GoesToEnd choice archive view status old new2 out out' keys keys2 clock clock'
+    → GoesToEnd (shown choice archive view) status old new2 (streams out keys clock) (streams out' keys2 clock')
 unfolding went_keeps
 ends_between status choice archive view v old new new2 out out' keys keys1 keys2 clock clock' turns gone same keeps ends
     low = record {
@@ -270,7 +271,7 @@ ends_free status stage count left rest (inr e) = subst (λ (s : Status). EndsKey
 -- a key was taken from a place on
 module _ (choice : Choice) (archive archive1 : List Mail) (view v next : View) (old mid mid2 new : List Happening)
     (out out1 out2 keys keys1 keys2 : Option (List ℕ)) (clock clock1 clock2 : Option (List ℤ)) (b turns : ℕ)
-    (gone : Gone choice archive view (Reading v) old mid out out1 keys keys1 clock clock1 [] turns)
+    (gone : Gone (shown choice archive view) (Reading v) old mid (streams out keys clock) (streams out1 keys1 clock1) [] turns)
     (same_archive : archive1 ≡ archive) (same : mid2 ≡ mid) (byte : Consumes keys1 keys2 (b ∷ [])) (event : (moment : ℤ)
     × (new ≡ mid2 ++ KeyPressed (Char b) moment ∷ []) × Gives clock1 clock2 (moment ∷ [])) where
   put : new ≡ mid ++ KeyPressed (Char b) event.0 ∷ []
@@ -278,7 +279,7 @@ module _ (choice : Choice) (archive archive1 : List Mail) (view v next : View) (
 
   -- and its screen was printed
   pub gone_go : Turned (Ok Go) archive1 v next (Char b) out1 out2
-      → Gone choice archive view (Reading next) old new out out2 keys keys2 clock clock2 [] (turns + 1)
+      → Gone (shown choice archive view) (Reading next) old new (streams out keys clock) (streams out2 keys2 clock2) [] (turns + 1)
   gone_go turned =
       let sent : Sent out1 out2 (screen archive next) [] =
       subst (λ (a : List Mail). Sent out1 out2 (screen a next) []) same_archive
@@ -293,7 +294,7 @@ module _ (choice : Choice) (archive archive1 : List Mail) (view v next : View) (
 
   -- and it ended the run
   pub ends_quit : Turned (Ok Quit) archive1 v next (Char b) out1 out2 → turns + 1 ≤ most_keys
-      → GoesToEnd choice archive view Done old new out out2 keys keys2 clock clock2
+      → GoesToEnd (shown choice archive view) Done old new (streams out keys clock) (streams out2 keys2 clock2)
   ends_quit turned low = record {
     stage = Over;
     rest = [];
@@ -309,7 +310,7 @@ module _ (choice : Choice) (archive archive1 : List Mail) (view v next : View) (
   -- and its screen was not printed whole
   pub ends_fault : (status : Status) → (status ≡ OutFault) ⊎ (status ≡ NoMemory)
       → Turned (Err status) archive1 v next (Char b) out1 out2 → turns + 1 ≤ most_keys
-      → GoesToEnd choice archive view status old new out out2 keys keys2 clock clock2
+      → GoesToEnd (shown choice archive view) status old new (streams out keys clock) (streams out2 keys2 clock2)
   ends_fault status which turned low =
       let sent : Sent out1 out2 (screen archive next) turned.1.0 =
       subst (λ (a : List Mail). Sent out1 out2 (screen a next) turned.1.0) same_archive turned.1.1 in

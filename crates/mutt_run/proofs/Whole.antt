@@ -25,7 +25,8 @@ use Rattle.mutt_run.specs.Reading.{Reads}
 use Rattle.mutt_run.specs.Runs.{Stage, Unopened, Reading, Over, IsRunFrom, after_event, after_events}
 use Rattle.mutt_run.specs.Runs.{screens_from, stage_of, stage_screens}
 use Rattle.mutt_run.specs.Screen.{screen}
-use Rattle.mutt_run.specs.Session.{EndsKeys, GoesToEnd}
+use Rattle.mutt_run.specs.Outside.{outside, streams}
+use Rattle.mutt_run.specs.Session.{EndsKeys, GoesToEnd, shown}
 use Rattle.mutt_run.specs.Taken.{keys_of, pressed_keys}
 use Rattle.mutt_run.specs.declared.key.Key.{Key}
 use Rattle.mutt_run.specs.declared.key.Key.TheVariants.{Char}
@@ -203,18 +204,18 @@ module _ (choice : Choice) (start first : ℤ) (Has : Kind
     → Type 0) (archive : List Mail) (events : List Happening) (old new : Seen) (view : View)
     (out out1 keys : Option (List ℕ)) (clock : Option (List ℤ)) (same : start ≡ first)
     (opens : Opens choice start Has archive events old new) (listed : AllListed archive events)
-    (shown : IsShown choice events view) where
+    (is_shown : IsShown choice events view) where
   begun : IsStart first events
   begun = subst (λ (s : ℤ). IsStart s events) same opens.start_is
 
   first_screens : screens_from choice archive Unopened events ≡ screen archive view ∷ []
-  first_screens = opened_screens choice archive events opens.run shown.opened opens.no_keys
-      ∙ ap (stage_screens archive) shown.stage
+  first_screens = opened_screens choice archive events opens.run is_shown.opened opens.no_keys
+      ∙ ap (stage_screens archive) is_shown.stage
 
   -- its first screen was not printed whole
   pub reads_first : (status : Status) → (status ≡ OutFault) ⊎ (status ≡ NoMemory) → (rest : List ℕ)
       × Sent out out1 (screen archive view) rest
-      → Reads choice first Has archive status events old new out out1 keys keys clock clock
+      → Reads choice first Has archive status events (outside out keys clock old) (outside out1 keys clock new)
   reads_first status which sent = record {
     run = opens.run;
     ends = ends_free choice status events keys which;
@@ -228,7 +229,7 @@ module _ (choice : Choice) (start first : ℤ) (Has : Kind
       short = subst (λ (l : List (List ℕ)). length sent.0 ≤ last_length l) (sym first_screens)
           (sent_short out out1 (screen archive view) sent.0 sent.1);
     });
-    whole = λ over. absurd (subst IsOver shown.stage over);
+    whole = λ over. absurd (subst IsOver is_shown.stage over);
     happened = opens.happened;
     counted = opens.counted;
     listed = listed;
@@ -237,23 +238,23 @@ module _ (choice : Choice) (start first : ℤ) (Has : Kind
   -- its first screen was printed, and keys went on
   pub reads_keys : (status : Status) (archive2 : List Mail) (events2 : List Happening) (out2 keys2 : Option (List ℕ))
       (clock2 : Option (List ℤ)) → archive2 ≡ archive → Appends out out1 (screen archive view)
-      → GoesToEnd choice archive view status events events2 out1 out2 keys keys2 clock clock2
-      → Reads choice first Has archive2 status events2 old new out out2 keys keys2 clock clock2
+      → GoesToEnd (shown choice archive view) status events events2 (streams out1 keys clock) (streams out2 keys2 clock2)
+      → Reads choice first Has archive2 status events2 (outside out keys clock old) (outside out2 keys2 clock2 new)
   reads_keys status archive2 events2 out2 keys2 clock2 kept printed goes =
       let went = goes.went in
       let more : List Happening = went.more in
-      let whole : events2 ≡ events ++ more = went.events in
+      let whole : events2 ≡ events ++ more = went.events_are in
       let keys_only : AreKeys more = are_keys choice (Reading view) more tt went.run in
       let screens : screens_from choice archive Unopened (events ++ more) ≡ screen archive view ∷ screens_from choice
       archive (Reading view) more =
       screens-append choice archive Unopened events more
       ∙ ap (λ (l : List (List ℕ)). l ++ screens_from choice archive (after_events choice Unopened events) more)
       first_screens
-      ∙ ap (λ (s : Stage). screen archive view ∷ screens_from choice archive s more) shown.stage in
+      ∙ ap (λ (s : Stage). screen archive view ∷ screens_from choice archive s more) is_shown.stage in
       let pressed : pressed_keys (events ++ more) ≡ keys_of went.bytes =
       keys-append events more ∙ ap (λ (l : List Key). l ++ pressed_keys more) opens.no_keys ∙ went.pressed in
       let at : after_events choice Unopened (events ++ more) ≡ goes.stage =
-      after-append choice Unopened events more ∙ ap (λ (s : Stage). after_events choice s more) shown.stage
+      after-append choice Unopened events more ∙ ap (λ (s : Stage). after_events choice s more) is_shown.stage
       ∙ sym went.stage_is in
       let count : length (pressed_keys (events ++ more)) ≡ length went.bytes =
       ap length pressed ∙ length-map went.bytes (λ (b : ℕ). Char b) in
@@ -264,14 +265,14 @@ module _ (choice : Choice) (start first : ℤ) (Has : Kind
       let short : length goes.rest ≤ last_length (screen archive view ∷ screens_from choice archive (Reading view) more)
       =
       omega (arith, went.short, last_cons (screen archive view) (screens_from choice archive (Reading view) more)) in
-      subst (λ (a : List Mail). Reads choice first Has a status events2 old new out out2 keys keys2 clock clock2)
+      subst (λ (a : List Mail). Reads choice first Has a status events2 (outside out keys clock old) (outside out2 keys2 clock2 new))
       (sym kept)
-      (subst (λ (l : List Happening). Reads choice first Has archive status l old new out out2 keys keys2 clock clock2)
+      (subst (λ (l : List Happening). Reads choice first Has archive status l (outside out keys clock old) (outside out2 keys2 clock2 new))
       (sym whole) (record {
         run = run-append choice Unopened events more opens.run
-            (subst (λ (s : Stage). IsRunFrom choice s more) (sym shown.stage) went.run);
+            (subst (λ (s : Stage). IsRunFrom choice s more) (sym is_shown.stage) went.run);
         ends = ends_as choice status (events ++ more) goes.stage (length went.bytes) keys2 goes.rest
-            (opened_more events more shown.opened) at count goes.ends;
+            (opened_more events more is_shown.opened) at count goes.ends;
         taken = record { bytes = went.bytes; keys = pressed; taken = went.taken; few = goes.few };
         start_is = start_append first events more begun keys_only;
         given = subst (λ (l : List ℤ). Gives clock clock2 l)
@@ -309,7 +310,7 @@ prints_nothing status screens out none =
 pub reads_end : (choice : Choice) (start first : ℤ) (Has : Kind → Type 0) (archive : List Mail) (status : Status)
     (events : List Happening) (old new : Seen) (out keys : Option (List ℕ)) (clock : Option (List ℤ)) → start ≡ first
     → Opens choice start Has archive events old new → AllListed archive events → IsEnd choice archive events status
-    → Reads choice first Has archive status events old new out out keys keys clock clock
+    → Reads choice first Has archive status events (outside out keys clock old) (outside out keys clock new)
 reads_end choice start first Has archive status events old new out keys clock same opens listed ends = record {
   run = opens.run;
   ends = ends.ends keys;

@@ -4,6 +4,7 @@ pub mod Place
 pub mod Columns
 pub mod Screen
 pub mod Runs
+pub mod Outside
 pub mod Taken
 pub mod Printed
 pub mod Notes

@@ -4,6 +4,7 @@ use Rattle.std.specs.Io.KnownBytes.{Appends, Consumes}
 use Rattle.std.specs.List.{concat}
 use Rattle.mail_base.specs.Streams.{Sent}
 use Rattle.folder_core.specs.Letters.{Mail}
+use Rattle.mutt_run.specs.Outside.{Streams}
 use Rattle.mutt_run.specs.Words.{Choice}
 use Rattle.mutt_run.specs.Events.{Happening}
 use Rattle.mutt_run.specs.Place.{after_key}
@@ -28,20 +29,30 @@ Turned (Ok Quit) archive view next key out out' = (after_key view key ≡ None) 
 Turned (Err status) archive view next key out out' =
     (after_key view key ≡ Some next) × ((rest : List ℕ) × Sent out out' (screen archive next) rest)
 
--- Keys were pressed from a place on: the events, the screens but for a rest of the last, the bytes and the moments that
--- were taken.
-pub record Went (choice : Choice) (archive : List Mail) (view : View) (stage : Stage) (old new : List Happening)
-    (out out' keys keys' : Option (List ℕ)) (clock clock' : Option (List ℤ)) (rest : List ℕ) : Type 0 where
+-- a folder that is shown: what the words chose, all letters, and where the reader stands
+pub record Shown : Type 0 where
+  pub choice : Choice
+  pub archive : List Mail
+  pub view : View
+
+abbrev pub shown : Choice → List Mail → View → Shown
+shown choice archive view = record { choice = choice; archive = archive; view = view }
+
+-- Keys were pressed from a shown folder on: the events, the screens but for a rest of the last, the bytes and the
+-- moments that were taken.
+pub record Went (from : Shown) (stage : Stage) (events events' : List Happening) (old new : Streams) (rest : List ℕ)
+    : Type 0 where
   pub more : List Happening
-  pub events : new ≡ old ++ more
-  pub run : IsRunFrom choice (Reading view) more
-  pub stage_is : stage ≡ after_events choice (Reading view) more
-  pub sent : Sent out out' (concat (screens_from choice archive (Reading view) more)) rest
-  pub short : length rest ≤ last_length (screens_from choice archive (Reading view) more)
+  pub events_are : events' ≡ events ++ more
+  pub run : IsRunFrom from.choice (Reading from.view) more
+  pub stage_is : stage ≡ after_events from.choice (Reading from.view) more
+  pub sent : Sent old.written new.written
+      (concat (screens_from from.choice from.archive (Reading from.view) more)) rest
+  pub short : length rest ≤ last_length (screens_from from.choice from.archive (Reading from.view) more)
   pub bytes : List ℕ
   pub pressed : pressed_keys more ≡ keys_of bytes
-  pub taken : Consumes keys keys' bytes
-  pub given : Gives clock clock' (pressed_moments more)
+  pub taken : Consumes old.left new.left bytes
+  pub given : Gives old.moments new.moments (pressed_moments more)
 
 -- how the keys end with this status
 abbrev pub EndsKeys : Status → Stage → ℕ → Option (List ℕ) → List ℕ → Type 0
@@ -54,12 +65,12 @@ EndsKeys (Usage word) stage count left rest = ⊥
 EndsKeys (NotOpened why) stage count left rest = ⊥
 EndsKeys DiskFault stage count left rest = ⊥
 
--- keys were pressed from a place on, until the run ended with this status
-pub record GoesToEnd (choice : Choice) (archive : List Mail) (view : View) (status : Status) (old new : List Happening)
-    (out out' keys keys' : Option (List ℕ)) (clock clock' : Option (List ℤ)) : Type 0 where
+-- keys were pressed from a shown folder on, until the run ended with this status
+pub record GoesToEnd (from : Shown) (status : Status) (events events' : List Happening) (old new : Streams)
+    : Type 0 where
   pub stage : Stage
   pub rest : List ℕ
-  pub went : Went choice archive view stage old new out out' keys keys' clock clock' rest
-  pub ends : EndsKeys status stage (length went.bytes) keys' rest
+  pub went : Went from stage events events' old new rest
+  pub ends : EndsKeys status stage (length went.bytes) new.left rest
   pub few : length went.bytes ≤ most_keys
   pub whole : IsOver stage → rest ≡ []

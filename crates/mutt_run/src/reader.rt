@@ -12,6 +12,7 @@ ghost use Rattle.mutt_run.specs.Events.{plain_events};
 ghost use Rattle.mutt_run.specs.Happened.{AllCounted, AllHappened, AllListed};
 ghost use Rattle.mutt_run.specs.Taken.{Clocked};
 ghost use Rattle.mutt_run.specs.Notes.{TellsNote};
+ghost use Rattle.mutt_run.specs.Outside.{outside};
 ghost use Rattle.mutt_run.specs.Printed.{EndsAs, IsChosen, IsNoUsage, IsOver, Prints};
 ghost use Rattle.mutt_run.specs.Reading.{Reads};
 ghost use Rattle.mutt_run.specs.Runs.{IsRunFrom, Unopened, after_events, screens_from};
@@ -153,11 +154,10 @@ fn read<K: Source, O: Sink, C: Clock>(
     ensures reading { Reads (plain_options options.now) moment
         (λ kind. Any (λ d. sort (d.vtable, d.value) ≡ kind) drivers.now.list.items)
         (map plain_letter trace.new.archive.items) result (plain_events trace.new.events.items)
-        (seen (dev.old.disk.vtable, dev.old.disk.value))
-        (seen (dev.new.disk.vtable, dev.new.disk.value))
-        (O.written out.old) (O.written out.new) (K.left keys.old) (K.left keys.new)
-        (C.moments clock.old)
-        (C.moments clock.new) }
+        (outside (O.written out.old) (K.left keys.old) (C.moments clock.old)
+        (seen (dev.old.disk.vtable, dev.old.disk.value)))
+        (outside (O.written out.new) (K.left keys.new) (C.moments clock.new)
+        (seen (dev.new.disk.vtable, dev.new.disk.value))) }
     ensures looks { LooksOnly (seen (dev.old.disk.vtable, dev.old.disk.value)).told
         (seen (dev.new.disk.vtable, dev.new.disk.value)).told }
     ensures no_usage { IsNoUsage result }

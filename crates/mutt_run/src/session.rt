@@ -6,7 +6,8 @@ ghost use Rattle.mail_base.specs.Faults.{Rose};
 ghost use Rattle.folder_core.specs.Letters.{plain_letter};
 ghost use Rattle.mutt_run.specs.Events.{plain_events, KeyPressed};
 ghost use Rattle.mutt_run.specs.Place.{plain_place};
-ghost use Rattle.mutt_run.specs.Session.{GoesToEnd, Turned};
+ghost use Rattle.mutt_run.specs.Outside.{streams};
+ghost use Rattle.mutt_run.specs.Session.{GoesToEnd, Turned, shown};
 ghost use Rattle.mutt_run.specs.Words.{Choice};
 ghost use Rattle.mutt_run.specs.declared.status.Status.TheVariants.{KeysFault, OutFault};
 ghost use Rattle.mutt_run.specs.Taken.{Gives};
@@ -38,11 +39,11 @@ pub fn session<K: Source, O: Sink, C: Clock>(
 ) -> Status
     requires { 6 ≤ place.old.rows }
     ensures went { (choice : Choice)
-        → GoesToEnd choice (map plain_letter trace.old.archive.items) (plain_place place.old) result
-        (plain_events trace.old.events.items) (plain_events trace.new.events.items)
-        (O.written out.old) (O.written out.new) (K.left keys.old) (K.left keys.new)
-        (C.moments clock.old)
-        (C.moments clock.new) }
+        → GoesToEnd (shown choice (map plain_letter trace.old.archive.items)
+        (plain_place place.old)) result (plain_events trace.old.events.items)
+        (plain_events trace.new.events.items)
+        (streams (O.written out.old) (K.left keys.old) (C.moments clock.old))
+        (streams (O.written out.new) (K.left keys.new) (C.moments clock.new)) }
     ensures archive { trace.new.archive ≡ trace.old.archive }
     ensures keys_cause { result ≡ KeysFault → Rose (K.faults keys.old) (K.faults keys.new) }
     ensures out_cause { result ≡ OutFault → Rose (O.faults out.old) (O.faults out.new) }
