@@ -1,0 +1,4 @@
+pub mod Plan
+pub mod Entering
+pub mod Remembered
+pub mod Plain

@@ -1,0 +1,151 @@
+//! What a stop may leave of a disk in memory.
+
+ghost use Rattle.std.specs.Prelude.{◌≡◌, ◌<◌, ◌≤◌, ◌+◌, ◌^◌, IfOk, OnOk, length, map};
+ghost use Rattle.std.specs.List.{range_with_len};
+ghost use Rattle.disk_model.specs.Fills as spec;
+ghost use Rattle.disk_model.specs.Images.{is_touched};
+ghost use Rattle.disk_model.specs.Node.{plain_bytes, plain_node};
+ghost use Rattle.disk_model.specs.State.{after_entry, file_at, run_entries};
+ghost use Rattle.memory_disk.specs.Plain.{plain_entry, plain_file, plain_name, plain_patch, plain_state};
+
+use crate::Entry;
+use crate::file::{File, Patch};
+use crate::names::Name;
+use crate::state::State;
+use disk_model::{Fill, Node, Tree};
+use mail_base::{Bytes, NoMemory};
+use std::alloc::Global;
+
+/// Does what the entries of a journal do.
+pub(crate) fn replay(alloc: Global, state: &mut State, journal: &[Entry]) -> Result<(), NoMemory>
+    requires { state.old.clock + length journal.now < 2 ^ 127 }
+    ensures { OnOk result (plain_state state.new
+        ≡ run_entries (map plain_entry journal.now) (plain_state state.old)) }
+{
+    let mut left = journal;
+    while let [entry, rest @ ..] = left {
+        follow_entry(alloc, state, entry)?;
+        left = rest;
+    }
+    Ok(())
+}
+
+fn follow_entry(alloc: Global, state: &mut State, entry: &Entry) -> Result<(), NoMemory>
+    requires { state.old.clock < 2 ^ 127 }
+    ensures state { OnOk result (plain_state state.new
+        ≡ after_entry (plain_state state.old) (plain_entry entry.now)) }
+    ensures clock { OnOk result (state.new.clock ≤ state.old.clock + 1) }
+{
+    match entry {
+        Entry::Own(call, None) => state.follow(alloc, call),
+        Entry::Own(_, Some(_)) => Ok(()),
+        Entry::Others(action) => state.follow_others(alloc, action),
+    }
+}
+
+/// The image of a state in which so many name operations stand and what is open is filled so.
+pub(crate) fn image_of(
+    alloc: Global,
+    state: &State,
+    names: u64,
+    fill: Fill,
+) -> Result<Tree, NoMemory>
+    ensures { IfOk result (λ tree. map plain_node tree.items
+        ≡ spec.image_of (plain_state state.now) names fill) }
+{
+    let mut tree = Tree::new(alloc);
+    let mut left = state.names_after(names);
+    while let [name, rest @ ..] = left {
+        tree.push(Node {
+            path: Bytes::copy_of(alloc, name.path.as_slice())?,
+            bytes: state.filled_at(alloc, name.file, fill)?,
+        })?;
+        left = rest;
+    }
+    Ok(tree)
+}
+
+impl State {
+    /// The names after so many name operations since the last barrier.
+    fn names_after(&self, count: u64) -> &[Name]
+        ensures { map plain_name result.now ≡ spec.names_after (plain_state self.now) count }
+    {
+        let operations = self.earlier.len();
+        if count as usize >= operations {
+            return self.names.as_slice();
+        }
+        self.earlier[operations - 1 - count as usize].as_slice()
+    }
+
+    fn filled_at(
+        &self,
+        alloc: Global,
+        file: Option<usize>,
+        fill: Fill,
+    ) -> Result<Option<Bytes>, NoMemory>
+        ensures { IfOk result (λ bytes. plain_bytes bytes
+            ≡ spec.filled_at fill (plain_state self.now).files file) }
+    {
+        let Some(number) = file else {
+            return Ok(None);
+        };
+        Ok(Some(self.filled(alloc, number, fill)?))
+    }
+
+    fn filled(&self, alloc: Global, number: usize, fill: Fill) -> Result<Bytes, NoMemory>
+        ensures { IfOk result (λ bytes. bytes.items
+            ≡ spec.filled fill (file_at (plain_state self.now).files number)) }
+    {
+        match self.files.get(number) {
+            Some(file) => filled(alloc, file, fill),
+            None => Ok(Bytes::new(alloc)),
+        }
+    }
+}
+
+fn filled(alloc: Global, file: &File, fill: Fill) -> Result<Bytes, NoMemory>
+    ensures { IfOk result (λ bytes. bytes.items ≡ spec.filled fill (plain_file file.now)) }
+{
+    match fill {
+        Fill::Kept => Bytes::copy_of(alloc, file.kept.as_slice()),
+        Fill::Written => Bytes::copy_of(alloc, file.bytes.as_slice()),
+        Fill::Byte(byte) => filled_with(alloc, file, byte),
+    }
+}
+
+fn filled_with(alloc: Global, file: &File, byte: u8) -> Result<Bytes, NoMemory>
+    ensures { IfOk result (λ bytes. bytes.items
+        ≡ map (spec.filled_byte (plain_file file.now) byte) (range_with_len 0 file.now.greatest)) }
+{
+    let mut bytes = Bytes::new(alloc);
+    for place in 0..file.greatest {
+        bytes.push(filled_byte(file, byte, place))?;
+    }
+    Ok(bytes)
+}
+
+fn filled_byte(file: &File, byte: u8, place: usize) -> u8
+    ensures { result ≡ spec.filled_byte (plain_file file.now) byte place }
+{
+    if is_touched(file.touched.as_slice(), place) {
+        return byte;
+    }
+    match file.bytes.get(place) {
+        Some(byte) => *byte,
+        None => 0,
+    }
+}
+
+/// The latest patch that has a place says whether it is open.
+fn is_touched(touched: &[Patch], place: usize) -> bool
+    ensures { result ≡ is_touched (map plain_patch touched.now) place }
+{
+    let mut left = touched;
+    while let [patch, rest @ ..] = left {
+        if patch.low <= place && place < patch.high {
+            return patch.is_open;
+        }
+        left = rest;
+    }
+    false
+}
