@@ -12,7 +12,7 @@ pub struct FolderKinds;
 
 impl Subject for FolderKinds {
     fn inputs(&self) -> &[&[u8]] {
-        &[b"file", b"folder", b"failing", b"path"]
+        &[b"file", b"folder", b"failing", b"stop", b"others", b"path"]
     }
 
     fn answer(&self, alloc: Global, case: &Case) -> Result<Answer, CaseFault> {

@@ -1,18 +1,56 @@
 //! What the cases of disks share: nodes, calls that fail, lists of words and numbers.
 
 use case_files::{Case, CaseFault, Entry, read_number};
-use disk_model::{MemoryDisk, Node, Script, Tree, is_tree};
+use disk_model::{Node, Tree, is_tree};
 use mail_base::{Bytes, Numbers, Words};
+use memory_disk::{Action, Foreign, MemoryDisk, Script};
 use std::alloc::Global;
 
-/// A disk with the nodes of the case, of which the calls under `failing disk` fail.
+/// A disk with the nodes of the case, of which the calls under `failing disk` and all from call `stop` on fail, and on which
+/// others do what stands under `others N DEED PATH`, before call N: `append`, `put`, `remove`, `write`, or `rename` to the value.
 pub fn disk_of(alloc: Global, case: &Case) -> Result<MemoryDisk, CaseFault> {
     let tree = tree_of(alloc, case)?;
     if !is_tree(&tree) {
         return Err(CaseFault::BadInput);
     }
+    let script = script_of(alloc, case)?;
     let fails = numbers_of(alloc, case, b"failing disk")?;
-    Ok(MemoryDisk::new(alloc, tree, Script::new(alloc), fails, None)?)
+    let stop = case.number(b"stop")?;
+    Ok(MemoryDisk::new(alloc, tree, script, fails, stop)?)
+}
+
+fn script_of(alloc: Global, case: &Case) -> Result<Script, CaseFault> {
+    let mut script = Script::new(alloc);
+    for entry in case.entries.as_slice() {
+        if entry.role() == b"others".as_slice() {
+            script.push(foreign_of(alloc, entry)?)?;
+        }
+    }
+    Ok(script)
+}
+
+fn foreign_of(alloc: Global, entry: &Entry) -> Result<Foreign, CaseFault> {
+    let (number, deed) = text_of(entry.about())?
+        .split_once(' ')
+        .ok_or(CaseFault::BadInput)?;
+    let (deed, path) = deed.split_once(' ').ok_or(CaseFault::BadInput)?;
+    let path = Bytes::copy_of(alloc, path.as_bytes())?;
+    let bytes = Bytes::copy_of(alloc, entry.value.as_slice())?;
+    let action = match deed {
+        "append" => Action::Append { path, bytes },
+        "put" => Action::Put { path, bytes },
+        "write" => Action::Write { path, bytes },
+        "remove" => Action::Remove { path },
+        "rename" => Action::Rename {
+            from: path,
+            to: bytes,
+        },
+        _ => return Err(CaseFault::BadInput),
+    };
+    Ok(Foreign {
+        before_call: read_number(number.as_bytes())?,
+        action,
+    })
 }
 
 /// The nodes under `file PATH` and `folder PATH`, in their order.

@@ -24,7 +24,8 @@ pub struct WholeRuns;
 impl Subject for WholeRuns {
     fn inputs(&self) -> &[&[u8]] {
         &[
-            b"file", b"folder", b"failing", b"words", b"word", b"keys", b"moments",
+            b"file", b"folder", b"failing", b"stop", b"others", b"words", b"word", b"keys",
+            b"moments",
         ]
     }
 

@@ -14,7 +14,7 @@ pub struct Scans;
 
 impl Subject for Scans {
     fn inputs(&self) -> &[&[u8]] {
-        &[b"file", b"folder", b"failing", b"scan"]
+        &[b"file", b"folder", b"failing", b"stop", b"others", b"scan"]
     }
 
     fn answer(&self, alloc: Global, case: &Case) -> Result<Answer, CaseFault> {

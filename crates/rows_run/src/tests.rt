@@ -1,16 +1,16 @@
 //! What no case can say: streams that fail in mid-stream, the system's own streams, clock and
 //! files, and boxes.
 
-use disk_model::{
-    Device, Disk, DiskError, MemoryDisk, Node, RealDisk, Script, Stat, Tree, is_tree,
-};
+use disk_model::{Device, Disk, DiskError, Node, Stat, Tree, is_tree};
 use folder_core::{Archive, Driver, Drivers, DriversError, Found, Known, ScanError};
 use mail_base::{
     Bytes, Clock, Kind, Line, MemoryClock, MemorySink, MemorySource, NoMemory, Numbers, ReadFault,
     RealClock, Sink, Source, StdSink, StdSource, Words, WriteFault,
 };
 use mbox_folder::MboxDriver;
+use memory_disk::{MemoryDisk, Script};
 use mutt_run::{Event, Events, Key, Trace, run};
+use real_disk::RealDisk;
 use std::alloc::Global;
 use std::test::Fail;
 use std::{fs, io};
