@@ -1,0 +1,52 @@
+-- Laws of pasts and of what a stop leaves of them.
+use Rattle.std.specs.Prelude.{◌≡◌, ◌⊎◌, ℕ, List, [], ◌∷◌, Option, Some, None, length, map}
+use Rattle.disk_model.specs.Tree.{TreeNode}
+use Rattle.disk_model.specs.Journal.{Action, Rename, SyncDir, Done, Own, Others, Past}
+use Rattle.disk_model.specs.State.{File, Name, State, after_entry, file_at, replaced, state_after, tree_after, tree_of}
+use Rattle.disk_model.specs.Images.{IsImage, IsLeft, IsTreeOf}
+
+-- the tree now is an image
+abbrev pub NowIsImage : Type 0
+NowIsImage = (past : Past) → IsImage (state_after past) (tree_after past)
+
+-- a node without its stamp
+abbrev pub unstamped : TreeNode → TreeNode
+unstamped node = record { path = node.path; bytes = node.bytes; stamp = 0 }
+
+-- A file that is on the disk as it is.
+pub record IsDurable (file : File) : Type 0 where
+  pub untouched : file.touched ≡ []
+  pub least : file.least ≡ length file.bytes
+  pub greatest : file.greatest ≡ length file.bytes
+
+-- All names are on the disk, and all files.
+pub record IsSynced (state : State) : Type 0 where
+  pub names : state.earlier ≡ []
+  pub files : (number : ℕ) → IsDurable (file_at state.files number)
+
+-- what is synced stands as it is
+abbrev pub SyncedStands : Type 0
+SyncedStands = (state : State) (tree : List TreeNode) → IsSynced state → IsImage state tree
+    → map unstamped tree ≡ map unstamped (tree_of state)
+
+-- an image behind a rename is one from before it, or has the names of the rename
+abbrev pub RenameIsWhole : Type 0
+RenameIsWhole = (state : State) (from to : List ℕ) (tree : List TreeNode)
+    → IsImage (after_entry state (Own (Rename from to) Done)) tree
+    → IsImage state tree ⊎ IsTreeOf state.files (after_entry state (Own (Rename from to) Done)).names tree
+
+-- behind an action of others each image has the names of now
+abbrev pub OthersAreBarrier : Type 0
+OthersAreBarrier = (state : State) (action : Action) (tree : List TreeNode)
+    → IsImage (after_entry state (Others action)) tree
+    → IsTreeOf (after_entry state (Others action)).files (after_entry state (Others action)).names tree
+
+-- and so behind a folder that was synced
+abbrev pub SyncDirIsBarrier : Type 0
+SyncDirIsBarrier = (state : State) (dir : List ℕ) (tree : List TreeNode)
+    → IsImage (after_entry state (Own (SyncDir dir) Done)) tree → IsTreeOf state.files state.names tree
+
+-- a file that others wrote is left as they wrote it
+abbrev pub WrittenByOthersStands : Type 0
+WrittenByOthersStands = (file : File) (bytes left : List ℕ) (stamp : ℕ) → IsLeft (replaced bytes stamp file) left
+    → left ≡ bytes

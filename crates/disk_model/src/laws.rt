@@ -1,0 +1,29 @@
+//! What holds of every past, by the definitions alone.
+
+ghost use Rattle.disk_model.specs.Laws as spec;
+
+/// The tree now is an image: a stop may lose nothing.
+pub fn a_stop_may_lose_nothing()
+    ensures { spec.NowIsImage }
+{}
+
+/// Where all names and all files are on the disk, the only image is the tree now, but for stamps.
+pub fn what_is_synced_stands()
+    ensures { spec.SyncedStands }
+{}
+
+/// A rename stands in an image wholly, or not at all.
+pub fn a_rename_stands_wholly_or_not_at_all()
+    ensures { spec.RenameIsWhole }
+{}
+
+/// An action of others, and a folder that was synced, leave one row of names.
+pub fn a_barrier_leaves_one_row_of_names()
+    ensures others { spec.OthersAreBarrier }
+    ensures synced { spec.SyncDirIsBarrier }
+{}
+
+/// What others write stands in each image.
+pub fn what_others_write_stands()
+    ensures { spec.WrittenByOthersStands }
+{}
