@@ -1,78 +1,58 @@
--- A section cut at its first delimiter line, which is the one of a place among its lines that begin with two dashes.
+-- A section cut at its first delimiter line, which is the one of a place among those of its lines that begin with two
+-- dashes.
 use Rattle.std.proofs.Common.{◌≡◌, ℕ, zero, suc, ◌+◌, ◌-◌, ◌<◌, ◌≤◌, ◌==◌, Bool, true, false, ◌&&◌, List, [], ◌∷◌}
-use Rattle.std.proofs.Common.{◌++◌, length, take, drop, map, get_or, Option, Some, None, nat_lt, refl, sym, ap, ◌∙◌}
-use Rattle.std.proofs.Common.{arith, ⊎_elim, take-append-drop, drop-cons, add-one, length-drop, get_or-take}
-use Rattle.std.specs.Prelude.{is_some, position, if◌then◌else◌}
+use Rattle.std.proofs.Common.{◌++◌, length, take, drop, map, get_or, slice_index, Option, Some, None, nat_lt, refl, sym}
+use Rattle.std.proofs.Common.{ap, ◌∙◌, arith, take-append-drop, drop-cons, add-one, length-drop, get_or-take, position}
+use Rattle.std.specs.Prelude.{is_some, if◌then◌else◌}
 use Rattle.std.specs.List.{list_any, position_or_len}
-use Rattle.std.proofs.lemmas.Bool.{cases_Bool, cond-true, ltb-false}
+use Rattle.std.proofs.Common.{⊎_elim, min}
+use Rattle.std.proofs.lemmas.Bool.{cases_lt}
 use Rattle.std.proofs.lemmas.Bool.Decides.{nat_tests}
-use Rattle.std.proofs.lemmas.List.{get_or-map, length-map, length-take, map-append, take_all}
+use Rattle.std.proofs.lemmas.List.{get_or-map, drop_all, get_or_default, length-map, length-take, take_all}
 use Rattle.std.proofs.lemmas.List.Folds.{list_any_at, list_any_none}
 use Rattle.std.proofs.lemmas.List.Quantifiers.{position-Some}
 use Rattle.std.proofs.lemmas.List.Sums.{fails_before_first}
 use Rattle.bstr.specs.Text.{lines_of, without_terminator}
-use Rattle.mime_tree.specs.declared.dash_lines.DashLine.{DashLine}
+use Rattle.mail_base.specs.Lines.{behind_line, first_line}
+use Rattle.mail_base.proofs.PlacesLemmas.{place_none}
 use Rattle.mime_tree.specs.declared.delimiter.LineKind.{LineKind}
 use Rattle.mime_tree.specs.declared.delimiter.LineKind.TheVariants.{Text, Delimiter, Closing}
-use Rattle.mail_base.specs.Lines.{behind_line}
 use Rattle.mime_tree.specs.Delimiter.{is_closing, is_cut, is_delimiter, kind_of}
 use Rattle.mime_tree.specs.Section.{PlainSection, section_at, section_text, sections, sections_with}
-use Rattle.mime_tree.specs.DashLines.{PlainDashLine, dash_kind, dash_lines, plain_dash_line, delimits}
+use Rattle.mime_tree.specs.DashLines.{DashLine, dash_kind, dash_lines, dash_starts, delimits, delimits_at}
 use Rattle.mime_tree.proofs.DashLinesLemmas as dashes
 use Rattle.mime_tree.proofs.SectionLemmas.{take_short, without_terminator_short}
 
-none_passes : {X : Type 0} (p : X → Bool) (xs : List X) → position p xs ≡ None → length xs ≤ position_or_len p xs
-none_passes p xs e = ⊎_elim
-    (λ less. let some = cond-true _ (Some (position_or_len p xs)) None less in absurd (cc))
-    (λ other. ltb-false _ _ other)
-    (cases_Bool (nat_lt (position_or_len p xs) (length xs)))
+-- the first of a list, where there is none
+abbrev none_there : DashLine
+none_there = record { start = 0; text = [] }
+
+map-take : {X Y : Type 0} (f : X → Y) (k : ℕ) (xs : List X) → map f (take k xs) ≡ take k (map f xs)
+map-take f zero xs = refl
+map-take f (suc k) [] = refl
+map-take f (suc k) (x ∷ xs) = ap (λ l. f x ∷ l) (map-take f k xs)
+
+map-drop : {X Y : Type 0} (f : X → Y) (k : ℕ) (xs : List X) → map f (drop k xs) ≡ drop k (map f xs)
+map-drop f zero xs = refl
+map-drop f (suc k) [] = refl
+map-drop f (suc k) (x ∷ xs) = map-drop f k xs
 
 -- lines of which none is a delimiter line
-pub none_delimits : (boundary : List ℕ) (lines : List DashLine)
-    → position (λ line. delimits boundary (plain_dash_line line)) lines ≡ None
-    → list_any (delimits boundary) (map plain_dash_line lines) ≡ false
-none_delimits boundary [] e = refl
-none_delimits boundary (line ∷ lines) e =
-    let all = line ∷ lines in
-    let enough = none_passes (λ x. delimits boundary (plain_dash_line x)) all e in
-    list_any_none (delimits boundary) (map plain_dash_line all)
-    (λ k d less.
-    let below : k < length all = omega (arith, less, length-map all plain_dash_line) in
-    ap (delimits boundary) (get_or-map plain_dash_line all k line d below)
-    ∙ fails_before_first (λ x. delimits boundary (plain_dash_line x)) all k line (omega (arith, enough, below)))
+none_delimits : (boundary : List ℕ) (lines : List DashLine) → position (delimits boundary) lines ≡ None
+    → list_any (delimits boundary) lines ≡ false
+none_delimits boundary lines e =
+    let past = place_none (delimits boundary) lines e in
+    list_any_none (delimits boundary) lines
+    (λ k d less. fails_before_first (delimits boundary) lines k d (omega (arith, past, less)))
 
 -- the pieces of a section that is cut at the line of a place
-pub record IsCut (boundary : List ℕ) (s : PlainSection) (lines : List DashLine) (k : ℕ) (d : DashLine)
-    (front line_on tail : List ℕ) : Type 0 where
-  pub marked : map plain_dash_line lines ≡ dash_lines s.start (lines_of s.text)
-  pub first : position (λ line. delimits boundary (plain_dash_line line)) lines ≡ Some k
-  pub front_is : front ≡ take ((get_or lines k d).start - s.start) s.text
-  pub line_on_is : line_on ≡ drop ((get_or lines k d).start - s.start) s.text
+pub record IsCut (boundary : List ℕ) (s : PlainSection) (places : List ℕ) (k : ℕ) (front line_on tail : List ℕ)
+    : Type 0 where
+  pub marked : places ≡ dash_starts s.start (lines_of s.text)
+  pub first : position (λ at. delimits_at boundary s.text (at - s.start)) places ≡ Some k
+  pub front_is : front ≡ take (slice_index places k - s.start) s.text
+  pub line_on_is : line_on ≡ drop (slice_index places k - s.start) s.text
   pub tail_is : tail ≡ behind_line line_on
-
-lines_split : (lines : List DashLine) (k : ℕ) (d : DashLine) → k < length lines
-    → map plain_dash_line lines
-    ≡ map plain_dash_line (take k lines)
-    ++ plain_dash_line (get_or lines k d) ∷ map plain_dash_line (take (length lines - (k + 1)) (drop (k + 1) lines))
-lines_split lines k d less =
-    let rest = take_all (length lines - (k + 1)) (drop (k + 1) lines) (omega (arith, length-drop (k + 1) lines)) in
-    ap (map plain_dash_line)
-    (sym (take-append-drop k lines)
-    ∙ ap (λ t. take k lines ++ t) (drop-cons lines k d less)
-    ∙ ap (λ n. take k lines ++ get_or lines k d ∷ drop n lines) (sym (add-one k))
-    ∙ ap (λ t. take k lines ++ get_or lines k d ∷ t) (sym rest))
-    ∙ map-append plain_dash_line (take k lines) (get_or lines k d ∷ take (length lines - (k + 1)) (drop (k + 1) lines))
-
--- the place is that of a line, and the line stands in the section
-pub section_split : (boundary : List ℕ) (s : PlainSection) (lines : List DashLine) (k : ℕ) (d : DashLine)
-    → map plain_dash_line lines ≡ dash_lines s.start (lines_of s.text)
-    → position (λ line. delimits boundary (plain_dash_line line)) lines ≡ Some k
-    → dash_lines s.start (lines_of s.text)
-    ≡ map plain_dash_line (take k lines)
-    ++ plain_dash_line (get_or lines k d) ∷ map plain_dash_line (take (length lines - (k + 1)) (drop (k + 1) lines))
-section_split boundary s lines k d marked first =
-    sym marked
-    ∙ lines_split lines k d (position-Some (λ line. delimits boundary (plain_dash_line line)) lines k d first).0
 
 by_closing : (kind : LineKind) (first : PlainSection) (more : List PlainSection) → is_delimiter kind ≡ true
     → sections_with kind first more ≡ (if is_closing kind then [] else first ∷ more)
@@ -80,61 +60,101 @@ by_closing Text first more e = absurd (cc)
 by_closing Delimiter first more e = refl
 by_closing Closing first more e = refl
 
-module _ {boundary : List ℕ} {s : PlainSection} {lines : List DashLine} {k : ℕ} {d : DashLine}
-    {front line_on tail : List ℕ} (is : IsCut boundary s lines k d front line_on tail) where
-  abbrev found : PlainDashLine
-  found = plain_dash_line (get_or lines k d)
+-- the place of a delimiter line among the places
+first_line_of : (boundary : List ℕ) (s : PlainSection) (places : List ℕ) (o : Option ℕ)
+    → places ≡ dash_starts s.start (lines_of s.text)
+    → position (λ at. delimits_at boundary s.text (at - s.start)) places ≡ o
+    → position (delimits boundary) (dash_lines s.start (lines_of s.text)) ≡ o
+first_line_of boundary s places o marked first =
+    sym (dashes.position-starts boundary s.text s.start)
+    ∙ ap (position (λ at. delimits_at boundary s.text (at - s.start))) (sym marked)
+    ∙ first
 
-  abbrev before : List PlainDashLine
-  before = map plain_dash_line (take k lines)
+module _ {boundary : List ℕ} {s : PlainSection} {places : List ℕ} {k : ℕ} {front line_on tail : List ℕ}
+    (is : IsCut boundary s places k front line_on tail) where
+  abbrev all : List DashLine
+  all = dash_lines s.start (lines_of s.text)
 
-  abbrev after : List PlainDashLine
-  after = map plain_dash_line (take (length lines - (k + 1)) (drop (k + 1) lines))
+  abbrev found : DashLine
+  found = get_or all k none_there
 
-  abbrev next : ℕ
-  next = found.start + (length line_on - length tail)
+  abbrev before : List DashLine
+  before = take k all
 
-  split : dash_lines s.start (lines_of s.text) ≡ before ++ found ∷ after
-  split = section_split boundary s lines k d is.marked is.first
+  abbrev after : List DashLine
+  after = drop (k + 1) all
 
-  passes : (k < length lines) × (delimits boundary found ≡ true) ×
-      ((i : ℕ) → i < k → delimits boundary (plain_dash_line (get_or lines i d)) ≡ false)
-  passes = position-Some (λ line. delimits boundary (plain_dash_line line)) lines k d is.first
+  passes : (k < length all) × (delimits boundary found ≡ true) ×
+      ((i : ℕ) → i < k → delimits boundary (get_or all i none_there) ≡ false)
+  passes =
+      position-Some (delimits boundary) all k none_there (first_line_of boundary s places (Some k) is.marked is.first)
+
+  split : all ≡ before ++ found ∷ after
+  split =
+      sym (take-append-drop k all)
+      ∙ ap (λ t. take k all ++ t) (drop-cons all k none_there passes.0)
+      ∙ ap (λ n. take k all ++ found ∷ drop n all) (sym (add-one k))
+
+  many : length places ≡ length all
+  many = ap length is.marked ∙ length-map all (λ d. d.start)
+
+  at_is : slice_index places k ≡ found.start
+  at_is = ap (λ l. slice_index l k) is.marked ∙ get_or-map (λ d. d.start) all k none_there 0 passes.0
+
+  abbrev pub next : ℕ
+  next = slice_index places k + (length line_on - length tail)
 
   none : list_any (delimits boundary) before ≡ false
   none =
       list_any_none (delimits boundary) before
-      (λ i e less.
-      let short : length before ≡ length (take k lines) = length-map (take k lines) plain_dash_line in
-      let size = length-take k lines in
-      ap (delimits boundary)
-      (get_or-map plain_dash_line (take k lines) i d e (omega (arith, short, less))
-      ∙ ap plain_dash_line (get_or-take k lines i d (omega (arith, short, size, less))))
-      ∙ passes.2 i (omega (arith, short, size, less)))
+      (λ i d less.
+      let size = length-take k all in
+      let below : i < k = omega (arith, size, less) in
+      let within : i < length all = omega (arith, below, passes.0) in
+      ap (delimits boundary) (get_or-take k all i d below ∙ get_or_default all i d none_there within)
+      ∙ passes.2 i below)
+
+  front_same : front ≡ take (found.start - s.start) s.text
+  front_same = is.front_is ∙ ap (λ n. take (n - s.start) s.text) at_is
+
+  line_on_same : line_on ≡ drop (found.start - s.start) s.text
+  line_on_same = is.line_on_is ∙ ap (λ n. drop (n - s.start) s.text) at_is
 
   tail_same : tail ≡ dashes.tail s before found after split
-  tail_same = is.tail_is ∙ ap behind_line is.line_on_is
+  tail_same = is.tail_is ∙ ap behind_line line_on_same
 
   next_same : next ≡ dashes.next s before found after split
   next_same =
-      ap (λ t. found.start + (length t - length tail)) is.line_on_is
+      ap (λ n. n + (length line_on - length tail)) at_is
+      ∙ ap (λ t. found.start + (length t - length tail)) line_on_same
       ∙ ap (λ t. found.start + (length (drop (found.start - s.start) s.text) - length t)) tail_same
 
-  pub front_marked : before ≡ dash_lines s.start (lines_of (without_terminator front))
+  low : s.start ≤ slice_index places k
+  low = omega (arith, at_is, dashes.low s before found after split)
+
+  high : slice_index places k - s.start ≤ length s.text
+  high = omega (arith, at_is, dashes.high s before found after split)
+
+  pub front_marked : take k places ≡ dash_starts s.start (lines_of (without_terminator front))
   front_marked =
-      dashes.front_marked s before found after split
-      ∙ ap (λ t. dash_lines s.start (lines_of (without_terminator t))) (sym is.front_is)
+      ap (take k) is.marked
+      ∙ sym (map-take (λ d. d.start) k all)
+      ∙ ap (map (λ d. d.start)) (dashes.front_marked s before found after split)
+      ∙ ap (λ t. dash_starts s.start (lines_of (without_terminator t))) (sym front_same)
 
   pub front_fits : s.start + length (without_terminator front) ≤ s.start + length s.text
   front_fits =
       omega
-      (arith, without_terminator_short front, ap length is.front_is, take_short (found.start - s.start) s.text)
+      (arith, without_terminator_short front, ap length front_same, take_short (found.start - s.start) s.text)
 
-  pub rest_marked : after ≡ dash_lines next (lines_of tail)
+  pub rest_marked : take (length places - (k + 1)) (drop (k + 1) places) ≡ dash_starts next (lines_of tail)
   rest_marked =
-      dashes.rest_marked s before found after split
-      ∙ ap (λ n. dash_lines n (lines_of (dashes.tail s before found after split))) (sym next_same)
-      ∙ ap (λ t. dash_lines next (lines_of t)) (sym tail_same)
+      take_all _ _ (omega (arith, length-drop (k + 1) places))
+      ∙ ap (drop (k + 1)) is.marked
+      ∙ sym (map-drop (λ d. d.start) (k + 1) all)
+      ∙ ap (map (λ d. d.start)) (dashes.rest_marked s before found after split)
+      ∙ ap (λ n. dash_starts n (lines_of (dashes.tail s before found after split))) (sym next_same)
+      ∙ ap (λ t. dash_starts next (lines_of t)) (sym tail_same)
 
   pub rest_fits : next + length tail ≡ s.start + length s.text
   rest_fits = omega (arith, next_same, ap length tail_same, dashes.next_fits s before found after split)
@@ -142,16 +162,16 @@ module _ {boundary : List ℕ} {s : PlainSection} {lines : List DashLine} {k : �
   pub front_text : section_text boundary [] (lines_of s.text) ≡ without_terminator front
   front_text =
       dashes.front_text s before found after split boundary none passes.1
-      ∙ ap without_terminator (sym is.front_is)
+      ∙ ap without_terminator (sym front_same)
 
-  pub rest_sections : (in_digest closes : Bool) → closes ≡ is_closing (dash_kind boundary found.text)
+  pub rest_sections : (in_digest closes : Bool) → closes ≡ is_closing (kind_of boundary (first_line (lines_of line_on)))
       → sections boundary in_digest s.start (lines_of s.text)
       ≡ (if closes then []
       else section_at boundary in_digest next (lines_of tail) ∷ sections boundary in_digest next (lines_of tail))
   rest_sections in_digest closes e =
       dashes.rest_sections s before found after split boundary in_digest none
       ∙ by_closing (dash_kind boundary found.text) _ _ passes.1
-      ∙ ap (λ t. if t then [] else behind start text) (sym e)
+      ∙ ap (λ t. if t then [] else behind start text) (sym closes_is)
       ∙ ap (λ n. if closes then [] else behind n text) (sym next_same)
       ∙ ap (λ t. if closes then [] else behind next t) (sym tail_same)
     where
@@ -161,43 +181,67 @@ module _ {boundary : List ℕ} {s : PlainSection} {lines : List DashLine} {k : �
       text : List ℕ
       text = dashes.tail s before found after split
 
+      closes_is : closes ≡ is_closing (dash_kind boundary found.text)
+      closes_is =
+          e
+          ∙ ap (λ t. is_closing (kind_of boundary (first_line (lines_of t)))) line_on_same
+          ∙ ap is_closing (dashes.kind_on s before found after split boundary)
+
       behind : ℕ → List ℕ → List PlainSection
       behind at text = section_at boundary in_digest at (lines_of text) ∷ sections boundary in_digest at (lines_of text)
 
-some_delimits : (boundary : List ℕ) (lines : List DashLine) (o : Option ℕ)
-    → position (λ line. delimits boundary (plain_dash_line line)) lines ≡ o
-    → is_some o ≡ list_any (delimits boundary) (map plain_dash_line lines)
-some_delimits boundary [] None e = refl
-some_delimits boundary [] (Some k) e = absurd (cc)
-some_delimits boundary (line ∷ lines) None e = sym (none_delimits boundary (line ∷ lines) e)
-some_delimits boundary (line ∷ lines) (Some k) e =
-    let all = line ∷ lines in
-    let passes = position-Some (λ x. delimits boundary (plain_dash_line x)) all k line e in
-    sym
-    (list_any_at (delimits boundary) (map plain_dash_line all) k (plain_dash_line line)
-    (omega (arith, passes.0, length-map all plain_dash_line))
-    (ap (delimits boundary) (get_or-map plain_dash_line all k line (plain_dash_line line) passes.0) ∙ passes.1))
+some_delimits : (boundary : List ℕ) (lines : List DashLine) (o : Option ℕ) → position (delimits boundary) lines ≡ o
+    → is_some o ≡ list_any (delimits boundary) lines
+some_delimits boundary lines None e = sym (none_delimits boundary lines e)
+some_delimits boundary lines (Some k) e =
+    let passes = position-Some (delimits boundary) lines k none_there e in
+    sym (list_any_at (delimits boundary) lines k none_there passes.0 passes.1)
 
 above_zero : (n : ℕ) → (n == 0) ≡ false → nat_lt 0 n ≡ true
 above_zero zero h = absurd (cc)
 above_zero (suc n) h = grind (arith, nat_tests)
 
--- the lines that begin with two dashes show whether the boundary of a multipart occurs
-pub delimits_is_cut : (boundary body : List ℕ) (start : ℕ) (lines : List DashLine) → (length boundary == 0) ≡ false
-    → map plain_dash_line lines ≡ dash_lines start (lines_of body)
-    → is_some (position (λ line. delimits boundary (plain_dash_line line)) lines) ≡ is_cut boundary body
-delimits_is_cut boundary body start lines some marked =
-    some_delimits boundary lines _ refl
-    ∙ ap (list_any (delimits boundary)) marked
-    ∙ sym (dashes.any_delimiter boundary start (lines_of body))
-    ∙ ap (λ t. t && list_any (λ line. is_delimiter (kind_of boundary line)) (lines_of body))
+-- the places show whether the boundary of a multipart occurs
+pub delimits_is_cut : (boundary : List ℕ) (s : PlainSection) (places : List ℕ) → (length boundary == 0) ≡ false
+    → places ≡ dash_starts s.start (lines_of s.text)
+    → is_some (position (λ at. delimits_at boundary s.text (at - s.start)) places) ≡ is_cut boundary s.text
+delimits_is_cut boundary s places some marked =
+    let o = position (λ at. delimits_at boundary s.text (at - s.start)) places in
+    some_delimits boundary (dash_lines s.start (lines_of s.text)) o (first_line_of boundary s places o marked refl)
+    ∙ sym (dashes.any_delimiter boundary s.start (lines_of s.text))
+    ∙ ap (λ t. t && list_any (λ line. is_delimiter (kind_of boundary line)) (lines_of s.text))
     (sym (above_zero (length boundary) some))
 
 -- no line of a section is a delimiter line
-pub none_in : (boundary : List ℕ) (s : PlainSection) (lines : List DashLine)
-    → map plain_dash_line lines ≡ dash_lines s.start (lines_of s.text)
-    → position (λ line. delimits boundary (plain_dash_line line)) lines ≡ None → dashes.HasNone boundary (lines_of s.text)
-none_in boundary s lines marked none =
+pub none_in : (boundary : List ℕ) (s : PlainSection) (places : List ℕ)
+    → places ≡ dash_starts s.start (lines_of s.text)
+    → position (λ at. delimits_at boundary s.text (at - s.start)) places ≡ None
+    → dashes.HasNone boundary (lines_of s.text)
+none_in boundary s places marked none =
     dashes.any_delimiter boundary s.start (lines_of s.text)
-    ∙ ap (list_any (delimits boundary)) (sym marked)
-    ∙ none_delimits boundary lines none
+    ∙ none_delimits boundary (dash_lines s.start (lines_of s.text)) (first_line_of boundary s places None marked none)
+
+-- the place of the first delimiter line is in the section
+pub place_within : (boundary : List ℕ) (s : PlainSection) (places : List ℕ) (k : ℕ)
+    → places ≡ dash_starts s.start (lines_of s.text)
+    → position (λ at. delimits_at boundary s.text (at - s.start)) places ≡ Some k
+    → (s.start ≤ slice_index places k) × (slice_index places k - s.start ≤ length s.text)
+place_within boundary s places k marked first =
+    let size = slice_index places k - s.start in
+    let cut : IsCut boundary s places k (take size s.text) (drop size s.text) (behind_line (drop size s.text)) = record {
+      marked = marked;
+      first = first;
+      front_is = refl;
+      line_on_is = refl;
+      tail_is = refl;
+    } in
+    (low cut, high cut)
+
+-- behind the end of a text nothing stands
+pub drop_min : (n : ℕ) (s : List ℕ) → drop (min n (length s)) s ≡ drop n s
+drop_min n s = ⊎_elim
+    (λ less. let same : min n (length s) ≡ n = omega arith in ap (λ k. drop k s) same)
+    (λ past.
+    let same : min n (length s) ≡ length s = omega arith in
+    ap (λ k. drop k s) same ∙ drop_all (length s) s (omega arith) ∙ sym (drop_all n s past))
+    (cases_lt n (length s))

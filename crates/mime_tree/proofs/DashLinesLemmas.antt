@@ -2,24 +2,26 @@
 use Rattle.std.proofs.Common.{◌≡◌, ℕ, ◌+◌, ◌-◌, ◌≤◌, Bool, true, false, ◌||◌, List, [], ◌∷◌, ◌++◌}
 use Rattle.std.proofs.Common.{length, take, drop, Option, Some, None, refl, sym, ap, ◌∙◌, arith, length-append}
 use Rattle.std.proofs.Common.{append_assoc, length-drop}
-use Rattle.std.specs.List.{concat, list_any}
+use Rattle.std.proofs.Common.{cond, not, nat_lt, map, position}
+use Rattle.std.specs.List.{concat, list_any, position_or_len}
 use Rattle.std.proofs.Math.Seq.{take-append_seam}
-use Rattle.std.proofs.lemmas.List.{append-nil}
+use Rattle.std.proofs.lemmas.List.{append-nil, length-map}
 use Rattle.std.proofs.lemmas.List.Folds.{concat-append}
 use Rattle.bstr.specs.Text.{lines_of, without_terminator}
 use Rattle.bstr.proofs.lemmas.RestLemmas.{concat-lines_of}
 use Rattle.mail_base.specs.Fronts.{◌>>=◌, behind_text}
-use Rattle.mail_base.specs.Lines.{behind_first, behind_line}
+use Rattle.mail_base.specs.Lines.{behind_first, behind_line, first_line}
 use Rattle.mail_base.proofs.LinesLemmas.{back_lines, back_whole, front_lines}
 use Rattle.mime_tree.specs.declared.delimiter.LineKind.{LineKind}
 use Rattle.mime_tree.specs.declared.delimiter.LineKind.TheVariants.{Text, Delimiter, Closing}
 use Rattle.mime_tree.specs.Delimiter.{is_delimiter, kind_behind, kind_of}
 use Rattle.mime_tree.specs.Section.{PlainSection, section_at, section_text, sections, sections_with}
-use Rattle.mime_tree.specs.DashLines.{PlainDashLine, behind_dashes, dash_kind, dash_lines, dash_lines_with, delimits}
+use Rattle.mime_tree.specs.DashLines.{DashLine, behind_dashes, dash_kind, dash_lines, dash_lines_with, dash_starts}
+use Rattle.mime_tree.specs.DashLines.{delimits, delimits_at}
 use Rattle.mime_tree.proofs.LineEndLemmas.{dash_lines_without}
 
 -- lines at a place, split at one that begins with two dashes
-pub record Split (at : ℕ) (lines : List (List ℕ)) (before : List PlainDashLine) (found : PlainDashLine) (after : List PlainDashLine)
+pub record Split (at : ℕ) (lines : List (List ℕ)) (before : List DashLine) (found : DashLine) (after : List DashLine)
     : Type 0 where
   pub front : List (List ℕ)
   pub line : List ℕ
@@ -30,16 +32,16 @@ pub record Split (at : ℕ) (lines : List (List ℕ)) (before : List PlainDashLi
   pub text : behind_dashes line ≡ Some found.text
   pub after_is : dash_lines (found.start + length line) back ≡ after
 
-abbrev dash_at : ℕ → List ℕ → PlainDashLine
+abbrev dash_at : ℕ → List ℕ → DashLine
 dash_at at text = record { start = at; text = text }
 
-same_parts : (x y : PlainDashLine) (xs ys : List PlainDashLine) → x ∷ xs ≡ y ∷ ys → (x ≡ y) × (xs ≡ ys)
+same_parts : (x y : DashLine) (xs ys : List DashLine) → x ∷ xs ≡ y ∷ ys → (x ≡ y) × (xs ≡ ys)
 same_parts x y xs ys e = ((cc), (cc))
 
-split_next : (at : ℕ) (line : List ℕ) (lines : List (List ℕ)) (o : Option (List ℕ)) (before : List PlainDashLine)
-    (found : PlainDashLine) (after : List PlainDashLine)
+split_next : (at : ℕ) (line : List ℕ) (lines : List (List ℕ)) (o : Option (List ℕ)) (before : List DashLine)
+    (found : DashLine) (after : List DashLine)
     → behind_dashes line ≡ o
-    → ((less : List PlainDashLine) → dash_lines (at + length line) lines ≡ less ++ found ∷ after
+    → ((less : List DashLine) → dash_lines (at + length line) lines ≡ less ++ found ∷ after
     → Split (at + length line) lines less found after)
     → dash_lines_with at o (dash_lines (at + length line) lines) ≡ before ++ found ∷ after
     → Split at (line ∷ lines) before found after
@@ -82,7 +84,7 @@ split_next at line lines (Some text) (d ∷ before) found after o more e =
       after_is = s.after_is;
     }
 
-pub split_lines : (at : ℕ) (lines : List (List ℕ)) (before : List PlainDashLine) (found : PlainDashLine) (after : List PlainDashLine)
+pub split_lines : (at : ℕ) (lines : List (List ℕ)) (before : List DashLine) (found : DashLine) (after : List DashLine)
     → dash_lines at lines ≡ before ++ found ∷ after → Split at lines before found after
 split_lines at [] [] found after e = absurd (cc)
 split_lines at [] (d ∷ before) found after e = absurd (cc)
@@ -91,7 +93,7 @@ split_lines at (line ∷ lines) before found after e =
     (λ less. split_lines (at + length line) lines less found after)
     e
 
-any_next : (boundary : List ℕ) (at : ℕ) (o : Option (List ℕ)) (t : Bool) (more : List PlainDashLine)
+any_next : (boundary : List ℕ) (at : ℕ) (o : Option (List ℕ)) (t : Bool) (more : List DashLine)
     → t ≡ list_any (delimits boundary) more
     → (is_delimiter (kind_behind (o >>= behind_text boundary)) || t)
     ≡ list_any (delimits boundary) (dash_lines_with at o more)
@@ -105,6 +107,58 @@ any_delimiter boundary at [] = refl
 any_delimiter boundary at (line ∷ lines) =
     any_next boundary at (behind_dashes line) _ (dash_lines (at + length line) lines)
     (any_delimiter boundary (at + length line) lines)
+
+-- the line of a text that starts behind others
+delimits_here : (boundary text : List ℕ) (front : List (List ℕ)) (line : List ℕ) (lines : List (List ℕ))
+    → lines_of text ≡ front ++ line ∷ lines → (o : Option (List ℕ)) → behind_dashes line ≡ o
+    → delimits_at boundary text (length (concat front)) ≡ is_delimiter (kind_behind (o >>= behind_text boundary))
+delimits_here boundary text front line lines whole o e =
+    ap (λ ls. is_delimiter (kind_of boundary (first_line ls))) (back_lines text front (line ∷ lines) whole)
+    ∙ ap (λ p. is_delimiter (kind_behind (p >>= behind_text boundary))) e
+
+starts_same : (boundary text : List ℕ) (start at : ℕ) (front lines : List (List ℕ)) → lines_of text ≡ front ++ lines
+    → at ≡ start + length (concat front)
+    → position_or_len (λ place. delimits_at boundary text (place - start)) (dash_starts at lines)
+    ≡ position_or_len (delimits boundary) (dash_lines at lines)
+starts_same boundary text start at front [] whole is = refl
+starts_same boundary text start at front (line ∷ lines) whole is =
+    by_line (behind_dashes line) refl
+    (starts_same boundary text start (at + length line) (front ++ line ∷ []) lines
+    (whole ∙ sym (append_assoc front (line ∷ []) lines))
+    (omega (
+      arith,
+      is,
+      ap length (concat-append front (line ∷ [])),
+      length-append (concat front) (line ++ []),
+      length-append line [],
+    )))
+  where
+    by_line : (o : Option (List ℕ)) → behind_dashes line ≡ o
+        → position_or_len (λ place. delimits_at boundary text (place - start)) (dash_starts (at + length line) lines)
+        ≡ position_or_len (delimits boundary) (dash_lines (at + length line) lines)
+        → position_or_len (λ place. delimits_at boundary text (place - start))
+        (map (λ d. d.start) (dash_lines_with at o (dash_lines (at + length line) lines)))
+        ≡ position_or_len (delimits boundary) (dash_lines_with at o (dash_lines (at + length line) lines))
+    by_line None e more = more
+    by_line (Some found) e more =
+        let place : at - start ≡ length (concat front) = omega (arith, is) in
+        let here : delimits_at boundary text (at - start) ≡ is_delimiter (dash_kind boundary found) =
+        ap (delimits_at boundary text) place ∙ delimits_here boundary text front line lines whole (Some found) e in
+        ap (λ t. cond (not t) (1 + position_or_len (λ place. delimits_at boundary text (place - start))
+        (dash_starts (at + length line) lines)) 0) here
+        ∙ ap (λ n. cond (not (is_delimiter (dash_kind boundary found))) (1 + n) 0) more
+
+-- the places show which of the lines is the first delimiter line
+pub position-starts : (boundary text : List ℕ) (start : ℕ)
+    → position (λ place. delimits_at boundary text (place - start)) (dash_starts start (lines_of text))
+    ≡ position (delimits boundary) (dash_lines start (lines_of text))
+position-starts boundary text start =
+    let all = dash_lines start (lines_of text) in
+    let same : start ≡ start + length (concat []) = omega arith in
+    ap (λ n. cond (nat_lt n (length (dash_starts start (lines_of text)))) (Some n) None)
+    (starts_same boundary text start start [] (lines_of text) refl same)
+    ∙ ap (λ n. cond (nat_lt (position_or_len (delimits boundary) all) n)
+    (Some (position_or_len (delimits boundary) all)) None) (length-map all (λ d. d.start))
 
 -- no line is a delimiter line
 abbrev pub HasNone : List ℕ → List (List ℕ) → Type 0
@@ -175,7 +229,7 @@ sections_none boundary in_digest at lines none =
     ap (sections boundary in_digest at) (sym (append-nil lines)) ∙ sections_from boundary in_digest at lines [] none
 
 -- what a section is cut to at one of its lines that begin with two dashes
-module _ (s : PlainSection) (before : List PlainDashLine) (found : PlainDashLine) (after : List PlainDashLine)
+module _ (s : PlainSection) (before : List DashLine) (found : DashLine) (after : List DashLine)
     (marked : dash_lines s.start (lines_of s.text) ≡ before ++ found ∷ after) where
   abbrev pub size : ℕ
   size = found.start - s.start
@@ -244,6 +298,10 @@ module _ (s : PlainSection) (before : List PlainDashLine) (found : PlainDashLine
 
   kind_is : (boundary : List ℕ) → kind_of boundary cut.line ≡ dash_kind boundary found.text
   kind_is boundary = ap (λ o. kind_behind (o >>= behind_text boundary)) cut.text
+
+  pub kind_on : (boundary : List ℕ)
+      → kind_of boundary (first_line (lines_of (drop size s.text))) ≡ dash_kind boundary found.text
+  kind_on boundary = ap (λ ls. kind_of boundary (first_line ls)) behind_is ∙ kind_is boundary
 
   front_none : (boundary : List ℕ) → list_any (delimits boundary) before ≡ false → HasNone boundary cut.front
   front_none boundary none =

@@ -3,28 +3,31 @@ use Rattle.std.proofs.Common.{◌≡◌, ℕ, ◌+◌, ◌-◌, ◌≤◌, ◌<�
 use Rattle.std.proofs.Common.{drop, Option, Some, None, refl, sym, ap, ◌∙◌, arith, length-append, append_assoc}
 use Rattle.std.proofs.Common.{take-append-drop}
 use Rattle.std.specs.Prelude.{if◌then◌else◌}
-use Rattle.std.specs.List.{concat}
+use Rattle.std.proofs.Common.{suc, cond, not, nat_le, map}
+use Rattle.std.specs.List.{concat, position_or_len}
+use Rattle.std.proofs.lemmas.Bool.{ltb-true, ltb-false, leb-true, leb-false}
 use Rattle.std.proofs.lemmas.Bool.Decides.{nat_tests}
 use Rattle.std.proofs.lemmas.List.Folds.{concat-append}
 use Rattle.bstr.specs.Text.{lines_of}
 use Rattle.bstr.proofs.lemmas.RestLemmas.{concat-lines_of}
 use Rattle.mail_base.specs.Lines.{after_block, behind_first, body_of, header_block}
 use Rattle.mail_base.proofs.LinesLemmas.{both_blocks, lines-after_block, lines-body_of}
-use Rattle.mime_tree.specs.DashLines.{PlainDashLine, behind_dashes, dash_lines, dash_lines_with, from_place}
+use Rattle.mime_tree.specs.DashLines.{DashLine, behind_dashes, dash_lines, dash_lines_with, dash_starts, from_place}
+use Rattle.mime_tree.specs.DashLines.{starts_from}
 
-keep_first : (place at : ℕ) (text : List ℕ) (more : List PlainDashLine) → place ≤ at
+keep_first : (place at : ℕ) (text : List ℕ) (more : List DashLine) → place ≤ at
     → from_place place (dash_lines_with at (Some text) more) ≡ dash_lines_with at (Some text) more
 keep_first place at text more le =
     let test : nat_lt at place ≡ false = grind (arith, nat_tests) in
     rw test refl
 
-skip_first : (place at : ℕ) (text : List ℕ) (more : List PlainDashLine) → at < place
+skip_first : (place at : ℕ) (text : List ℕ) (more : List DashLine) → at < place
     → from_place place (dash_lines_with at (Some text) more) ≡ from_place place more
 skip_first place at text more less =
     let test : nat_lt at place ≡ true = grind (arith, nat_tests) in
     rw test refl
 
-keep_next : (place at : ℕ) (o : Option (List ℕ)) (more : List PlainDashLine) → place ≤ at
+keep_next : (place at : ℕ) (o : Option (List ℕ)) (more : List DashLine) → place ≤ at
     → from_place place more ≡ more → from_place place (dash_lines_with at o more) ≡ dash_lines_with at o more
 keep_next place at None more le same = same
 keep_next place at (Some text) more le same = keep_first place at text more le
@@ -40,7 +43,7 @@ some_bytes : (line text : List ℕ) → behind_dashes line ≡ Some text → 0 <
 some_bytes [] text e = absurd (cc)
 some_bytes (b ∷ rest) text e = omega arith
 
-skip_next : (place at : ℕ) (line : List ℕ) (o : Option (List ℕ)) (more all : List PlainDashLine)
+skip_next : (place at : ℕ) (line : List ℕ) (o : Option (List ℕ)) (more all : List DashLine)
     → behind_dashes line ≡ o → at + length line ≤ place → from_place place more ≡ all
     → from_place place (dash_lines_with at o more) ≡ all
 skip_next place at line None more all e le same = same
@@ -91,7 +94,7 @@ head_size text =
     )
 
 -- the lines of a part that start in its body are those of its body
-pub body_marked : (start : ℕ) (text : List ℕ)
+body_marked : (start : ℕ) (text : List ℕ)
     → let place = start + (length text - length (body_of text)) in
     from_place place (dash_lines start (lines_of text)) ≡ dash_lines place (lines_of (body_of text))
 body_marked start text =
@@ -102,3 +105,30 @@ body_marked start text =
     ∙ ap (λ n. from_place place (dash_lines n (back text))) same
     ∙ from_behind place place (back text) (omega arith)
     ∙ ap (dash_lines place) (sym (lines-body_of text))
+
+starts_of : (place : ℕ) (lines : List DashLine)
+    → starts_from place (map (λ d. d.start) lines) ≡ map (λ d. d.start) (from_place place lines)
+starts_of place [] = refl
+starts_of place (line ∷ lines) = by_place (nat_lt line.start place) (nat_le place line.start) refl refl
+    (starts_of place lines)
+  where
+    by_place : (before past : Bool) → nat_lt line.start place ≡ before → nat_le place line.start ≡ past
+        → starts_from place (map (λ d. d.start) lines) ≡ map (λ d. d.start) (from_place place lines)
+        → drop (cond (not past) (1 + position_or_len (λ at. nat_le place at) (map (λ d. d.start) lines)) 0)
+        (line.start ∷ map (λ d. d.start) lines)
+        ≡ map (λ d. d.start) (if before then from_place place lines else line ∷ lines)
+    by_place true true b p more = absurd (omega (arith, ltb-true _ _ b, leb-true _ _ p))
+    by_place false false b p more = absurd (omega (arith, ltb-false _ _ b, leb-false _ _ p))
+    by_place true false b p more =
+        let next : 1 + position_or_len (λ at. nat_le place at) (map (λ d. d.start) lines)
+        ≡ suc (position_or_len (λ at. nat_le place at) (map (λ d. d.start) lines)) = omega arith in
+        ap (λ n. drop n (line.start ∷ map (λ d. d.start) lines)) next ∙ more
+    by_place false true b p more = refl
+
+-- the places of a part that start in its body are those of its body
+pub body_starts : (start : ℕ) (text : List ℕ)
+    → let place = start + (length text - length (body_of text)) in
+    starts_from place (dash_starts start (lines_of text)) ≡ dash_starts place (lines_of (body_of text))
+body_starts start text =
+    let place = start + (length text - length (body_of text)) in
+    starts_of place (dash_lines start (lines_of text)) ∙ ap (map (λ d. d.start)) (body_marked start text)

@@ -2,11 +2,19 @@
 use Rattle.std.proofs.Common.{◌≡◌, ℕ, zero, suc, ◌+◌, ◌-◌, ◌<◌, List, [], ◌∷◌, ◌++◌, Option, Some, None, option_map}
 use Rattle.std.proofs.Common.{◌≤◌, length, take, drop, map, get_or, refl, sym, ap, ◌∙◌, arith, append_assoc}
 use Rattle.std.proofs.lemmas.List.{take_all}
+use Rattle.std.proofs.Common.{◌&&◌, not, false, codes}
+use Rattle.std.specs.Prelude.{if◌then◌else◌}
+use Rattle.std.specs.Str.{bytes_eq}
+use Rattle.std.proofs.lemmas.Bool.{or_parts}
+use Rattle.bstr.specs.Text.{lines_of}
 use Rattle.mail_base.specs.Fronts.{◌>>=◌}
-use Rattle.mime_tree.specs.Entity.{children_of, part_of}
+use Rattle.mail_base.specs.Lines.{body_of, message_fields}
+use Rattle.mime_tree.specs.Delimiter.{is_cut}
+use Rattle.mime_tree.specs.Entity.{boundary_of, children_of, holds_parts, is_multipart, named_type, part_of, sections_in}
+use Rattle.mime_tree.specs.Entity.{type_of, typed_part}
 use Rattle.mime_tree.specs.Part.{PlainPart}
-use Rattle.mime_tree.specs.Parts.{all_parts, parts_in}
-use Rattle.mime_tree.specs.Section.{PlainSection, plain_section}
+use Rattle.mime_tree.specs.Parts.{all_parts, parts_in, parts_of, whole}
+use Rattle.mime_tree.specs.Section.{PlainSection, plain_section, sections}
 use Rattle.mime_tree.specs.declared.section.Section.{Section}
 
 -- parts behind those read so far, where there are any
@@ -88,3 +96,45 @@ joined_rest parts (s ∷ rest) d done after all some first h =
     ap (λ l. joined after (all_parts parts (map plain_section l))) (rest_is s rest)
     ∙ joined_next parts (plain_section s) (map plain_section rest) done after first
     ∙ h
+
+-- a part of a type in which no parts stand
+leaf_type : (raw : List ℕ) → holds_parts (named_type false (message_fields raw)) ≡ false
+    → type_of (whole raw) ≡ named_type false (message_fields raw)
+leaf_type raw none =
+    let fields = message_fields raw in
+    ap (λ t. if t && not (is_cut (boundary_of fields) (body_of raw)) then codes "text/plain"
+    else named_type false fields)
+    (or_parts (is_multipart (named_type false fields)) (bytes_eq (named_type false fields) (codes "message/rfc822"))
+    none).0
+
+no_children : (content boundary body : List ℕ) (start : ℕ) → holds_parts content ≡ false
+    → sections_in content boundary start body ≡ []
+no_children content boundary body start none =
+    let both = or_parts (is_multipart content) (bytes_eq content (codes "message/rfc822")) none in
+    ap (λ t. if t then sections boundary (bytes_eq content (codes "multipart/digest")) start (lines_of body)
+    else (if bytes_eq content (codes "message/rfc822") then record { start = start; text = body; in_digest = false } ∷ []
+    else [])) both.0
+    ∙ ap (λ t. if t then record { start = start; text = body; in_digest = false } ∷ [] else []) both.1
+
+-- a message that holds no parts is its only part
+parts_of-leaf : (raw : List ℕ) → holds_parts (named_type false (message_fields raw)) ≡ false
+    → parts_of raw ≡ Some (typed_part 0 0 raw (named_type false (message_fields raw)) ∷ [])
+parts_of-leaf raw none =
+    let fields = message_fields raw in
+    let type_is = leaf_type raw none in
+    let body = body_of raw in
+    let children : children_of (whole raw) ≡ [] =
+    ap (λ c. sections_in c (boundary_of fields) (0 + (length raw - length body)) body) type_is
+    ∙ no_children (named_type false fields) (boundary_of fields) body (0 + (length raw - length body)) none in
+    parts_in_step 33 0 (whole raw) (omega arith)
+    ∙ ap (λ c. option_map (λ more. part_of 0 (whole raw) ∷ more) (all_parts (parts_in 32 1) c)) children
+    ∙ ap (λ c. Some (typed_part 0 0 raw c ∷ [])) type_is
+
+pub leaf_read : (raw content : List ℕ) (part : PlainPart) (parts : List PlainPart)
+    → content ≡ named_type false (message_fields raw) → holds_parts content ≡ false
+    → part ≡ typed_part 0 0 raw content → parts ≡ part ∷ [] → parts_of raw ≡ Some parts
+leaf_read raw content part parts content_is none part_is parts_are =
+    parts_of-leaf raw (ap holds_parts (sym content_is) ∙ none)
+    ∙ ap (λ c. Some (typed_part 0 0 raw c ∷ [])) (sym content_is)
+    ∙ ap (λ p. Some (p ∷ [])) (sym part_is)
+    ∙ ap Some (sym parts_are)

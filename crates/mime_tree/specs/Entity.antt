@@ -1,5 +1,5 @@
 -- The part that a section of a message holds, and the sections in it (RFC 2045, section 5; RFC 2046, section 5).
-use Rattle.std.specs.Prelude.{◌+◌, ◌-◌, ◌&&◌, ℕ, Bool, false, not, List, [], ◌∷◌, length, take, Option, Some, None}
+use Rattle.std.specs.Prelude.{◌+◌, ◌-◌, ◌&&◌, ◌||◌, ℕ, Bool, false, not, List, [], ◌∷◌, length, take, Option, Some, None}
 use Rattle.std.specs.Prelude.{unwrap_or, is_some, codes, if◌then◌else◌}
 use Rattle.std.specs.Str.{bytes_eq, str_eq_ignore_ascii_case, str_to_ascii_lowercase}
 use Rattle.bstr.specs.Text.{lines_of}
@@ -75,19 +75,27 @@ type_of s =
     let fields = message_fields s.text in
     shown_type (named_type s.in_digest fields) (boundary_of fields) (body_of s.text)
 
--- the part that a section of a message holds
-abbrev pub part_of : ℕ → PlainSection → PlainPart
-part_of nesting s =
-    let fields = message_fields s.text in record {
+-- the part of a type in a range of a message
+abbrev pub typed_part : ℕ → ℕ → List ℕ → List ℕ → PlainPart
+typed_part nesting start text content =
+    let fields = message_fields text in record {
       nesting = nesting;
-      content = type_of s;
+      content = content;
       charset = charset_of fields;
       filename = filename_of fields;
       encoding = encoding_of (value_in (codes "content-transfer-encoding") fields);
       attachment = is_attachment (value_in (codes "content-disposition") fields);
-      body_at = s.start + body_at s.text;
-      body_end = s.start + length s.text;
+      body_at = start + body_at text;
+      body_end = start + length text;
     }
+
+-- the part that a section of a message holds
+abbrev pub part_of : ℕ → PlainSection → PlainPart
+part_of nesting s = typed_part nesting s.start s.text (type_of s)
+
+-- parts may stand in a part of the type
+abbrev pub holds_parts : List ℕ → Bool
+holds_parts content = is_multipart content || bytes_eq content (codes "message/rfc822")
 
 -- the sections in a body of a type: those of a multipart, or the message of a message/rfc822
 abbrev pub sections_in : List ℕ → List ℕ → ℕ → List ℕ → List PlainSection

@@ -1,15 +1,14 @@
 //! A section cut at its first delimiter line.
 
-ghost use Rattle.std.specs.Prelude.{◌≡◌, ◌≤◌, length, map, position, IfOk};
+ghost use Rattle.std.specs.Prelude.{◌≡◌, ◌-◌, ◌≤◌, ◌<◌, length, map, position, IfOk, IfSome};
 ghost use Rattle.mime_tree.specs.Cut as spec;
-ghost use Rattle.mime_tree.specs.DashLines.{plain_dash_line, delimits};
+ghost use Rattle.mime_tree.specs.DashLines as dashes;
 ghost use Rattle.mime_tree.specs.Delimiter as delimiter;
 ghost use Rattle.mime_tree.specs.Section.{plain_section};
 
-use crate::dash_lines::DashLine;
 use crate::delimiter::LineKind;
 use crate::section::Section;
-use mail_base::{NoMemory, behind_line, without_line_end};
+use mail_base::{NoMemory, behind_line, first_line, without_line_end};
 use std::alloc::Global;
 
 /// A section cut at its first delimiter line.
@@ -23,17 +22,29 @@ pub struct Cut<'a> {
     pub rest: Section<'a>,
 }
 
-fn next_delimiter(boundary: &[u8], lines: &[DashLine<'_>]) -> Option<usize>
-    ensures { result ≡ position (λ line. delimits boundary.now (plain_dash_line line)) lines.now }
+// Whether the line that starts at a place of the text is a delimiter line.
+fn delimits_at(boundary: &[u8], text: &[u8], place: usize) -> bool
+    ensures { result ≡ dashes.delimits_at boundary.now text.now place }
 {
-    lines.iter().position(|line| LineKind::behind_dashes(boundary, line.text).is_delimiter())
+    let (_, line_on) = text.split_at(place.min(text.len()));
+    LineKind::of_line(boundary, first_line(line_on)).is_delimiter()
+}
+
+// Which of the places is that of the first delimiter line. The text starts at a place of its own.
+fn next_delimiter(boundary: &[u8], text: &[u8], start: usize, places: &[usize]) -> Option<usize>
+    ensures value { result ≡ position (λ at. dashes.delimits_at boundary.now text.now (at - start)) places.now }
+    ensures within { IfSome result (λ index. index < length places.now) }
+{
+    places
+        .iter()
+        .position(|at| delimits_at(boundary, text, at.saturating_sub(start)))
 }
 
 /// Whether the boundary is not empty and occurs in the body.
 pub fn is_cut(boundary: &[u8], body: Section<'_>) -> bool
     ensures { result ≡ delimiter.is_cut boundary.now body.entry.text.now }
 {
-    !boundary.is_empty() && next_delimiter(boundary, body.dashes).is_some()
+    !boundary.is_empty() && next_delimiter(boundary, body.text, body.start, body.dashes).is_some()
 }
 
 impl<'a> Cut<'a> {
@@ -44,26 +55,26 @@ impl<'a> Cut<'a> {
             ≡ spec.behind_cut boundary.now result }
         ensures fewer { spec.lines_left result ≤ length section.entry.dashes.now }
     {
-        let lines = section.dashes;
-        let Some(index) = next_delimiter(boundary, lines) else {
+        let places = section.dashes;
+        let Some(index) = next_delimiter(boundary, section.text, section.start, places) else {
             return None;
         };
-        let line = lines[index];
-        let (front, line_on) = section.text.split_at(line.start - section.start);
+        let at = places[index];
+        let (front, line_on) = section.text.split_at(at - section.start);
         let rest = behind_line(line_on);
         Some(Cut {
             front: Section {
                 start: section.start,
                 text: without_line_end(front),
                 in_digest: section.in_digest,
-                dashes: &lines[..index],
+                dashes: &places[..index],
             },
-            closes: LineKind::behind_dashes(boundary, line.text).is_closing(),
+            closes: LineKind::of_line(boundary, first_line(line_on)).is_closing(),
             rest: Section {
-                start: line.start + (line_on.len() - rest.len()),
+                start: at + (line_on.len() - rest.len()),
                 text: rest,
                 in_digest: section.in_digest,
-                dashes: &lines[index + 1..],
+                dashes: &places[index + 1..],
             },
         })
     }

@@ -1,6 +1,6 @@
-//! The lines of a message that begin with two dashes.
+//! The lines of a message that begin with two dashes, by the places where they start.
 
-ghost use Rattle.std.specs.Prelude.{◌≡◌, map, IfOk};
+ghost use Rattle.std.specs.Prelude.{◌≡◌, ◌≤◌, ◌<◌, nat_le, length, position, is_some, IfOk, IfSome};
 ghost use Rattle.bstr.specs.Text.{lines_of};
 ghost use Rattle.mime_tree.specs.DashLines as spec;
 
@@ -8,39 +8,41 @@ use bstr::ByteSlice;
 use mail_base::{NoMemory, behind_text, without_line_end};
 use std::alloc::Global;
 
-/// A line of a message that begins with two dashes.
-#[derive(Clone, Copy, Debug)]
-pub struct DashLine<'a> {
-    pub start: usize,
-    /// What stands behind the dashes, without the line end.
-    pub text: &'a [u8],
+// Whether the line begins with two dashes.
+fn is_dashed(line: &[u8]) -> bool
+    ensures { result ≡ is_some (spec.behind_dashes line.now) }
+{
+    behind_text(b"--", without_line_end(line)).is_some()
 }
 
-/// The lines of a message that begin with two dashes.
-pub fn read_dash_lines(alloc: Global, raw: &[u8]) -> Result<Vec<DashLine<'_>>, NoMemory>
-    ensures { IfOk result (λ v. map spec.plain_dash_line v.items ≡ spec.dash_lines 0 (lines_of raw.now)) }
+/// Where the lines of a message start that begin with two dashes.
+pub fn read_dash_starts(alloc: Global, raw: &[u8]) -> Result<Vec<usize>, NoMemory>
+    ensures { IfOk result (λ v. v.items ≡ spec.dash_starts 0 (lines_of raw.now)) }
 {
     let mut found = Vec::new(alloc);
     let mut start = 0;
     for line in raw.lines_with_terminator() {
-        if let Some(text) = behind_text(b"--", without_line_end(line)) {
-            found.push(DashLine { start, text })?;
+        if is_dashed(line) {
+            found.push(start)?;
         }
         start += line.len();
     }
     Ok(found)
 }
 
-/// The lines from the first on that starts at a place or behind it.
-pub fn lines_from<'a>(place: usize, lines: &'a [DashLine<'a>]) -> &'a [DashLine<'a>]
-    ensures { map spec.plain_dash_line result.now ≡ spec.from_place place (map spec.plain_dash_line lines.now) }
+fn first_from(place: usize, starts: &[usize]) -> Option<usize>
+    ensures value { result ≡ position (λ at. nat_le place at) starts.now }
+    ensures within { IfSome result (λ index. index < length starts.now) }
 {
-    let mut left = lines;
-    while let [first, rest @ ..] = left {
-        if place <= first.start {
-            break;
-        }
-        left = rest;
+    starts.iter().position(|at| place <= *at)
+}
+
+/// The places from the first on that is a place or behind it.
+pub fn starts_from(place: usize, starts: &[usize]) -> &[usize]
+    ensures { result.now ≡ spec.starts_from place starts.now }
+{
+    match first_from(place, starts) {
+        Some(index) => &starts[index..],
+        None => &[],
     }
-    left
 }

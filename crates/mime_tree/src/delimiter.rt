@@ -2,10 +2,9 @@
 
 ghost use Rattle.std.specs.Prelude.{◌≡◌, codes};
 ghost use Rattle.mail_base.specs.Fronts.{behind_text};
-ghost use Rattle.mime_tree.specs.DashLines.{dash_kind};
 ghost use Rattle.mime_tree.specs.Delimiter as spec;
 
-use mail_base::{behind_text, is_all_blank};
+use mail_base::{behind_text, is_all_blank, without_line_end};
 
 /// What a line is to a boundary (RFC 2046, section 5.1.1).
 #[derive(Clone, Copy, Debug, PartialEq, Eq)]
@@ -26,10 +25,13 @@ impl LineKind {
         }
     }
 
-    /// What a line is by what stands behind the two dashes with which it begins.
-    pub fn behind_dashes(boundary: &[u8], text: &[u8]) -> LineKind
-        ensures { result ≡ dash_kind boundary.now text.now }
+    /// What a line is in a multipart of the boundary.
+    pub fn of_line(boundary: &[u8], line: &[u8]) -> LineKind
+        ensures { result ≡ spec.kind_of boundary.now line.now }
     {
+        let Some(text) = behind_text(b"--", without_line_end(line)) else {
+            return LineKind::Text;
+        };
         let Some(tail) = behind_text(boundary, text) else {
             return LineKind::Text;
         };

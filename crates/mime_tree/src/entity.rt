@@ -1,6 +1,6 @@
 //! The part that a section holds, and the sections in it.
 
-ghost use Rattle.std.specs.Prelude.{◌≡◌, [], false, map, option_map, unwrap_or, codes, IfOk};
+ghost use Rattle.std.specs.Prelude.{◌≡◌, ◌+◌, ◌<◌, ◌^◌, [], false, length, map, option_map, unwrap_or, codes, IfOk};
 ghost use Rattle.std.specs.Str.{str_to_ascii_lowercase};
 ghost use Rattle.headers.specs.Field.{plain_field};
 ghost use Rattle.mail_base.specs.Lines.{message_fields};
@@ -10,7 +10,7 @@ ghost use Rattle.mime_tree.specs.Part.{plain_part};
 ghost use Rattle.mime_tree.specs.Section.{plain_section};
 
 use crate::cut::{cut_sections, is_cut};
-use crate::dash_lines::lines_from;
+use crate::dash_lines::starts_from;
 use crate::encoding::Encoding;
 use crate::media_type::media_type;
 use crate::parameter::parameter_of;
@@ -86,6 +86,21 @@ fn is_multipart(content: &[u8]) -> bool
     behind_text(b"multipart/", content).is_some()
 }
 
+/// The type that the fields of a part name, in lower case.
+pub fn named_type(alloc: Global, fields: &[Field], in_digest: bool) -> Result<Bytes, NoMemory>
+    ensures { IfOk result (λ b. b.items ≡ spec.named_type in_digest (map plain_field fields.now)) }
+{
+    let content = written_type(in_digest, first_value(fields, b"content-type"));
+    lowered(alloc, content)
+}
+
+/// Whether parts may stand in a part of the type.
+pub fn holds_parts(content: &[u8]) -> bool
+    ensures { result ≡ spec.holds_parts content.now }
+{
+    is_multipart(content) || content == b"message/rfc822".as_slice()
+}
+
 // The type of a part in lower case. A multipart whose boundary does not occur is text.
 fn type_of(
     alloc: Global,
@@ -97,10 +112,7 @@ fn type_of(
     ensures { IfOk result (λ b. b.items ≡ spec.shown_type
         (spec.named_type in_digest (map plain_field fields.now)) boundary.now body.entry.text.now) }
 {
-    let content = lowered(
-        alloc,
-        written_type(in_digest, first_value(fields, b"content-type")),
-    )?;
+    let content = named_type(alloc, fields, in_digest)?;
     if is_multipart(content.as_slice()) && !is_cut(boundary, body) {
         return Bytes::copy_of(alloc, b"text/plain");
     }
@@ -143,7 +155,7 @@ fn body_in<'a>(section: Section<'a>) -> Section<'a>
         start,
         text: body,
         in_digest: false,
-        dashes: lines_from(start, section.dashes),
+        dashes: starts_from(start, section.dashes),
     }
 }
 
@@ -169,17 +181,18 @@ fn sections_in<'a>(
     Ok(sections)
 }
 
-// The part that a section holds, of this type.
-fn part_of(
+/// The part that stands in a range of a message, of this type.
+pub fn part_of(
     alloc: Global,
-    section: Section<'_>,
+    start: usize,
+    text: &[u8],
     nesting: u32,
     fields: &[Field],
     content: Bytes,
 ) -> Result<Part, NoMemory>
-    requires fields { map plain_field fields.now ≡ message_fields section.text.now }
-    requires content { content.items ≡ spec.type_of (plain_section section) }
-    ensures { IfOk result (λ p. plain_part p ≡ spec.part_of nesting (plain_section section.entry)) }
+    requires fits { start + length text.now < 2 ^ 64 }
+    requires fields { map plain_field fields.now ≡ message_fields text.now }
+    ensures { IfOk result (λ p. plain_part p ≡ spec.typed_part nesting start text.now content.items) }
 {
     let charset = charset_of(alloc, fields)?;
     let filename = filename_of(alloc, fields)?;
@@ -190,8 +203,8 @@ fn part_of(
         filename,
         encoding: Encoding::from_value(value_in(fields, b"content-transfer-encoding")),
         attachment: is_attachment(value_in(fields, b"content-disposition")),
-        body_at: section.start + body_at(section.text),
-        body_end: section.start + section.text.len(),
+        body_at: start + body_at(text),
+        body_end: start + text.len(),
     })
 }
 
@@ -207,7 +220,7 @@ impl<'a> Entity<'a> {
         let boundary = type_parameter(alloc, list, b"boundary")?;
         let content = type_of(alloc, list, section.in_digest, boundary.as_slice(), body)?;
         let children = sections_in(alloc, content.as_slice(), boundary.as_slice(), body)?;
-        let part = part_of(alloc, section, nesting, list, content)?;
+        let part = part_of(alloc, section.start, section.text, nesting, list, content)?;
         Ok(Entity { part, children })
     }
 }

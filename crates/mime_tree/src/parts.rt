@@ -6,10 +6,11 @@ ghost use Rattle.mime_tree.specs.Parts as spec;
 ghost use Rattle.mime_tree.specs.Part.{plain_parts};
 ghost use Rattle.mime_tree.specs.Section.{plain_section};
 
-use crate::dash_lines::read_dash_lines;
-use crate::entity::Entity;
+use crate::dash_lines::read_dash_starts;
+use crate::entity::{Entity, holds_parts, named_type, part_of};
 use crate::part::Parts;
 use crate::section::Section;
+use headers::read_fields;
 use mail_base::NoMemory;
 use std::alloc::Global;
 use thiserror::Error;
@@ -65,6 +66,22 @@ fn add_parts(
     Ok(())
 }
 
+// Adds the parts of a message, and those that stand in it.
+fn add_message(alloc: Global, parts: &mut Parts, raw: &[u8]) -> Result<(), MimeError>
+    ensures ok { OnOk result (option_map (λ more. plain_parts parts.old ++ more)
+        (spec.parts_of raw.now) ≡ Some (plain_parts parts.new)) }
+    ensures too_deep { IsErrOf result MimeError.TooDeep → spec.parts_of raw.now ≡ None }
+{
+    let dashes = read_dash_starts(alloc, raw)?;
+    let whole = Section {
+        start: 0,
+        text: raw,
+        in_digest: false,
+        dashes: dashes.as_slice(),
+    };
+    add_parts(alloc, parts, whole, LEVELS, 0)
+}
+
 /// The parts of a message in the order of reading, each before those that stand in it (RFC 2046, section 5).
 pub fn read_parts(alloc: Global, raw: &[u8]) -> Result<Parts, MimeError>
     ensures parts { IfOk result (λ p. spec.parts_of raw.now ≡ Some (plain_parts p)) }
@@ -72,14 +89,14 @@ pub fn read_parts(alloc: Global, raw: &[u8]) -> Result<Parts, MimeError>
     ensures order { IfOk result (λ p. AreInOrder (plain_parts p)) }
     ensures within { IfOk result (λ p. All (StandsWithin (length raw.now)) p.items) }
 {
-    let dashes = read_dash_lines(alloc, raw)?;
     let mut parts = Parts::new(alloc);
-    let whole = Section {
-        start: 0,
-        text: raw,
-        in_digest: false,
-        dashes: dashes.as_slice(),
-    };
-    add_parts(alloc, &mut parts, whole, LEVELS, 0)?;
+    let fields = read_fields(alloc, raw)?;
+    let content = named_type(alloc, fields.as_slice(), false)?;
+    if holds_parts(content.as_slice()) {
+        add_message(alloc, &mut parts, raw)?;
+        return Ok(parts);
+    }
+    // No part stands in this one, so that its lines are not looked at.
+    parts.push(part_of(alloc, 0, raw, 0, fields.as_slice(), content)?)?;
     Ok(parts)
 }

@@ -1,10 +1,8 @@
 //! A range of a message that holds a part or its body.
 
-ghost use Rattle.std.specs.Prelude.{◌≡◌, ◌+◌, ◌<◌, ◌^◌, length, map};
+ghost use Rattle.std.specs.Prelude.{◌≡◌, ◌+◌, ◌<◌, ◌^◌, length};
 ghost use Rattle.bstr.specs.Text.{lines_of};
-ghost use Rattle.mime_tree.specs.DashLines.{dash_lines, plain_dash_line};
-
-use crate::dash_lines::DashLine;
+ghost use Rattle.mime_tree.specs.DashLines.{dash_starts};
 
 /// A range of a message that holds a part or its body.
 #[derive(Clone, Copy, Debug)]
@@ -13,8 +11,8 @@ pub struct Section<'a> {
     pub text: &'a [u8],
     /// Whether the part, or the parts in the body, stand in a digest.
     pub in_digest: bool,
-    /// Its lines that begin with two dashes.
-    pub dashes: &'a [DashLine<'a>],
+    /// Where its lines start that begin with two dashes.
+    pub dashes: &'a [usize],
     ghost fits: { start + length text.now < 2 ^ 64 },
-    ghost marked: { map plain_dash_line dashes.now ≡ dash_lines start (lines_of text.now) },
+    ghost marked: { dashes.now ≡ dash_starts start (lines_of text.now) },
 }

@@ -1,8 +1,8 @@
 use Rattle.std.proofs.Common.{◌≡◌, ◌+◌, ◌-◌, length, sym, ap, ◌∙◌, arith}
 use Rattle.bstr.specs.Text.{lines_of}
 use Rattle.mail_base.specs.Lines.{body_of}
-use Rattle.mime_tree.specs.DashLines.{dash_lines, from_place}
-use Rattle.mime_tree.proofs.EntityLemmas.{body_marked}
+use Rattle.mime_tree.specs.DashLines.{dash_starts, starts_from}
+use Rattle.mime_tree.proofs.EntityLemmas.{body_starts}
 use Rattle.mime_tree.proofs.entity.body_in.Goals as goal
 
 pub invariant_of-result : goal.invariant_of-result
@@ -16,9 +16,9 @@ invariant_of-result c =
     record {
       fits = omega (arith, s.fits, c.body_of-body.ensures.shorter);
       marked =
-          c.lines_from.ensures
-          ∙ ap (from_place place) s.marked
-          ∙ ap (λ b. from_place (start + (length text - length b)) (dash_lines start (lines_of text))) same
-          ∙ body_marked start text
-          ∙ ap (λ b. dash_lines (start + (length text - length b)) (lines_of b)) (sym same);
+          c.starts_from.ensures
+          ∙ ap (starts_from place) s.marked
+          ∙ ap (λ b. starts_from (start + (length text - length b)) (dash_starts start (lines_of text))) same
+          ∙ body_starts start text
+          ∙ ap (λ b. dash_starts (start + (length text - length b)) (lines_of b)) (sym same);
     }
