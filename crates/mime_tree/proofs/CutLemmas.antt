@@ -4,22 +4,26 @@ use Rattle.std.proofs.Common.{◌≡◌, ℕ, zero, suc, ◌+◌, ◌-◌, ◌<�
 use Rattle.std.proofs.Common.{◌++◌, length, take, drop, map, get_or, slice_index, Option, Some, None, nat_lt, refl, sym}
 use Rattle.std.proofs.Common.{ap, ◌∙◌, arith, take-append-drop, drop-cons, add-one, length-drop, get_or-take, position}
 use Rattle.std.specs.Prelude.{is_some, if◌then◌else◌}
-use Rattle.std.specs.List.{list_any, position_or_len}
+use Rattle.std.proofs.Common.{append_assoc, codes, cond}
+use Rattle.std.specs.List.{concat, list_any, position_or_len}
 use Rattle.std.proofs.Common.{⊎_elim, min}
-use Rattle.std.proofs.lemmas.Bool.{cases_lt}
+use Rattle.std.proofs.lemmas.Bool.{cases_lt, false_from_ne_true}
 use Rattle.std.proofs.lemmas.Bool.Decides.{nat_tests}
-use Rattle.std.proofs.lemmas.List.{get_or-map, drop_all, get_or_default, length-map, length-take, take_all}
+use Rattle.std.proofs.lemmas.List.{append-nil, get_or-map, drop_all, get_or_default, length-map, length-take, take_all}
 use Rattle.std.proofs.lemmas.List.Folds.{list_any_at, list_any_none}
 use Rattle.std.proofs.lemmas.List.Quantifiers.{position-Some}
 use Rattle.std.proofs.lemmas.List.Sums.{fails_before_first}
-use Rattle.bstr.specs.Text.{lines_of, without_terminator}
-use Rattle.mail_base.specs.Lines.{behind_line, first_line}
+use Rattle.bstr.specs.Text.{lines_of, no_cr, without_terminator}
+use Rattle.bstr.proofs.lemmas.RestLemmas.{concat-lines_of}
+use Rattle.mail_base.specs.Fronts.{◌>>=◌, behind_text}
+use Rattle.mail_base.specs.Lines.{behind_first, behind_line, first_line}
+use Rattle.mail_base.proofs.FrontsLemmas.{behind_text-append}
 use Rattle.mail_base.proofs.PlacesLemmas.{place_none}
 use Rattle.mime_tree.specs.declared.delimiter.LineKind.{LineKind}
 use Rattle.mime_tree.specs.declared.delimiter.LineKind.TheVariants.{Text, Delimiter, Closing}
-use Rattle.mime_tree.specs.Delimiter.{is_closing, is_cut, is_delimiter, kind_of}
+use Rattle.mime_tree.specs.Delimiter.{is_closing, is_cut, is_delimiter, kind_behind, kind_of}
 use Rattle.mime_tree.specs.Section.{PlainSection, section_at, section_text, sections, sections_with}
-use Rattle.mime_tree.specs.DashLines.{DashLine, dash_kind, dash_lines, dash_starts, delimits, delimits_at}
+use Rattle.mime_tree.specs.DashLines.{DashLine, dash_kind, dash_lines, dash_starts, delimits, delimits_at, may_delimit}
 use Rattle.mime_tree.proofs.DashLinesLemmas as dashes
 use Rattle.mime_tree.proofs.SectionLemmas.{take_short, without_terminator_short}
 
@@ -245,3 +249,69 @@ drop_min n s = ⊎_elim
     let same : min n (length s) ≡ length s = omega arith in
     ap (λ k. drop k s) same ∙ drop_all (length s) s (omega arith) ∙ sym (drop_all n s past))
     (cases_lt n (length s))
+
+-- a text without its line end stands at its front
+no_cr_front : (s : List ℕ) → (end : List ℕ) × (s ≡ no_cr s ++ end)
+no_cr_front s = by_cr (nat_lt 0 (length s) && slice_index s (length s - 1) == 13)
+  where
+    by_cr : (t : Bool) → (end : List ℕ) × (s ≡ cond t (take (length s - 1) s) s ++ end)
+    by_cr true = (drop (length s - 1) s, sym (take-append-drop (length s - 1) s))
+    by_cr false = ([], sym (append-nil s))
+
+terminator_front : (s : List ℕ) → (end : List ℕ) × (s ≡ without_terminator s ++ end)
+terminator_front s = by_feed (nat_lt 0 (length s) && slice_index s (length s - 1) == 10)
+  where
+    by_feed : (t : Bool) → (end : List ℕ) × (s ≡ cond t (no_cr (take (length s - 1) s)) s ++ end)
+    by_feed true =
+        let text = take (length s - 1) s in
+        let rest = drop (length s - 1) s in
+        let cut = no_cr_front text in (
+          cut.0 ++ rest,
+          sym (take-append-drop (length s - 1) s) ∙ ap (λ l. l ++ rest) cut.1 ∙ append_assoc (no_cr text) cut.0 rest,
+        )
+    by_feed false = ([], sym (append-nil s))
+
+first_of : (lines : List (List ℕ)) → concat lines ≡ first_line lines ++ concat (behind_first lines)
+first_of [] = refl
+first_of (line ∷ lines) = refl
+
+-- the first line of a text, without its line end, stands at its front
+line_front : (text : List ℕ)
+    → (more : List ℕ) × (text ≡ without_terminator (first_line (lines_of text)) ++ more)
+line_front text =
+    let line = first_line (lines_of text) in
+    let rest = concat (behind_first (lines_of text)) in
+    let cut = terminator_front line in (
+      cut.0 ++ rest,
+      sym (concat-lines_of text) ∙ first_of (lines_of text) ∙ ap (λ l. l ++ rest) cut.1
+          ∙ append_assoc (without_terminator line) cut.0 rest,
+    )
+
+starts_more : (boundary s more : List ℕ) (o : Option (List ℕ)) → behind_text (codes "--") s ≡ o
+    → (p : Option (List ℕ)) → (o >>= behind_text boundary) ≡ p
+    → is_some p ≡ true → may_delimit boundary (s ++ more) ≡ true
+starts_more boundary s more None e p f some = absurd (cc)
+starts_more boundary s more (Some tail) e None f some = absurd (cc)
+starts_more boundary s more (Some tail) e (Some rest) f some =
+    ap (λ o. is_some (o >>= behind_text boundary)) (behind_text-append (codes "--") s tail more e)
+    ∙ ap is_some (behind_text-append boundary tail rest more f)
+
+delimiter_some : (o : Option (List ℕ)) → is_delimiter (kind_behind o) ≡ true → is_some o ≡ true
+delimiter_some None e = cc
+delimiter_some (Some s) e = refl
+
+-- a delimiter line begins with two dashes and the boundary
+may_delimit-true : (boundary text : List ℕ) → delimits_at boundary text 0 ≡ true
+    → may_delimit boundary text ≡ true
+may_delimit-true boundary text e =
+    let line = without_terminator (first_line (lines_of text)) in
+    let front = line_front text in
+    ap (may_delimit boundary) front.1
+    ∙ starts_more boundary line front.0 (behind_text (codes "--") line) refl
+    (behind_text (codes "--") line >>= behind_text boundary) refl
+    (delimiter_some (behind_text (codes "--") line >>= behind_text boundary) e)
+
+pub delimits_at-false : (boundary text : List ℕ) → may_delimit boundary text ≡ false
+    → delimits_at boundary text 0 ≡ false
+delimits_at-false boundary text none =
+    false_from_ne_true (delimits_at boundary text 0) (λ e. let some = may_delimit-true boundary text e in cc)

@@ -1,10 +1,10 @@
 -- The lines that begin with two dashes, among which all delimiter lines are (RFC 2046, section 5.1.1).
 -- For the code alone: no public clause cites this.
-use Rattle.std.specs.Prelude.{◌+◌, ℕ, Bool, nat_lt, nat_le, List, [], ◌∷◌, length, drop, map, Option, Some, None, codes}
+use Rattle.std.specs.Prelude.{◌+◌, ℕ, Bool, nat_lt, nat_le, List, [], ◌∷◌, length, drop, map, Option, Some, None, is_some, codes}
 use Rattle.std.specs.Prelude.{if◌then◌else◌}
 use Rattle.std.specs.List.{position_or_len}
 use Rattle.bstr.specs.Text.{lines_of, without_terminator}
-use Rattle.mail_base.specs.Fronts.{behind_text}
+use Rattle.mail_base.specs.Fronts.{◌>>=◌, behind_text}
 use Rattle.mail_base.specs.Lines.{first_line}
 use Rattle.mime_tree.specs.Delimiter.{is_delimiter, kind_behind, kind_of}
 use Rattle.mime_tree.specs.declared.delimiter.LineKind.{LineKind}
@@ -52,3 +52,7 @@ starts_from place starts = drop (position_or_len (λ at. nat_le place at) starts
 -- the line that starts at a place of a text is a delimiter line
 abbrev pub delimits_at : List ℕ → List ℕ → ℕ → Bool
 delimits_at boundary text place = is_delimiter (kind_of boundary (first_line (lines_of (drop place text))))
+
+-- two dashes and the boundary stand at the front of a text
+abbrev pub may_delimit : List ℕ → List ℕ → Bool
+may_delimit boundary text = is_some (behind_text (codes "--") text >>= behind_text boundary)

@@ -8,7 +8,7 @@ ghost use Rattle.mime_tree.specs.Section.{plain_section};
 
 use crate::delimiter::LineKind;
 use crate::section::Section;
-use mail_base::{NoMemory, behind_line, first_line, without_line_end};
+use mail_base::{NoMemory, behind_line, behind_text, first_line, without_line_end};
 use std::alloc::Global;
 
 /// A section cut at its first delimiter line.
@@ -22,12 +22,32 @@ pub struct Cut<'a> {
     pub rest: Section<'a>,
 }
 
+// Whether two dashes and the boundary stand at the front of the text.
+fn may_delimit(boundary: &[u8], text: &[u8]) -> bool
+    ensures { result ≡ dashes.may_delimit boundary.now text.now }
+{
+    match behind_text(b"--", text) {
+        Some(tail) => behind_text(boundary, tail).is_some(),
+        None => false,
+    }
+}
+
+// Whether the first line of the text is a delimiter line. Most are of another boundary, and that is the faster test.
+fn begins_with_delimiter(boundary: &[u8], text: &[u8]) -> bool
+    ensures { result ≡ dashes.delimits_at boundary.now text.now 0 }
+{
+    if !may_delimit(boundary, text) {
+        return false;
+    }
+    LineKind::of_line(boundary, first_line(text)).is_delimiter()
+}
+
 // Whether the line that starts at a place of the text is a delimiter line.
 fn delimits_at(boundary: &[u8], text: &[u8], place: usize) -> bool
     ensures { result ≡ dashes.delimits_at boundary.now text.now place }
 {
     let (_, line_on) = text.split_at(place.min(text.len()));
-    LineKind::of_line(boundary, first_line(line_on)).is_delimiter()
+    begins_with_delimiter(boundary, line_on)
 }
 
 // Which of the places is that of the first delimiter line. The text starts at a place of its own.

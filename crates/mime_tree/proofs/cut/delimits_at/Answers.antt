@@ -1,14 +1,12 @@
 use Rattle.std.proofs.Common.{drop, ap, ◌∙◌}
-use Rattle.bstr.specs.Text.{lines_of}
-use Rattle.mail_base.specs.Lines.{first_line}
-use Rattle.mime_tree.specs.Delimiter.{is_delimiter, kind_of}
+use Rattle.mime_tree.specs.DashLines.{delimits_at}
 use Rattle.mime_tree.proofs.CutLemmas.{drop_min}
 use Rattle.mime_tree.proofs.cut.delimits_at.Goals as goal
 
 pub returns : goal.returns
 returns c =
-    c.is_delimiter.ensures
-    ∙ ap is_delimiter (c.of_line.ensures
-    ∙ ap (kind_of c.args.boundary.now) (c.first_line.ensures
-    ∙ ap (λ t. first_line (lines_of t)) (c.split_at.ensures.back ∙ ap (λ n. drop n c.args.text.now) c.min.ensures
-    ∙ drop_min c.args.place c.args.text.now)))
+    let boundary = c.args.boundary.now in
+    let text = c.args.text.now in
+    c.begins_with_delimiter.ensures
+    ∙ ap (λ t. delimits_at boundary t 0)
+    (c.split_at.ensures.back ∙ ap (λ n. drop n text) c.min.ensures ∙ drop_min c.args.place text)
