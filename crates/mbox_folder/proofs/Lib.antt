@@ -1,6 +1,6 @@
-pub mod Cutting
-pub mod Days
 mod Driving
 pub mod PostmarkLemmas
-pub mod Letters
 pub mod Reading
+pub mod RegionsLemmas
+pub mod StampLemmas
+pub mod StatusLemmas

@@ -1,5 +1,5 @@
 pub mod Stamp
-pub mod Place
-pub mod Told
+pub mod MessageCore
+pub mod Status
 pub mod FileSeen
 pub mod ListedFile

@@ -3,16 +3,16 @@
 
 mod driver;
 mod listing;
+mod message_core;
 mod postmark;
 mod read;
 mod regions;
 mod stamp;
 mod status;
-mod stripped;
 
 pub use driver::MboxDriver;
 pub use folder_core::{Region, Regions};
+pub use message_core::core_of;
 pub use postmark::read_postmark;
 pub use regions::{CutError, cut_regions};
 pub use status::read_status;
-pub use stripped::core_of;

@@ -6,10 +6,10 @@ ghost use Rattle.folder_core.specs.Reads.{count_refusal as count_refusal_lem, le
 ghost use Rattle.folder_core.specs.Reads.{most_letters};
 ghost use Rattle.mbox_folder.specs.ListedFile.{IsListedFile, IsUnlisted};
 
+use crate::message_core::core_of;
 use crate::postmark::read_postmark;
 use crate::regions::{CutError, cut_regions};
 use crate::status::read_status;
-use crate::stripped::core_of;
 use folder_core::{Archive, Letter, Listed, Listing, Region, ScanError};
 use mail_base::{Bytes, Id, NoMemory, first_line};
 use std::alloc::Global;

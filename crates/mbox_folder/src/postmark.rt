@@ -1,3 +1,5 @@
+//! Postmark lines (mbox(5)).
+
 ghost use Rattle.std.specs.Prelude.{◌≡◌, ◌<◌, IfSome, MatchOption, length};
 ghost use Rattle.folder_core.specs.Mbox as spec;
 
@@ -22,7 +24,7 @@ pub fn is_postmark(line: &[u8]) -> bool
     read_postmark(line).is_some()
 }
 
-/// What stands behind the first blank.
+// What stands behind the first blank.
 fn behind_blank(text: &[u8]) -> Option<&[u8]>
     ensures blank { MatchOption result (spec.stamp_behind text.now ≡ None)
         (λ rest. spec.stamp_behind text.now ≡ spec.first_some (spec.stamp rest.now) (spec.stamp_behind rest.now)) }
@@ -34,7 +36,7 @@ fn behind_blank(text: &[u8]) -> Option<&[u8]>
     }
 }
 
-/// The moment of a stamp that stands behind a blank at the end of the text.
+// The moment of a stamp that stands behind a blank at the end of the text.
 fn stamp_behind(text: &[u8]) -> Option<i64>
     ensures value { result ≡ spec.stamp_behind text.now }
     ensures range { IfSome result spec.IsClockMoment }

@@ -1,3 +1,5 @@
+//! The one read of a mailbox.
+
 ghost use Rattle.std.specs.Prelude.{◌≤◌, IfErr, IsErrOf};
 ghost use Rattle.std.specs.Str.{IsUtf8};
 ghost use Rattle.mail_base.specs.Faults.{Rose};
@@ -10,7 +12,7 @@ use folder_core::ScanError;
 use mail_base::Bytes;
 use std::alloc::Global;
 
-/// The most bytes of a mailbox.
+// The most bytes of a mailbox.
 const MOST_BYTES: u64 = 536_870_912;
 
 /// Reads the whole file at a path.

@@ -1,3 +1,5 @@
+//! How a file is cut into its messages (mbox(5)).
+
 ghost use Rattle.std.specs.Prelude.{◌≡◌, true, false, length, IfOk, IsOk, IsErrOf};
 ghost use Rattle.folder_core.specs.Mbox as spec;
 

@@ -1,3 +1,5 @@
+//! The time stamps of postmarks.
+
 ghost use Rattle.std.specs.Prelude.{◌≡◌, ◌<◌, ◌≤◌, pos, ◌+ℤ◌, ◌-ℤ◌, IfSome};
 ghost use Rattle.std.specs.Char.{is_ascii_alphabetic};
 ghost use Rattle.std.specs.List.{list_all};
@@ -7,7 +9,7 @@ ghost use Rattle.mbox_folder.specs.Stamp.{IsEnding, IsMidnight, IsMonth, IsOffse
 use jiff::civil::{Date, date};
 use mail_base::{behind_word, first_word};
 
-/// The last second that a clock gives.
+// The last second that a clock gives.
 const LAST_SECOND: i64 = 253_000_000_000;
 
 /// The moment of a time stamp as `Thu Jan  1 00:00:10 1970`, which has to be the whole text.
@@ -120,7 +122,7 @@ fn year_of(word: &[u8]) -> Option<u16>
     }
 }
 
-/// The seconds since midnight.
+// The seconds since midnight.
 fn clock_of(word: &[u8]) -> Option<u32>
     ensures clock { result ≡ spec.clock_of word.now }
     ensures bound { IfSome result (λ seconds. seconds < 86_400) }
@@ -159,7 +161,7 @@ fn is_zone_name(word: &[u8]) -> bool
     1 <= word.len() && word.len() <= 5 && are_letters(word)
 }
 
-/// Seconds east of Greenwich.
+// Seconds east of Greenwich.
 fn zone_of(word: &[u8]) -> Option<i32>
     ensures offset { result ≡ spec.zone_of word.now }
     ensures bound { IfSome result IsOffset }
@@ -188,7 +190,7 @@ fn offset_at(sign: u8, hours: u8, minutes: u8) -> Option<i32>
     }
 }
 
-/// The year and the offset of the zone, with which a stamp ends.
+// The year and the offset of the zone, with which a stamp ends.
 fn ending_of(text: &[u8]) -> Option<(u16, i32)>
     ensures ending { result ≡ spec.ending_of text.now }
     ensures bound { IfSome result IsEnding }
@@ -205,7 +207,7 @@ fn ending_of(text: &[u8]) -> Option<(u16, i32)>
     Some((year_of(first)?, zone_of(last)?))
 }
 
-/// The seconds from 1970 to the start of a day, if the calendar has it.
+// The seconds from 1970 to the start of a day, if the calendar has it.
 fn midnight(year: u16, month: u8, day: u8) -> Option<i64>
     requires year { year ≤ 9999 }
     requires month { IsMonth month }
@@ -219,7 +221,7 @@ fn midnight(year: u16, month: u8, day: u8) -> Option<i64>
     Some(day.duration_since(date(1970, 1, 1)).as_secs())
 }
 
-/// The moment of a time of day, in seconds since midnight, on a day of the calendar.
+// The moment of a time of day, in seconds since midnight, on a day of the calendar.
 fn moment_of(month: u8, day: u8, clock: u32, ending: (u16, i32)) -> Option<i64>
     requires month { IsMonth month }
     requires day { day < 100 }
@@ -233,7 +235,7 @@ fn moment_of(month: u8, day: u8, clock: u32, ending: (u16, i32)) -> Option<i64>
     Some(moment_at(start, clock, offset))
 }
 
-/// The moment at a time of day, brought into the range of a clock.
+// The moment at a time of day, brought into the range of a clock.
 fn moment_at(start: i64, clock: u32, offset: i32) -> i64
     requires start { IsMidnight start }
     requires clock { clock < 86_400 }

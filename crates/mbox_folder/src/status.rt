@@ -1,14 +1,16 @@
+//! The flags that the status fields of a message tell.
+
 ghost use Rattle.std.specs.Prelude.{◌≡◌, [], ◌∷◌, ◌&&◌, ◌||◌, List, ℕ, codes};
 ghost use Rattle.std.specs.Str.{str_eq_ignore_ascii_case};
 ghost use Rattle.bstr.specs.Text.{lines_of};
 ghost use Rattle.mail_base.specs.Lines.{behind_first, fields_of, header_block};
 ghost use Rattle.folder_core.specs.Mbox as spec;
-ghost use Rattle.mbox_folder.specs.Told.{has, told_by};
+ghost use Rattle.mbox_folder.specs.Status.{has, told_by};
 
 use bstr::ByteSlice;
 use mail_base::{Flags, Kind, colon_of, is_continuation, is_empty_line, is_same_name};
 
-/// A field, as far as it holds flags.
+// A field, as far as it holds flags.
 #[derive(Clone, Copy)]
 enum StatusField {
     Status,
@@ -17,7 +19,7 @@ enum StatusField {
 }
 
 impl StatusField {
-    ghost use Rattle.mbox_folder.specs.Told.{is_status, is_x_status};
+    ghost use Rattle.mbox_folder.specs.Status.{is_status, is_x_status};
 
     fn named(name: &[u8]) -> Self
         ensures status { is_status result ≡ str_eq_ignore_ascii_case name.now (codes "Status") }
@@ -33,7 +35,7 @@ impl StatusField {
     }
 }
 
-/// The flags that lines of a header block told, and the field that the next line may continue.
+// The flags that lines of a header block told, and the field that the next line may continue.
 #[derive(Clone, Copy)]
 struct Told {
     field: StatusField,
@@ -54,9 +56,9 @@ impl Told {
         },
     };
 
-    ghost use Rattle.mbox_folder.specs.Told.{is_status, is_x_status};
+    ghost use Rattle.mbox_folder.specs.Status.{is_status, is_x_status};
 
-    /// What is told with a further line of the block.
+    // What is told with a further line of the block.
     fn with_line(self, line: &[u8]) -> Told
         ensures { (lines : List (List ℕ)) → told_by result lines ≡ told_by self (line.now ∷ lines) }
     {
@@ -67,7 +69,7 @@ impl Told {
         }
     }
 
-    /// What is told with more text of that field.
+    // What is told with more text of that field.
     fn with_text(self, field: StatusField, text: &[u8]) -> Told
         ensures field { result.field ≡ field }
         ensures flags { result.flags ≡ record self.flags {
@@ -99,7 +101,7 @@ fn holds(text: &[u8], letter: u8) -> bool
     text.iter().any(|b| *b == letter)
 }
 
-/// What the header block tells that stands behind the first line.
+// What the header block tells that stands behind the first line.
 fn read_block(region: &[u8]) -> Told
     ensures { told_by result [] ≡ spec.told_flags (fields_of (header_block (behind_first (lines_of region.now)))) }
 {

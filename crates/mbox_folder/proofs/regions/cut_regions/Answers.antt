@@ -2,7 +2,7 @@ use Rattle.std.proofs.Common.{ℕ, List, ◌++◌, ap, sym, ◌∙◌}
 use Rattle.folder_core.specs.declared.region.Region.{Region}
 use Rattle.folder_core.specs.Mbox.{messages, spans}
 use Rattle.folder_core.proofs.Messages.{Cover-same, length-lines}
-use Rattle.mbox_folder.proofs.Cutting.{opened, opened-regions}
+use Rattle.mbox_folder.proofs.RegionsLemmas.{opened, opened-regions}
 use Rattle.mbox_folder.proofs.regions.cut_regions.Goals as goal
 
 pub returns-in_default-clause-cover : goal.returns-in_default-clause-cover

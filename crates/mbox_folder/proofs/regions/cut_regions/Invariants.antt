@@ -1,7 +1,7 @@
 use Rattle.std.proofs.Common.{◌≡◌, ◌+◌, ◌++◌, length}
 use Rattle.std.specs.List.{concat}
 use Rattle.folder_core.specs.Mbox.{regions}
-use Rattle.mbox_folder.proofs.Cutting.{opened}
+use Rattle.mbox_folder.proofs.RegionsLemmas.{opened}
 use Rattle.mbox_folder.proofs.regions.cut_regions.Given as goal
 
 abbrev pub invariant-loop-line : goal.invariant-loop-line

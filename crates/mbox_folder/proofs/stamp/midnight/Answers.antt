@@ -2,7 +2,7 @@ use Rattle.std.proofs.Common.{◌≡◌, ℤ, pos, ◌*ℤ◌, Some, ap, ◌∙�
 use Rattle.std.proofs.lemmas.Int.{ints}
 use Rattle.jiff_core.specs.Date.{epoch_day, IsYmd}
 use Rattle.jiff_core.proofs.DateLemmas.{epoch_day_range}
-use Rattle.mbox_folder.proofs.Days.{midnight-date, seconds_of_days, unix_day}
+use Rattle.mbox_folder.proofs.StampLemmas.{midnight-date, seconds_of_days, unix_day}
 use Rattle.mbox_folder.proofs.stamp.midnight.Goals as goal
 
 pub returns-clause-start : goal.returns-clause-start

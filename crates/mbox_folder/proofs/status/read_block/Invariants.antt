@@ -2,7 +2,7 @@ use Rattle.std.proofs.Common.{◌≡◌}
 use Rattle.bstr.specs.Text.{lines_of}
 use Rattle.mail_base.specs.Lines.{behind_first, fields_of, header_block}
 use Rattle.folder_core.specs.Mbox.{told_flags}
-use Rattle.mbox_folder.specs.Told.{told_by}
+use Rattle.mbox_folder.specs.Status.{told_by}
 use Rattle.mbox_folder.proofs.status.read_block.Given as goal
 
 abbrev pub invariant-loop-line : goal.invariant-loop-line

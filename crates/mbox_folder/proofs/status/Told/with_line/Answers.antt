@@ -1,7 +1,7 @@
 use Rattle.std.proofs.Common.{◌≡◌, ◌+◌, ◌-◌, length, take, drop, sym, ◌∙◌, arith, take_all, length-drop}
 use Rattle.std.specs.Prelude.{codes}
-use Rattle.mbox_folder.specs.Told.{is_status, is_x_status}
-use Rattle.mbox_folder.proofs.Letters.{GoOn-field, GoOn-continued, told_by-line}
+use Rattle.mbox_folder.specs.Status.{is_status, is_x_status}
+use Rattle.mbox_folder.proofs.StatusLemmas.{GoOn-field, GoOn-continued, told_by-line}
 use Rattle.mbox_folder.proofs.status.Told.with_line.Goals as goal
 
 pub returns-in-Some : goal.returns-in-Some

@@ -2,7 +2,7 @@ use Rattle.std.proofs.Common.{◌≡◌, ◌==◌, ℕ, false, List, [], ◌∷�
 use Rattle.std.specs.Str.{bytes_eq}
 use Rattle.mail_base.specs.Lines.{is_empty_line}
 use Rattle.std.proofs.lemmas.Bool.Decides.{nat_tests}
-use Rattle.mbox_folder.proofs.stripped.is_empty_text.Goals as goal
+use Rattle.mbox_folder.proofs.message_core.is_empty_text.Goals as goal
 
 alone : (text : List ℕ) → (length text == 0) ≡ false → bytes_eq text (13 ∷ []) ≡ is_empty_line (text ++ 10 ∷ [])
 alone [] some = cc

@@ -1,8 +1,10 @@
+//! What stays of a message when its status changes.
+
 ghost use Rattle.std.specs.Prelude.{◌≡◌, [], ◌∷◌, ◌++◌, List, ℕ, IfOk, OnOk, if◌then◌else◌};
 ghost use Rattle.std.specs.List.{concat};
 ghost use Rattle.mail_base.specs.Lines as lines;
 ghost use Rattle.folder_core.specs.Mbox as spec;
-ghost use Rattle.mbox_folder.specs.Place.{kept_from};
+ghost use Rattle.mbox_folder.specs.MessageCore.{kept_from};
 
 use bstr::ByteSlice;
 use mail_base::{
@@ -10,9 +12,9 @@ use mail_base::{
 };
 use std::alloc::Global;
 
-/// Where a walk over the lines behind a postmark stands.
+// Where a walk over the lines behind a postmark stands.
 #[derive(Clone, Copy)]
-enum Place {
+enum Walk {
     /// In the header block, and the last field stays.
     Kept,
     /// In the header block, and the last field is dropped.
@@ -21,23 +23,23 @@ enum Place {
     Body,
 }
 
-impl Place {
-    /// Whether the line stays, and the place behind it.
-    fn past(self, line: &[u8]) -> (Place, bool)
+impl Walk {
+    // Whether the line stays, and where the walk stands behind it.
+    fn past(self, line: &[u8]) -> (Walk, bool)
         ensures { (lines : List (List ℕ)) → kept_from self (line.now ∷ lines)
             ≡ (if result.1 then line.now ∷ kept_from result.0 lines else kept_from result.0 lines) }
     {
         let dropped = match self {
-            Place::Body => return (Place::Body, true),
-            Place::Kept => false,
-            Place::Dropped => true,
+            Walk::Body => return (Walk::Body, true),
+            Walk::Kept => false,
+            Walk::Dropped => true,
         };
         if is_empty_line(line) {
-            return (Place::Body, true);
+            return (Walk::Body, true);
         }
         match colon_of(line) {
-            Some(at) if is_status_name(&line[..at]) => (Place::Dropped, false),
-            Some(_) => (Place::Kept, true),
+            Some(at) if is_status_name(&line[..at]) => (Walk::Dropped, false),
+            Some(_) => (Walk::Kept, true),
             None => (self, !(is_continuation(line) && dropped)),
         }
     }
@@ -62,10 +64,10 @@ pub fn core_of(alloc: Global, region: &[u8]) -> Result<Bytes, NoMemory>
         return Ok(core);
     };
     let mut last = first;
-    let mut place = Place::Kept;
+    let mut walk = Walk::Kept;
     for line in lines {
-        let (next, stays) = place.past(line);
-        place = next;
+        let (next, stays) = walk.past(line);
+        walk = next;
         if stays {
             core.append(last)?;
             last = line;
@@ -75,14 +77,14 @@ pub fn core_of(alloc: Global, region: &[u8]) -> Result<Bytes, NoMemory>
     Ok(core)
 }
 
-/// Whether the text and LF are an empty line.
+// Whether the text and LF are an empty line.
 fn is_empty_text(text: &[u8]) -> bool
     ensures { result ≡ lines.is_empty_line (text.now ++ 10 ∷ []) }
 {
     text.is_empty() || text == b"\r".as_slice()
 }
 
-/// Adds a last line with the LF that it may lack, or nothing where it is then empty.
+// Adds a last line with the LF that it may lack, or nothing where it is then empty.
 fn append_last(core: &mut Bytes, line: &[u8]) -> Result<(), NoMemory>
     ensures { OnOk result (core.new.items ≡ core.old.items ++ concat (spec.last_line line.now)) }
 {

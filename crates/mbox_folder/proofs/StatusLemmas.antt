@@ -13,7 +13,7 @@ use Rattle.mail_base.specs.Blanks.{is_blank, without_blanks}
 use Rattle.mail_base.specs.Lines.{is_continuation, colon_of, behind_colon, unfolded, more_text, continuations}
 use Rattle.mail_base.specs.Lines.{fields_of, PlainField}
 use Rattle.folder_core.specs.Mbox.{holds}
-use Rattle.mbox_folder.specs.Told.{has, lines_hold, told_by, is_status, is_x_status}
+use Rattle.mbox_folder.specs.Status.{has, lines_hold, told_by, is_status, is_x_status}
 use Rattle.mbox_folder.specs.declared.status.StatusField.{StatusField}
 use Rattle.mbox_folder.specs.declared.status.Told.{Told}
 

@@ -1,4 +1,4 @@
--- What the lines of a header block tell of a message's flags.
+-- What the lines of a header block tell of a message's flags. For the code alone: no public clause cites this.
 use Rattle.std.specs.Prelude.{◌==◌, ℕ, Bool, true, false, ◌&&◌, ◌||◌, List, codes}
 use Rattle.std.specs.List.{list_any}
 use Rattle.mail_base.specs.declared.flags.Flags.{Flags}
