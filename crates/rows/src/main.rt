@@ -7,9 +7,11 @@ mod cores;
 mod encoded_words;
 mod flags;
 mod lines;
+mod muttrc;
 mod parts;
 mod postmarks;
 mod regions;
+mod settings;
 mod status;
 mod whole_headers;
 
@@ -19,9 +21,11 @@ use crate::cores::Cores;
 use crate::encoded_words::EncodedWords;
 use crate::flags::FlagChanges;
 use crate::lines::LineForms;
+use crate::muttrc::MuttrcLines;
 use crate::parts::MessageParts;
 use crate::postmarks::Postmarks;
 use crate::regions::FileRegions;
+use crate::settings::SettingCommands;
 use crate::status::StatusFields;
 use crate::whole_headers::Headers;
 use case_files::{Report, play_file, print_report};
@@ -49,5 +53,7 @@ fn play_all(rt: &HostRuntime, report: &mut Report) -> Result<(), NoMemory> {
     play_file(rt, &People, "people", report)?;
     play_file(rt, &Headers, "headers", report)?;
     play_file(rt, &MessageParts, "parts", report)?;
-    play_file(rt, &Bodies, "bodies", report)
+    play_file(rt, &Bodies, "bodies", report)?;
+    play_file(rt, &MuttrcLines, "muttrc", report)?;
+    play_file(rt, &SettingCommands, "settings", report)
 }

@@ -1,0 +1,8 @@
+pub mod TableLemmas
+pub mod NumberLemmas
+pub mod SettingsLemmas
+pub mod RunLemmas
+pub mod SettingLaws
+pub mod PrintedText
+pub mod FitLemmas
+pub mod OwnRows

@@ -1,0 +1,12 @@
+pub mod Quads
+pub mod Numbers
+pub mod Rules
+pub mod Variables
+pub mod Values
+pub mod Requests
+pub mod Changes
+pub mod Fits
+pub mod Settings
+pub mod Expansion
+pub mod Commands
+pub mod Laws

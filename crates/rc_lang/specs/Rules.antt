@@ -1,0 +1,36 @@
+-- Which texts a variable takes.
+use Rattle.std.specs.Prelude.{ℕ, Bool, true, ◌&&◌, ◌||◌, ◌==◌, nat_eq, nat_lt, List, codes, drop}
+use Rattle.std.specs.Prelude.{length, if◌then◌else◌}
+use Rattle.std.specs.List.{list_all, starts_with}
+use Rattle.std.specs.Str.{bytes_eq}
+use Rattle.rc_lang.specs.declared.rule.Rule.{Rule}
+use Rattle.rc_lang.specs.declared.rule.Rule.TheVariants.{Any, FolderKind, SixAscii, Sort, SortAux}
+
+abbrev pub is_ascii_byte : ℕ → Bool
+is_ascii_byte b = nat_lt b 128
+
+-- the text without the front, where it begins with it
+abbrev pub behind_front : List ℕ → List ℕ → List ℕ
+behind_front front text = if starts_with nat_eq text front then drop (length front) text else text
+
+-- the kinds of folders by their names
+abbrev pub is_folder_kind : List ℕ → Bool
+is_folder_kind text =
+    bytes_eq text (codes "mbox") || bytes_eq text (codes "Maildir") || bytes_eq text (codes "MH")
+    || bytes_eq text (codes "MMDF")
+
+-- the orders of messages; `date` is another name of `date-sent`
+abbrev pub is_order : List ℕ → Bool
+is_order text =
+    bytes_eq text (codes "date") || bytes_eq text (codes "date-sent")
+    || bytes_eq text (codes "date-received") || bytes_eq text (codes "from")
+    || bytes_eq text (codes "mailbox-order") || bytes_eq text (codes "score")
+    || bytes_eq text (codes "size") || bytes_eq text (codes "subject")
+    || bytes_eq text (codes "threads") || bytes_eq text (codes "to")
+
+abbrev pub allows : Rule → List ℕ → Bool
+allows Any text = true
+allows FolderKind text = is_folder_kind text
+allows SixAscii text = length text == 6 && list_all is_ascii_byte text
+allows Sort text = is_order (behind_front (codes "reverse-") text)
+allows SortAux text = is_order (behind_front (codes "last-") (behind_front (codes "reverse-") text))

@@ -1,0 +1,4 @@
+pub mod ShownTextLemmas
+pub mod WordLemmas
+pub mod QuotingLemmas
+pub mod ReadBack

@@ -1,0 +1,5 @@
+pub mod Faults
+pub mod ShownText
+pub mod Signs
+pub mod Words
+pub mod Laws
