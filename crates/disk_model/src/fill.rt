@@ -1,3 +1,5 @@
+//! What an image holds where a stop leaves it open.
+
 /// What stands in an image where a stop leaves it open.
 #[derive(Clone, Copy, Debug, PartialEq, Eq)]
 pub enum Fill {
