@@ -1,45 +1,35 @@
 -- The laws of images.
-use Rattle.std.proofs.Common.{◌≡◌, ◌==◌, ◌<◌, ◌≤◌, ◌+◌, ◌⊎◌, ◌++◌, ◌∷◌, ◌∙◌, [], ℕ, zero, suc, Bool, true, false, List, Option}
-use Rattle.std.proofs.Common.{Some, None, length, map, min, max, take, slice_index, slice_set, if◌then◌else◌, refl, sym, ap}
-use Rattle.std.proofs.Common.{subst, arith, inl, inr}
+use Rattle.std.proofs.Common.{◌≡◌, ◌==◌, ◌<◌, ◌⊎◌, ◌++◌, ◌∷◌, ◌∙◌, [], ℕ, zero, suc, Bool, true, false, List, Option}
+use Rattle.std.proofs.Common.{Some, None, length, map, take, slice_index, slice_set, if◌then◌else◌, refl, ap}
+use Rattle.std.proofs.Common.{◌-◌, nat_lt, slice_index_or, subst, arith, inl, inr}
 use Rattle.disk_model.specs.Tree.{TreeNode}
 use Rattle.disk_model.specs.Journal.{Action, Appends, Puts, Renames, Removes, Writes, Call, ListDir, StatPath, ReadFront}
 use Rattle.disk_model.specs.Journal.{ReadAll, Create, WriteAt, Cut, Sync, Rename, Remove, SyncDir, MakeDir, Done, Refused}
-use Rattle.disk_model.specs.Journal.{Entry, Own, Others, Past}
+use Rattle.disk_model.specs.Journal.{Entry, Own, Others}
 use Rattle.disk_model.specs.State.{File, Name, Patch, State, after_action, after_done, after_entry, after_refused, appended, can_make}
-use Rattle.disk_model.specs.State.{can_take, changed, closed, cut_to, durable, file_at, files_of, first_files, is_file, moved}
-use Rattle.disk_model.specs.State.{name_at, node_of, opened, replaced, run_entries, settled, state_after, state_of, synced}
-use Rattle.disk_model.specs.State.{tree_after, tree_of, with_made, with_names, without, written, kept_within}
+use Rattle.disk_model.specs.State.{can_take, changed, cut_to, durable, file_at, files_of, first_files, is_file, moved}
+use Rattle.disk_model.specs.State.{name_at, node_of, replaced, run_entries, settled, state_after, state_of}
+use Rattle.disk_model.specs.State.{with_made, with_names, without, written}
 use Rattle.disk_model.specs.Images.{IsImage, IsLeft, IsLeftAt, IsOneOf, IsTreeOf, is_touched}
-use Rattle.disk_model.specs.Laws.{IsDurable, IsSynced, NowIsImage, OthersAreBarrier, RenameIsWhole, SyncDirIsBarrier}
-use Rattle.disk_model.specs.Laws.{SyncedStands, WrittenByOthersStands, unstamped}
+use Rattle.disk_model.proofs.LawsOfFills.{IsKept, filled_left, kept_appended, kept_cut, kept_durable, kept_written}
+use Rattle.disk_model.specs.Laws.{IsDurable, NowIsImage, OthersAreBarrier, RenameIsWhole, SyncDirIsBarrier}
+use Rattle.disk_model.specs.Laws.{ShownIsImage, SyncedStands, WrittenByOthersStands, unstamped}
+use Rattle.disk_model.specs.Fills.{filled, filled_at, filled_tree, names_after}
+use Rattle.disk_model.specs.declared.fill.Fill.{Fill}
+use borrow.Author.Tests.{ltb-true}
 
--- A file is as long as a stop may leave it.
-
-pub record IsWithin (file : File) : Type 0 where
-  pub no_shorter : file.least ≤ length file.bytes
-  pub no_longer : length file.bytes ≤ file.greatest
+-- Each file keeps what a stop surely leaves of it.
 
 abbrev AllWithin : List File → Type 0
 AllWithin [] = Unit {0}
-AllWithin (file ∷ files) = IsWithin file × AllWithin files
+AllWithin (file ∷ files) = IsKept file × AllWithin files
 
-within_durable : (bytes : List ℕ) (stamp : ℕ) → IsWithin (durable bytes stamp)
-within_durable bytes stamp = record { no_shorter = omega arith; no_longer = omega arith }
-
-within_opened : (bytes : List ℕ) (low high stamp : ℕ) (file : File) → IsWithin (opened bytes low high stamp file)
-within_opened bytes low high stamp file = record { no_shorter = omega arith; no_longer = omega arith }
-
-within_appended : (piece : List ℕ) (stamp : ℕ) (file : File) → IsWithin file → IsWithin (appended piece stamp file)
-within_appended [] stamp file h = record { no_shorter = h.no_shorter; no_longer = h.no_longer }
-within_appended (b ∷ piece) stamp file h = record { no_shorter = omega arith; no_longer = omega arith }
-
-file_within : (files : List File) (number : ℕ) → AllWithin files → IsWithin (file_at files number)
-file_within [] number h = within_durable [] 0
+file_within : (files : List File) (number : ℕ) → AllWithin files → IsKept (file_at files number)
+file_within [] number h = kept_durable [] 0
 file_within (file ∷ files) zero h = h.0
 file_within (file ∷ files) (suc number) h = file_within files number h.1
 
-set_within : (files : List File) (number : ℕ) (file : File) → AllWithin files → IsWithin file
+set_within : (files : List File) (number : ℕ) (file : File) → AllWithin files → IsKept file
     → AllWithin (slice_set files number file)
 set_within [] number file h new = tt
 set_within (f ∷ files) zero file h new = (new, h.1)
@@ -52,7 +42,7 @@ append_within (file ∷ files) more h m = (h.0, append_within files more h.1 m)
 -- Each entry keeps it.
 
 abbrev Keeps : (ℕ → File → File) → Type 0
-Keeps change = (stamp : ℕ) (file : File) → IsWithin file → IsWithin (change stamp file)
+Keeps change = (stamp : ℕ) (file : File) → IsKept file → IsKept (change stamp file)
 
 changed_within : (at : Option (Option ℕ)) (change : ℕ → File → File) (state : State) → Keeps change
     → AllWithin state.files → AllWithin (changed at change state).files
@@ -64,7 +54,7 @@ changed_within (Some (Some number)) change state keeps h =
 settled_within : (at : Option (Option ℕ)) (state : State) → AllWithin state.files → AllWithin (settled at state).files
 settled_within None state h = h
 settled_within (Some None) state h = h
-settled_within (Some (Some number)) state h = set_within state.files number _ h (within_durable _ _)
+settled_within (Some (Some number)) state h = set_within state.files number _ h (kept_durable _ _)
 
 moved_within : (at : Option (Option ℕ)) (from to : List ℕ) (state : State) → AllWithin state.files
     → AllWithin (moved at from to state).files
@@ -74,7 +64,7 @@ moved_within (Some (Some number)) from to state h = h
 
 made_within : (bytes : List ℕ) (state : State) → AllWithin state.files
     → AllWithin (state.files ++ durable bytes state.clock ∷ [])
-made_within bytes state h = append_within state.files _ h (within_durable bytes state.clock, tt)
+made_within bytes state h = append_within state.files _ h (kept_durable bytes state.clock, tt)
 
 done_within : (call : Call) (state : State) → AllWithin state.files → AllWithin (after_done call state).files
 done_within (ListDir dir) state h = h
@@ -83,9 +73,9 @@ done_within (ReadFront path size) state h = h
 done_within (ReadAll path limit) state h = h
 done_within (Create path) state h = made_within [] state h
 done_within (WriteAt path at piece) state h =
-    changed_within (name_at state.names path) (written at piece) state (λ stamp file w. within_opened _ _ _ stamp file) h
+    changed_within (name_at state.names path) (written at piece) state (kept_written at piece) h
 done_within (Cut path size) state h =
-    changed_within (name_at state.names path) (cut_to size) state (λ stamp file w. within_opened _ _ _ stamp file) h
+    changed_within (name_at state.names path) (cut_to size) state (kept_cut size) h
 done_within (Sync path) state h = settled_within (name_at state.names path) state h
 done_within (Rename from to) state h = moved_within (name_at state.names from) from to state h
 done_within (Remove path) state h = h
@@ -107,7 +97,7 @@ refused_within (Create path) wrote state h = h
 refused_within (WriteAt path at piece) wrote state h =
     if_within (wrote == 0) state (changed (name_at state.names path) (written at (take wrote piece)) state) h
     (changed_within (name_at state.names path) (written at (take wrote piece)) state
-    (λ stamp file w. within_opened _ _ _ stamp file) h)
+    (kept_written at (take wrote piece)) h)
 refused_within (Cut path size) wrote state h = h
 refused_within (Sync path) wrote state h = h
 refused_within (Rename from to) wrote state h = h
@@ -117,7 +107,7 @@ refused_within (MakeDir path) wrote state h = h
 
 action_within : (action : Action) (state : State) → AllWithin state.files → AllWithin (after_action action state).files
 action_within (Appends path piece) state h =
-    changed_within (name_at state.names path) (appended piece) state (λ stamp file w. within_appended piece stamp file w) h
+    changed_within (name_at state.names path) (appended piece) state (kept_appended piece) h
 action_within (Puts path bytes) state h =
     if_within (can_make state.names path) (with_made path bytes state) state (made_within bytes state h) h
 action_within (Renames from to) state h =
@@ -126,7 +116,7 @@ action_within (Renames from to) state h =
 action_within (Removes path) state h =
     if_within (is_file (name_at state.names path)) (with_names (without path state.names) state) state h h
 action_within (Writes path bytes) state h =
-    changed_within (name_at state.names path) (replaced bytes) state (λ stamp file w. within_durable bytes stamp) h
+    changed_within (name_at state.names path) (replaced bytes) state (λ stamp file w. kept_durable bytes stamp) h
 
 entry_within : (entry : Entry) (state : State) → AllWithin state.files → AllWithin (after_entry state entry).files
 entry_within (Own call Done) state h = done_within call state h
@@ -139,7 +129,7 @@ run_within (entry ∷ entries) state h = run_within entries (after_entry state e
 
 node_within : (bytes : Option (List ℕ)) (stamp : ℕ) → AllWithin (files_of bytes stamp)
 node_within None stamp = tt
-node_within (Some bytes) stamp = (within_durable bytes stamp, tt)
+node_within (Some bytes) stamp = (kept_durable bytes stamp, tt)
 
 first_within : (tree : List TreeNode) → AllWithin (first_files tree)
 first_within [] = tt
@@ -149,8 +139,8 @@ first_within (node ∷ tree) =
 
 -- The tree now is an image.
 
-left_now : (file : File) → IsWithin file → IsLeft file file.bytes
-left_now file h = record { no_shorter = h.no_shorter; no_longer = h.no_longer; untouched = λ place there free. refl }
+left_now : (file : File) → IsKept file → IsLeft file file.bytes
+left_now file h = record { no_shorter = h.above; no_longer = h.bytes; untouched = λ place there free. refl }
 
 node_left : (files : List File) (path : List ℕ) (file : Option ℕ) → AllWithin files
     → ((node_of files path file).path ≡ path) × IsLeftAt files file (node_of files path file).bytes
@@ -170,6 +160,41 @@ now_is_image past = record {
   stand = inl refl;
   contents =
       tree_left (state_after past).files (state_after past).names
+      (run_within past.journal (state_of past.first) (first_within past.first));
+}
+
+-- What is shown is an image.
+
+shown_node : (fill : Fill) (files : List File) (file : Option ℕ) → AllWithin files
+    → IsLeftAt files file (filled_at fill files file)
+shown_node fill files None h = refl
+shown_node fill files (Some number) h =
+    (filled fill (file_at files number), refl, filled_left fill (file_at files number) (file_within files number h))
+
+shown_tree : (fill : Fill) (files : List File) (names : List Name) → AllWithin files
+    → IsTreeOf files names (filled_tree fill files names)
+shown_tree fill files [] h = tt
+shown_tree fill files (name ∷ names) h = (refl, shown_node fill files name.file h, shown_tree fill files names h)
+
+row_of : (rows : List (List Name)) (place : ℕ) → place < length rows → IsOneOf (slice_index_or rows place []) rows
+row_of [] place there = absurd (omega arith)
+row_of (row ∷ rows) zero there = inl refl
+row_of (row ∷ rows) (suc place) there = inr (row_of rows place (omega arith))
+
+stands_if : (state : State) (count : ℕ) (b : Bool) → nat_lt count (length state.earlier) ≡ b
+    → IsOneOf (if b then slice_index_or state.earlier (length state.earlier - 1 - count) [] else state.names)
+    (state.names ∷ state.earlier)
+stands_if state count true is =
+    let some : count < length state.earlier = ltb-true count (length state.earlier) is in
+    inr (row_of state.earlier (length state.earlier - 1 - count) (omega (arith, some)))
+stands_if state count false is = inl refl
+
+pub shown_is_image : ShownIsImage
+shown_is_image past count fill = record {
+  names = names_after (state_after past) count;
+  stand = stands_if (state_after past) count (nat_lt count (length (state_after past).earlier)) refl;
+  contents =
+      shown_tree fill (state_after past).files (names_after (state_after past) count)
       (run_within past.journal (state_of past.first) (first_within past.first));
 }
 

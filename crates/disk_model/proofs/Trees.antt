@@ -15,7 +15,7 @@ abbrev pub node_by : List File → List ℕ → Option (Option ℕ) → Option T
 node_by files path None = None
 node_by files path (Some file) = Some (node_of files path file)
 
-path-node_of : (files : List File) (path : List ℕ) (file : Option ℕ) → (node_of files path file).path ≡ path
+pub path-node_of : (files : List File) (path : List ℕ) (file : Option ℕ) → (node_of files path file).path ≡ path
 path-node_of files path None = refl
 path-node_of files path (Some number) = refl
 
@@ -28,7 +28,7 @@ name_found files name path true found rest is same =
     ap (λ (p : List ℕ). Some (node_of files p name.file)) (bytes_same name.path path is)
 name_found files name path false found rest is same = same
 
-node_in-names : (files : List File) (names : List Name) (path : List ℕ)
+pub node_in-names : (files : List File) (names : List Name) (path : List ℕ)
     → node_in (map (λ (name : Name). node_of files name.path name.file) names) path
     ≡ node_by files path (name_in names path)
 node_in-names files [] path = refl

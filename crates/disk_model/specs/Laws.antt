@@ -1,9 +1,12 @@
 -- Laws of pasts and of what a stop leaves of them.
-use Rattle.std.specs.Prelude.{◌≡◌, ◌⊎◌, ℕ, List, [], ◌∷◌, Option, Some, None, length, map}
-use Rattle.disk_model.specs.Tree.{TreeNode}
+use Rattle.std.specs.Prelude.{true, ◌≡◌, ◌⊎◌, ℕ, List, [], length, map}
+use Rattle.disk_model.specs.Tree.{TreeNode, is_tree}
 use Rattle.disk_model.specs.Journal.{Action, Rename, SyncDir, Done, Own, Others, Past}
-use Rattle.disk_model.specs.State.{File, Name, State, after_entry, file_at, replaced, state_after, tree_after, tree_of}
+use Rattle.disk_model.specs.State.{File, State, after_entry, file_at, replaced, state_after, tree_after, tree_at, tree_of}
+use Rattle.disk_model.specs.Lawful.{IsLawful}
 use Rattle.disk_model.specs.Images.{IsImage, IsLeft, IsTreeOf}
+use Rattle.disk_model.specs.Fills.{image_of}
+use Rattle.disk_model.specs.declared.fill.Fill.{Fill}
 
 -- the tree now is an image
 abbrev pub NowIsImage : Type 0
@@ -50,3 +53,11 @@ SyncDirIsBarrier = (state : State) (dir : List ℕ) (tree : List TreeNode)
 abbrev pub WrittenByOthersStands : Type 0
 WrittenByOthersStands = (file : File) (bytes left : List ℕ) (stamp : ℕ) → IsLeft (replaced bytes stamp file) left
     → left ≡ bytes
+
+-- at each mark of a lawful past the nodes are those of a tree
+abbrev pub EachMarkHasATree : Type 0
+EachMarkHasATree = (past : Past) (marks mark : ℕ) → IsLawful marks past → is_tree (tree_at past mark) ≡ true
+
+-- what a disk shows as an image is one
+abbrev pub ShownIsImage : Type 0
+ShownIsImage = (past : Past) (count : ℕ) (fill : Fill) → IsImage (state_after past) (image_of (state_after past) count fill)

@@ -2,9 +2,19 @@
 
 ghost use Rattle.disk_model.specs.Laws as spec;
 
+/// At each mark of a lawful past the nodes are those of a tree.
+pub fn each_mark_has_a_tree()
+    ensures { spec.EachMarkHasATree }
+{}
+
 /// The tree now is an image: a stop may lose nothing.
 pub fn a_stop_may_lose_nothing()
     ensures { spec.NowIsImage }
+{}
+
+/// What a disk shows as an image is one.
+pub fn what_is_shown_is_an_image()
+    ensures { spec.ShownIsImage }
 {}
 
 /// Where all names and all files are on the disk, the only image is the tree now, but for stamps.
