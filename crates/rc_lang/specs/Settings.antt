@@ -110,6 +110,7 @@ pub record TakesFront (old : List PlainValue) (words : List (List ℕ))
   pub whole : words ≡ front ++ rest
   pub taken : outcome old front ≡ record { values = new; answer = Ok shown }
 
+-- words without their rooms
 abbrev pub plain_names : List (Held ℕ) → List (List ℕ)
 plain_names names = map (λ name. name.items) names
 

@@ -1,8 +1,9 @@
 //! Words with the values of their variables.
 
 ghost use Rattle.std.specs.Prelude.{map};
+ghost use Rattle.mail_base.specs.Series.{plain_texts};
 ghost use Rattle.rc_lang.specs.Expansion as spec;
-ghost use Rattle.rc_lang.specs.Settings.{Answers, plain_names, queried_value};
+ghost use Rattle.rc_lang.specs.Settings.{Answers, queried_value};
 ghost use Rattle.rc_lang_words.specs.Words.{plain_piece, plain_words};
 
 use crate::settings::Settings;
@@ -14,7 +15,7 @@ impl Settings {
     /// The words with the value of each variable in its place. They are together no longer than the
     /// texts of the parts and, for each variable among these, the longest value of a variable.
     pub fn expand(&self, alloc: Global, words: &RcWords) -> Result<Words, RcError>
-        ensures { Answers (λ w. plain_names w.items) result
+        ensures { Answers plain_texts result
             (spec.expanded_words self.now (plain_words words.now)) }
     {
         let mut expanded = Words::new(alloc);

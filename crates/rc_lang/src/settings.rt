@@ -1,6 +1,7 @@
 //! The values of the variables, and the commands that change them.
 
 ghost use Rattle.std.specs.Prelude.{◌≡◌, ◌⊎◌, Some, true, option_map, IfOk, IfErr};
+ghost use Rattle.mail_base.specs.Series.{plain_texts};
 ghost use Rattle.rc_lang.specs.Requests.{bare_name, plain_request, request_of};
 ghost use Rattle.rc_lang.specs.Settings as spec;
 ghost use Rattle.rc_lang.specs.Fits as fit;
@@ -156,11 +157,11 @@ impl Settings {
     /// words are no command.
     pub fn apply(&mut self, words: &Words) -> Result<Option<Line>, RcError>
         ensures answer { spec.Answers spec.plain_shown result
-            (spec.outcome self.old (spec.plain_names words.now.items)).answer }
+            (spec.outcome self.old (plain_texts words.now)).answer }
         ensures settings { spec.IsWant result
-            ⊎ (self.new ≡ (spec.outcome self.old (spec.plain_names words.now.items)).values) }
+            ⊎ (self.new ≡ (spec.outcome self.old (plain_texts words.now)).values) }
         ensures kept { IfErr result
-            (λ e. spec.TakesFront self.old (spec.plain_names words.now.items) self.new) }
+            (λ e. spec.TakesFront self.old (plain_texts words.now) self.new) }
     {
         let Some((first, rest)) = words.as_slice().split_first() else {
             return Ok(None);
