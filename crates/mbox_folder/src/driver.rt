@@ -1,3 +1,5 @@
+//! The driver of mailboxes in one file.
+
 ghost use Rattle.std.specs.Prelude.{◌≡◌, ◌≤◌, ◌<◌, ◌+◌, ◌∷◌, [], length, map, take, IfOk, IfErr, OnErr, IsErrOf};
 ghost use Rattle.mail_base.specs.Faults.{Rose};
 ghost use Rattle.mail_base.specs.declared.kind.Kind.TheVariants.{Mbox};

@@ -1,3 +1,5 @@
+//! The letters of a mailbox, and their listing.
+
 ghost use Rattle.std.specs.Prelude.{◌≡◌, ◌≤◌, ◌+◌, ◌++◌, ◌^◌, ◌<◌, length, map, take, IfOk, IfErr};
 ghost use Rattle.folder_core.specs.Letters.{plain_letter};
 ghost use Rattle.folder_core.specs.Mbox.{IsClockMoment, raw_messages, received as received_lem, regions as regions_lem};
