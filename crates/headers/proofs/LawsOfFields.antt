@@ -8,8 +8,7 @@ use Rattle.std.proofs.lemmas.Bool.{and_parts, and_from, and_right, not-true}
 use Rattle.std.proofs.lemmas.Bool.Decides.{nat_tests}
 use Rattle.std.proofs.lemmas.List.Folds.{list_all-append}
 use Rattle.std.proofs.lemmas.List.{append-nil, take_at, drop_at, get_or_at, get_or_push}
-use Rattle.bstr.specs.Text.{line_len, lines_of, no_cr, without_terminator}
-use Rattle.bstr.proofs.lemmas.LineLemmas.{lines-step}
+use Rattle.bstr.specs.Text.{lines_of, no_cr, without_terminator}
 use Rattle.mail_base.specs.Lines.{PlainField, is_empty_line, is_continuation, is_name_byte, is_field, colon_at}
 use Rattle.mail_base.specs.Lines.{colon_of, name_of, behind_colon, header_block, continuations, unfolded}
 use Rattle.mail_base.specs.Lines.{fields_of}

@@ -11,7 +11,7 @@ use Rattle.std.proofs.lemmas.Bool.Decides.{nat_tests}
 use Rattle.std.proofs.lemmas.List.{append-nil, map-append, reverse-append, take_all, take_at}
 use Rattle.std.proofs.lemmas.List.Elements.{filter-append}
 use Rattle.std.proofs.lemmas.List.Folds.{list_all-append}
-use Rattle.mail_base.specs.Blanks.{is_blank, trimmed, without_blanks, without_last_blanks}
+use Rattle.mail_base.specs.Blanks.{is_blank, trimmed, without_last_blanks}
 use Rattle.mail_base.specs.Lines.{is_continuation}
 use Rattle.mail_base.proofs.BlanksLemmas.{without_blanks_stay}
 use Rattle.mail_base.proofs.RoundPlaces.{split_front, before_last_at, after_last_at, after_last_absent}
@@ -29,8 +29,8 @@ use Rattle.headers.specs.Decode.{decoded_words}
 use Rattle.headers.specs.People.{PlainBrackets, brackets_of, first_comment, shown_name, person_of, person_in, people}
 use Rattle.headers.specs.Person.{PlainPerson}
 use Rattle.headers.specs.Laws.{is_plain_byte, is_trimmed, is_plain, is_plain_person, written_person, has_mark}
-use Rattle.headers.specs.Laws.{WrittenPeopleAreRead, escaped, is_quotable_person, written_quoted, QuotedPhraseIsRead}
-use Rattle.headers.specs.Laws.{written_group, GroupIsRead, written_commented, CommentIsTheName}
+use Rattle.headers.specs.Laws.{WrittenPeopleAreRead, escaped, written_quoted, QuotedPhraseIsRead}
+use Rattle.headers.specs.Laws.{GroupIsRead, written_commented, CommentIsTheName}
 use Rattle.headers.proofs.LawsOfText.{plain_text_stays, shown_utf8}
 
 -- bytes that are text

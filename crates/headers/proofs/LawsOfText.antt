@@ -1,16 +1,13 @@
 -- Text without encoded words, and UTF-8, show as they are.
-use Rattle.std.proofs.Common.{◌≡◌, ℕ, ◌<◌, ◌==◌, ◌&&◌, ◌||◌, Bool, true, false, List, [], ◌∷◌, ◌++◌, length, drop}
-use Rattle.std.proofs.Common.{Option, Some, None, option_map, refl, sym, ap, ◌∙◌, arith, length-append}
-use Rattle.std.specs.Prelude.{is_some, encode_utf8}
-use Rattle.std.specs.Str.{IsUtf8, encode_utf8_all}
-use Rattle.std.proofs.lemmas.Str.{IsUtf8-from_is_utf8, length-encode, len_utf8_bounds}
+use Rattle.std.proofs.Common.{◌≡◌, ℕ, ◌==◌, ◌&&◌, Bool, true, false, List, [], ◌∷◌, ◌++◌, length}
+use Rattle.std.proofs.Common.{Option, Some, None, option_map, refl, sym, ap, ◌∙◌}
+use Rattle.std.specs.Prelude.{is_some}
+use Rattle.std.specs.Str.{IsUtf8}
+use Rattle.std.proofs.lemmas.Str.{IsUtf8-from_is_utf8}
 use Rattle.std.proofs.lemmas.List.{append-nil}
-use Rattle.std.proofs.lemmas.Bool.{and_parts, or_parts}
-use lib.Utf8.{scalar, scalars}
-use Rattle.bstr.specs.Utf8.{Decoded, decoded, good}
-use Rattle.bstr.proofs.lemmas.EncodeLemmas.{decoded-encode}
+use Rattle.std.proofs.lemmas.Bool.{or_parts}
 use Rattle.mail_base.specs.Fronts.{behind}
-use Rattle.headers.specs.Charset.{shown, utf8_text}
+use Rattle.headers.specs.Charset.{utf8_text}
 use Rattle.headers.specs.Decode.{first_word, found_at, with_text}
 use Rattle.headers.specs.EncodedWord.{encoded_word, written_word}
 use Rattle.headers.specs.Laws.{has_mark, PlainTextStays, Utf8Stays}

@@ -63,8 +63,8 @@ fn add_last(alloc: Global, names: &mut Names, references: &[Bytes]) -> Result<()
     Ok(())
 }
 
-/// The ids of the messages that this one may answer, the most likely first: the first id of In-Reply-To, then the last
-/// 64 of References (RFC 5322, section 3.6.4).
+/// The ids of the messages that this one may answer, the most likely first: the first id of
+/// In-Reply-To, then the last 64 of References (RFC 5322, section 3.6.4).
 pub fn candidates_of(alloc: Global, fields: &[Field]) -> Result<Names, NoMemory>
     ensures { IfOk result (λ n. plain_texts n ≡ spec.candidates (map plain_field fields.now)) }
 {

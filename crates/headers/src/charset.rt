@@ -8,7 +8,8 @@ use bstr::ByteSlice;
 use mail_base::{Line, NoMemory, is_same_name};
 use std::alloc::Global;
 
-/// A charset that is shown (RFC 2047, section 2); the bytes past ASCII of all others are marked, as those of US-ASCII.
+/// A charset that is shown (RFC 2047, section 2); the bytes past ASCII of all others are marked, as
+/// those of US-ASCII.
 #[derive(Clone, Copy, Debug, PartialEq, Eq)]
 pub enum Charset {
     Ascii,
@@ -39,7 +40,8 @@ impl Charset {
         Ok(line)
     }
 
-    // Adds the bytes at the end of the line, as UTF-8. For want of memory their front may stand there.
+    // Adds the bytes at the end of the line, as UTF-8. For want of memory their front may stand
+    // there.
     pub(crate) fn append_to(self, line: &mut Line, bytes: &[u8]) -> Result<(), NoMemory>
         ensures { OnOk result (line.new.items ≡ line.old.items ++ spec.text_in self bytes.now) }
     {
@@ -78,7 +80,8 @@ fn split_at_high(bytes: &[u8]) -> (&[u8], &[u8])
     }
 }
 
-// The front of the bytes that is ASCII, and what follows it. Most lines are ASCII, and that is the faster test.
+// The front of the bytes that is ASCII, and what follows it. Most lines are ASCII, and that is the
+// faster test.
 fn split_ascii(bytes: &[u8]) -> (&[u8], &[u8])
     ensures whole { bytes.now ≡ result.0.now ++ result.1.now }
     ensures ascii { IsAscii result.0.now }
@@ -125,8 +128,8 @@ fn append_latin1(line: &mut Line, bytes: &[u8]) -> Result<(), NoMemory>
     Ok(())
 }
 
-// Adds UTF-8 at the end of the line, with a `?` in place of each malformed byte. For want of memory its front may
-// stand there.
+// Adds UTF-8 at the end of the line, with a `?` in place of each malformed byte. For want of memory
+// its front may stand there.
 pub(crate) fn append_utf8(line: &mut Line, bytes: &[u8]) -> Result<(), NoMemory>
     ensures { OnOk result (line.new.items ≡ line.old.items ++ spec.utf8_text bytes.now) }
 {

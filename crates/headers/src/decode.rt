@@ -29,8 +29,10 @@ fn equals_at(text: &[u8]) -> Option<usize>
 
 impl<'a> FoundWord<'a> {
     fn find(alloc: Global, text: &'a [u8]) -> Result<Option<FoundWord<'a>>, NoMemory>
-        ensures value { IfOk result (λ o. option_map spec.plain_found_word o ≡ spec.first_word text.now) }
-        ensures shorter { IfOk result (λ o. IfSome o (λ f. length f.word.rest.now < length text.now)) }
+        ensures value { IfOk result
+            (λ o. option_map spec.plain_found_word o ≡ spec.first_word text.now) }
+        ensures shorter { IfOk result
+            (λ o. IfSome o (λ f. length f.word.rest.now < length text.now)) }
     {
         let mut at = 0;
         while let Some(step) = equals_at(&text[at..]) {
@@ -44,9 +46,11 @@ impl<'a> FoundWord<'a> {
     }
 }
 
-// Adds the text before an encoded word. White space between two of them is dropped (RFC 2047, section 6.2).
+// Adds the text before an encoded word. White space between two of them is dropped (RFC 2047,
+// section 6.2).
 fn append_before(line: &mut Line, after_word: bool, text: &[u8]) -> Result<(), NoMemory>
-    ensures { OnOk result (line.new.items ≡ line.old.items ++ spec.text_before after_word text.now) }
+    ensures { OnOk result (line.new.items
+        ≡ line.old.items ++ spec.text_before after_word text.now) }
 {
     if after_word && is_all_blank(text) {
         return Ok(());

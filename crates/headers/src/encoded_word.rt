@@ -50,7 +50,8 @@ fn word_len(text: &[u8]) -> usize
 
 // What stands behind the name of the charset: the encoding and the text.
 fn read_behind<'a>(charset: &'a [u8], text: &'a [u8]) -> Option<WrittenWord<'a>>
-    ensures value { option_map spec.plain_written_word result ≡ spec.written_behind charset.now text.now }
+    ensures value { option_map spec.plain_written_word result
+        ≡ spec.written_behind charset.now text.now }
     ensures shorter { IfSome result (λ w. length w.rest.now < length text.now) }
 {
     let text = behind(b'?', text)?;
@@ -85,7 +86,8 @@ impl<'a> WrittenWord<'a> {
 impl<'a> DecodedWord<'a> {
     /// The encoded word with which the text begins. One that is malformed is none.
     pub fn read(alloc: Global, text: &'a [u8]) -> Result<Option<DecodedWord<'a>>, NoMemory>
-        ensures value { IfOk result (λ o. option_map spec.plain_decoded_word o ≡ spec.encoded_word text.now) }
+        ensures value { IfOk result
+            (λ o. option_map spec.plain_decoded_word o ≡ spec.encoded_word text.now) }
         ensures shorter { IfOk result (λ o. IfSome o (λ w. length w.rest.now < length text.now)) }
     {
         let Some(word) = WrittenWord::read(text) else {

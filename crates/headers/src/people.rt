@@ -147,7 +147,8 @@ fn without_quotes(alloc: Global, bytes: &[AddressByte]) -> Result<Vec<AddressByt
 
 impl Brackets<'_> {
     fn to_person(self, alloc: Global) -> Result<Person, NoMemory>
-        ensures { IfOk result (λ p. plain_person p ≡ spec.bracketed (spec.plain_brackets self.entry)) }
+        ensures { IfOk result
+            (λ p. plain_person p ≡ spec.bracketed (spec.plain_brackets self.entry)) }
     {
         let mut rest = self.before.to_vec(alloc)?;
         rest.extend_from_slice(self.behind)?;
@@ -170,7 +171,8 @@ fn unbracketed(alloc: Global, bytes: &[AddressByte]) -> Result<Person, NoMemory>
 }
 
 fn person_of(alloc: Global, bytes: &[AddressByte]) -> Result<Person, NoMemory>
-    ensures { IfOk result (λ p. plain_person p ≡ spec.person_of bytes.now (spec.brackets_of bytes.now)) }
+    ensures { IfOk result
+        (λ p. plain_person p ≡ spec.person_of bytes.now (spec.brackets_of bytes.now)) }
 {
     match Brackets::read(bytes) {
         Some(form) => form.to_person(alloc),
@@ -197,7 +199,8 @@ fn add_person(alloc: Global, persons: &mut Persons, piece: &[AddressByte]) -> Re
 
 /// Adds the persons of an address field at the end of the list.
 pub fn add_people(alloc: Global, persons: &mut Persons, value: &[u8]) -> Result<(), NoMemory>
-    ensures { OnOk result (plain_persons persons.new ≡ plain_persons persons.old ++ spec.people value.now) }
+    ensures { OnOk result (plain_persons persons.new
+        ≡ plain_persons persons.old ++ spec.people value.now) }
 {
     let bytes = read_address_bytes(alloc, value)?;
     let mut left = bytes.as_slice();

@@ -5,7 +5,8 @@ ghost use Rattle.std.specs.Prelude.{◌≡◌};
 use jiff::Timestamp;
 use jiff::fmt::rfc2822::DateTimeParser;
 
-/// When a message was sent: seconds since 1970 in UTC, and the offset of the sender's clock in seconds.
+/// When a message was sent: seconds since 1970 in UTC, and the offset of the sender's clock in
+/// seconds.
 #[derive(Clone, Copy, Debug, PartialEq, Eq)]
 pub struct SentDate {
     pub seconds: i64,

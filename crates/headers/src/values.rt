@@ -26,7 +26,8 @@ fn first_named<'a>(fields: &'a [Field], name: &[u8]) -> Option<&'a Field>
 
 /// The value of the first field of the name.
 pub fn first_value<'a>(fields: &'a [Field], name: &[u8]) -> Option<&'a [u8]>
-    ensures { option_map (λ r. r.now) result ≡ spec.first_value name.now (map plain_field fields.now) }
+    ensures { option_map (λ r. r.now) result
+        ≡ spec.first_value name.now (map plain_field fields.now) }
 {
     match first_named(fields, name) {
         Some(field) => Some(field.value.as_slice()),

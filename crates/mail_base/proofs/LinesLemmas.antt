@@ -1,7 +1,7 @@
 -- How a text breaks into lines: those in front of a line, and those behind it.
 use Rattle.std.proofs.Common.{◌≡◌, ◌≢◌, ℕ, zero, suc, ◌+◌, ◌-◌, ◌<◌, ◌≤◌, Bool, true, false, List, [], ◌∷◌, ◌++◌}
 use Rattle.std.proofs.Common.{length, take, drop, slice_index, refl, sym, ap, subst, ◌∙◌, arith, inr, ⊎_elim}
-use Rattle.std.proofs.Common.{length-append, length-drop, length-take-le, get_or-take, take-append-drop, append_assoc}
+use Rattle.std.proofs.Common.{length-append, length-drop, length-take-le, get_or-take, append_assoc}
 use Rattle.std.specs.Prelude.{if◌then◌else◌}
 use Rattle.std.specs.List.{concat}
 use Rattle.std.proofs.Common.{◌==◌, ◌&&◌, not, nat_lt}

@@ -1,11 +1,11 @@
 -- What the first and the last place at which a test passes say of the parts of a list round them.
-use Rattle.std.proofs.Common.{◌≡◌, ℕ, ◌+◌, ◌-◌, ◌<◌, ◌≤◌, ◌==◌, Bool, true, false, not, cond, List, [], ◌∷◌, length}
-use Rattle.std.proofs.Common.{take, drop, Option, Some, None, refl, sym, ap, ◌∙◌, arith, nat_lt, position, get_or, unwrap_or}
-use Rattle.std.specs.List.{list_any, position_or_len, prefix_len, suffix_len, slice_split, before_first, after_first}
+use Rattle.std.proofs.Common.{◌≡◌, ℕ, ◌+◌, ◌-◌, ◌<◌, ◌≤◌, ◌==◌, Bool, true, false, not, List, [], ◌∷◌, length}
+use Rattle.std.proofs.Common.{take, drop, Option, Some, None, refl, sym, ap, ◌∙◌, arith, position, get_or, unwrap_or}
+use Rattle.std.specs.List.{list_any, position_or_len, suffix_len, slice_split, before_first, after_first}
 use Rattle.std.specs.List.{before_last, after_last}
 use Rattle.std.proofs.lemmas.Bool.{false_from_ne_true, not_from_true, not_from_false}
 use Rattle.std.proofs.lemmas.Bool.Decides.{nat_tests}
-use Rattle.std.proofs.lemmas.List.{take_all, drop_all, get_or_default}
+use Rattle.std.proofs.lemmas.List.{take_all, drop_all}
 use Rattle.std.proofs.lemmas.List.Folds.{list_any_at, list_any_none}
 use Rattle.std.proofs.lemmas.List.Quantifiers.{position-Some}
 use Rattle.std.proofs.lemmas.List.Sums.{position_or_len_is, fails_before_first, prefix_len-le-length, suffix_len_is}

@@ -51,8 +51,8 @@ fn is_status_name(name: &[u8]) -> bool
     is_same_name(name, b"Status") || is_same_name(name, b"X-Status")
 }
 
-/// What stays of a message when its status changes: its lines without the status fields, each with an LF, without the
-/// empty line that ends it.
+/// What stays of a message when its status changes: its lines without the status fields, each with
+/// an LF, without the empty line that ends it.
 #[tactic(auto, unfolding(folder_core::specs::Mbox::core))]
 pub fn core_of(alloc: Global, region: &[u8]) -> Result<Bytes, NoMemory>
     ensures { IfOk result (λ core. core.items ≡ spec.core region.now) }

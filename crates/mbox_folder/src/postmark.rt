@@ -6,8 +6,8 @@ ghost use Rattle.folder_core.specs.Mbox as spec;
 use crate::stamp::read_stamp;
 use mail_base::{blank_at, without_feed};
 
-/// The moment of a postmark line (mbox(5)), in seconds since 1970 UTC from 0 to 253,000,000,000; none for another line.
-/// The line stands with the LF that ends it, or without.
+/// The moment of a postmark line (mbox(5)), in seconds since 1970 UTC from 0 to 253,000,000,000;
+/// none for another line. The line stands with the LF that ends it, or without.
 #[tactic(auto, unfolding(folder_core::specs::Mbox::postmark))]
 pub fn read_postmark(line: &[u8]) -> Option<i64>
     ensures value { result ≡ spec.postmark line.now }
@@ -27,7 +27,8 @@ pub fn is_postmark(line: &[u8]) -> bool
 // What stands behind the first blank.
 fn behind_blank(text: &[u8]) -> Option<&[u8]>
     ensures blank { MatchOption result (spec.stamp_behind text.now ≡ None)
-        (λ rest. spec.stamp_behind text.now ≡ spec.first_some (spec.stamp rest.now) (spec.stamp_behind rest.now)) }
+        (λ rest. spec.stamp_behind text.now ≡ spec.first_some (spec.stamp rest.now)
+        (spec.stamp_behind rest.now)) }
     ensures shorter { IfSome result (λ rest. length rest.now < length text.now) }
 {
     match blank_at(text) {

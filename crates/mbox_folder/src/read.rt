@@ -18,12 +18,14 @@ const MOST_BYTES: u64 = 536_870_912;
 /// Reads the whole file at a path.
 pub fn read_file(alloc: Global, disk: &mut dyn Disk, path: &Bytes) -> Result<FileRead, ScanError>
     requires { IsUtf8 path.now.items }
-    ensures seen { GoesOn (FileSeen result path.now.items) (seen disk.old).told (seen disk.new).told }
+    ensures seen { GoesOn (FileSeen result path.now.items) (seen disk.old).told
+        (seen disk.new).told }
     ensures possible { IfErr result IsFileError }
     ensures looks { LooksOnly (seen disk.old).told (seen disk.new).told }
     ensures marks { (seen disk.old).marks ≤ (seen disk.new).marks }
     ensures faults { (seen disk.old).faults ≤ (seen disk.new).faults }
-    ensures cause { IsErrOf result ScanError.Fault → Rose (seen disk.old).faults (seen disk.new).faults }
+    ensures cause { IsErrOf result ScanError.Fault → Rose (seen disk.old).faults
+        (seen disk.new).faults }
 {
     let Ok(path) = str::from_utf8(path.as_slice()) else {
         unreachable!()

@@ -36,7 +36,8 @@ pub fn cut_regions(alloc: Global, bytes: &[u8]) -> Result<Regions, CutError>
     ensures cut { IfOk result (λ r. r.items ≡ spec.regions bytes.now) }
     ensures cover { IfOk result (λ r. spec.Cover 0 (length bytes.now) r.items) }
     ensures mailbox { IsOk result → spec.begins_mailbox bytes.now ≡ true }
-    ensures not_mailbox { IsErrOf result CutError.NotMailbox → spec.begins_mailbox bytes.now ≡ false }
+    ensures not_mailbox { IsErrOf result CutError.NotMailbox → spec.begins_mailbox bytes.now
+        ≡ false }
 {
     let mut regions = Regions::new(alloc);
     let mut lines = bytes.lines_with_terminator();

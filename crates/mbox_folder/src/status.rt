@@ -23,7 +23,8 @@ impl StatusField {
 
     fn named(name: &[u8]) -> Self
         ensures status { is_status result ≡ str_eq_ignore_ascii_case name.now (codes "Status") }
-        ensures x_status { is_x_status result ≡ str_eq_ignore_ascii_case name.now (codes "X-Status") }
+        ensures x_status { is_x_status result
+            ≡ str_eq_ignore_ascii_case name.now (codes "X-Status") }
     {
         if is_same_name(name, b"Status") {
             StatusField::Status
@@ -103,7 +104,8 @@ fn holds(text: &[u8], letter: u8) -> bool
 
 // What the header block tells that stands behind the first line.
 fn read_block(region: &[u8]) -> Told
-    ensures { told_by result [] ≡ spec.told_flags (fields_of (header_block (behind_first (lines_of region.now)))) }
+    ensures { told_by result [] ≡ spec.told_flags (fields_of
+        (header_block (behind_first (lines_of region.now)))) }
 {
     let mut lines = region.lines_with_terminator();
     let _ = lines.next();

@@ -5,7 +5,7 @@ use Rattle.std.proofs.Common.{◌++◌, length, take, drop, map, get_or, slice_i
 use Rattle.std.proofs.Common.{ap, ◌∙◌, arith, take-append-drop, drop-cons, add-one, length-drop, get_or-take, position}
 use Rattle.std.specs.Prelude.{is_some, if◌then◌else◌}
 use Rattle.std.proofs.Common.{append_assoc, codes, cond}
-use Rattle.std.specs.List.{concat, list_any, position_or_len}
+use Rattle.std.specs.List.{concat, list_any}
 use Rattle.std.proofs.Common.{⊎_elim, min}
 use Rattle.std.proofs.lemmas.Bool.{cases_lt, false_from_ne_true}
 use Rattle.std.proofs.lemmas.Bool.Decides.{nat_tests}

@@ -1,10 +1,10 @@
 -- A parameter that is written in quotes is read back.
-use Rattle.std.proofs.Common.{◌≡◌, ℕ, zero, suc, ◌+◌, ◌<◌, ◌==◌, ◌&&◌, ◌||◌, Bool, true, false, not, nat_lt, List, []}
-use Rattle.std.proofs.Common.{◌∷◌, ◌++◌, length, take, drop, Option, Some, None, option_map, refl, sym, ap, ◌∙◌, arith}
+use Rattle.std.proofs.Common.{◌≡◌, ℕ, ◌<◌, ◌==◌, ◌&&◌, ◌||◌, Bool, true, false, not, nat_lt, List, []}
+use Rattle.std.proofs.Common.{◌∷◌, ◌++◌, length, take, drop, Some, None, option_map, refl, ap, ◌∙◌, arith}
 use Rattle.std.specs.Prelude.{if◌then◌else◌}
-use Rattle.std.specs.List.{find, list_all, position_or_len}
-use Rattle.std.specs.Str.{byte, str_eq_ignore_ascii_case, str_to_ascii_lowercase}
-use Rattle.std.proofs.lemmas.Bool.{and_parts, or_parts, eq-eqb}
+use Rattle.std.specs.List.{find, list_all}
+use Rattle.std.specs.Str.{str_eq_ignore_ascii_case, str_to_ascii_lowercase}
+use Rattle.std.proofs.lemmas.Bool.{and_parts, or_parts}
 use Rattle.std.proofs.lemmas.Bool.Decides.{nat_tests}
 use Rattle.std.proofs.lemmas.List.{take_at, drop_at}
 use Rattle.mail_base.specs.Blanks.{is_blank, without_blanks}
@@ -13,9 +13,9 @@ use Rattle.mail_base.specs.Tokens.{is_token_byte, token_len}
 use Rattle.mail_base.proofs.FrontsLemmas.{bytes_eq_same}
 use Rattle.mail_base.proofs.RoundPlaces.{prefix_stop}
 use Rattle.headers.specs.Laws.{escaped}
-use Rattle.mime_tree.specs.Laws.{is_token, written_parameter, WrittenParameterIsRead}
-use Rattle.mime_tree.specs.Parameter.{PlainParameter, PlainValue, named_value, parameter, parameter_at, parameters}
-use Rattle.mime_tree.specs.Parameter.{parameters_behind, parameters_from, parameters_with, quoted_value, value_of, with_byte}
+use Rattle.mime_tree.specs.Laws.{is_token, WrittenParameterIsRead}
+use Rattle.mime_tree.specs.Parameter.{PlainParameter, PlainValue, named_value, parameter_at}
+use Rattle.mime_tree.specs.Parameter.{parameters_from, parameters_with, quoted_value, value_of, with_byte}
 use Rattle.mime_tree.specs.Parameter.{is_named}
 
 -- what a quoted string holds, and nothing behind it

@@ -1,15 +1,12 @@
 -- Bytes that are written as `=` and two digits are read back.
-use Rattle.std.proofs.Common.{◌≡◌, ◌≢◌, ℕ, zero, suc, ◌+◌, ◌-◌, ◌*◌, ◌/◌, ◌%◌, ◌<◌, ◌==◌, Bool, true, false, not}
-use Rattle.std.proofs.Common.{nat_lt, List, [], ◌∷◌, ◌++◌, length, Option, Some, None, slice_index, refl, sym, ap, ◌∙◌}
+use Rattle.std.proofs.Common.{◌≡◌, ℕ, zero, suc, ◌+◌, ◌*◌, ◌/◌, ◌%◌, ◌<◌, ◌==◌, true, false, not}
+use Rattle.std.proofs.Common.{nat_lt, List, [], ◌∷◌, length, Option, Some, None, slice_index, refl, ap, ◌∙◌}
 use Rattle.std.proofs.Common.{arith, eq-eqb}
 use Rattle.std.specs.Prelude.{if◌then◌else◌}
 use Rattle.std.specs.Char.{digit_value}
 use Rattle.std.specs.List.{list_all, flat_map}
-use Rattle.std.specs.Str.{byte}
 use Rattle.std.proofs.lemmas.Bool.{agree_below_at, and_parts, cond-true, eqb-true, ltb-true, lt-ltb, not-true}
-use Rattle.std.proofs.lemmas.Bool.Decides.{nat_tests}
 use Rattle.std.proofs.lemmas.List.{append-nil}
-use Rattle.bstr.specs.Text.{lines_of, without_terminator}
 use Rattle.bstr.proofs.lemmas.LineLemmas.{lines-nil}
 use Rattle.mail_base.specs.Hex.{hex_byte, hex_value}
 use Rattle.mime_tree.specs.Laws.{hex_digit, written_byte, QuotedBytesAreRead}

@@ -1,24 +1,22 @@
 -- Texts that are written between delimiter lines are cut apart again.
-use Rattle.std.proofs.Common.{◌≡◌, ℕ, ◌+◌, ◌-◌, ◌<◌, ◌==◌, ◌&&◌, ◌||◌, Bool, true, false, not, nat_lt, List, [], ◌∷◌, ◌++◌}
-use Rattle.std.proofs.Common.{length, map, Option, Some, None, refl, sym, ap, ◌∙◌, arith, append_assoc, inr, codes}
+use Rattle.std.proofs.Common.{◌≡◌, ℕ, ◌+◌, ◌-◌, ◌==◌, true, false, not, nat_lt, List, [], ◌∷◌, ◌++◌}
+use Rattle.std.proofs.Common.{length, map, Some, refl, sym, ap, ◌∙◌, arith, append_assoc, inr, codes}
 use Rattle.std.proofs.Common.{length-append, slice_index}
-use Rattle.std.specs.Prelude.{if◌then◌else◌}
-use Rattle.std.specs.List.{concat, list_all, list_any}
+use Rattle.std.specs.List.{concat, list_all}
 use Rattle.std.proofs.lemmas.Bool.{and_parts, not-true}
 use Rattle.std.proofs.lemmas.List.{append-nil, get_or_push}
 use Rattle.std.proofs.lemmas.List.Folds.{list_all-append}
 use Rattle.bstr.specs.Text.{lines_of, without_terminator}
-use Rattle.bstr.proofs.lemmas.LineLemmas.{EndsLine, lines-append, lines-nil}
+use Rattle.bstr.proofs.lemmas.LineLemmas.{EndsLine, lines-append}
 use Rattle.bstr.proofs.lemmas.RestLemmas.{concat-lines_of}
 use Rattle.mail_base.specs.Fronts.{◌>>=◌, behind_text}
 use Rattle.mail_base.proofs.FrontsLemmas.{behind_text_front}
 use Rattle.mail_base.proofs.LinesLemmas.{lines_feed, terminator_goes}
 use Rattle.headers.specs.Laws.{is_line_byte}
 use Rattle.mime_tree.specs.Delimiter.{is_delimiter, kind_behind, kind_of}
-use Rattle.mime_tree.specs.Laws.{dashed, is_apart, is_boundary, written_sections, WrittenSectionsAreCut}
+use Rattle.mime_tree.specs.Laws.{dashed, is_apart, written_sections, WrittenSectionsAreCut}
 use Rattle.mime_tree.specs.Section.{PlainSection, section_at, section_text, sections, sections_with}
 use Rattle.mime_tree.specs.declared.delimiter.LineKind.{LineKind}
-use Rattle.mime_tree.specs.declared.delimiter.LineKind.TheVariants.{Text, Delimiter, Closing}
 use Rattle.mime_tree.proofs.DashLinesLemmas.{HasNone, sections_from, text_before}
 
 -- the boundary has no line feed

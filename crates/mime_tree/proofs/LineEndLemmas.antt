@@ -3,14 +3,12 @@ use Rattle.std.proofs.Common.{◌≡◌, ◌≢◌, ℕ, zero, suc, ◌+◌, ◌
 use Rattle.std.proofs.Common.{◌==◌, List, [], ◌∷◌, ◌++◌, length, take, drop, slice_index, refl, sym, ap, subst, ◌∙◌}
 use Rattle.std.proofs.Common.{arith, inr, ⊎_elim, length-append, length-drop, length-take-le, get_or-take}
 use Rattle.std.proofs.Common.{take-append-drop, Option, codes}
-use Rattle.std.specs.List.{concat}
 use Rattle.std.proofs.Math.Seq.{take-append-add}
-use Rattle.std.proofs.lemmas.Bool.{cases_Bool, cases_eq, cases_lt, cond-true, cond-false, eq-eqb, eqb-true, ne_eqb}
-use Rattle.std.proofs.lemmas.List.{append-nil, drop-drop, get_or-append-add, length-take, take_all}
+use Rattle.std.proofs.lemmas.Bool.{cases_Bool, cases_eq, cases_lt, cond-true, cond-false, eq-eqb, eqb-true}
+use Rattle.std.proofs.lemmas.List.{append-nil, get_or-append-add, length-take, take_all}
 use Rattle.std.proofs.lemmas.Bool.Decides.{nat_tests}
 use Rattle.bstr.specs.Text.{line_len, lines_of, no_cr, without_terminator}
-use Rattle.bstr.proofs.lemmas.LineLemmas.{EndsLine, line_len-bounds, lines-nil, lines-step, lines-append, lines-one}
-use Rattle.bstr.proofs.lemmas.RestLemmas.{concat-lines_of}
+use Rattle.bstr.proofs.lemmas.LineLemmas.{line_len-bounds, lines-nil, lines-step, lines-one}
 use Rattle.mail_base.specs.Fronts.{behind_text}
 use Rattle.mail_base.proofs.LinesLemmas.{IsLine, first_line, first_ends, line_in_front, one_line}
 use Rattle.mime_tree.specs.DashLines.{behind_dashes, dash_lines, dash_lines_with}

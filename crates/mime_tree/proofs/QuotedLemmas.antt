@@ -1,5 +1,5 @@
 -- How bodies in quoted-printable are decoded from one `=` to the next.
-use Rattle.std.proofs.Common.{◌≡◌, ℕ, zero, suc, ◌+◌, ◌<◌, ◌==◌, Bool, true, false, List, [], ◌∷◌, ◌++◌, length, take}
+use Rattle.std.proofs.Common.{◌≡◌, ℕ, zero, suc, ◌+◌, ◌<◌, ◌==◌, true, false, List, [], ◌∷◌, ◌++◌, length, take}
 use Rattle.std.proofs.Common.{drop, Option, Some, None, refl, sym, ap, subst, ◌∙◌, arith, position, slice_index}
 use Rattle.std.proofs.Common.{option_map, MatchOption}
 use Rattle.std.specs.Prelude.{if◌then◌else◌}

@@ -6,7 +6,7 @@ use Rattle.std.specs.List.{concat}
 use Rattle.bstr.specs.Text.{lines_of, without_terminator}
 use Rattle.std.proofs.lemmas.List.{length-take, length-drop}
 use Rattle.bstr.proofs.lemmas.RestLemmas.{concat-lines_of}
-use Rattle.mail_base.specs.Lines.{behind_first, behind_line, body_at, body_of, message_fields}
+use Rattle.mail_base.specs.Lines.{body_at, body_of, message_fields}
 use Rattle.std.specs.Prelude.{codes}
 use Rattle.std.specs.Str.{bytes_eq}
 use Rattle.mime_tree.specs.Delimiter.{is_delimiter, kind_of}

@@ -23,7 +23,8 @@ fn without_white_space(alloc: Global, text: &[u8]) -> Result<Vec<u8>, NoMemory>
     )
 }
 
-/// The bytes of a body in base64 (RFC 2045, section 6.8); one that does not decode stays as written.
+/// The bytes of a body in base64 (RFC 2045, section 6.8); one that does not decode stays as
+/// written.
 pub fn decode_base64(alloc: Global, text: &[u8]) -> Result<Bytes, NoMemory>
     ensures { IfOk result (λ b. b.items ≡ spec.from_base64 text.now) }
 {

@@ -32,7 +32,8 @@ fn may_delimit(boundary: &[u8], text: &[u8]) -> bool
     }
 }
 
-// Whether the first line of the text is a delimiter line. Most are of another boundary, and that is the faster test.
+// Whether the first line of the text is a delimiter line. Most are of another boundary, and that is
+// the faster test.
 fn begins_with_delimiter(boundary: &[u8], text: &[u8]) -> bool
     ensures { result ≡ dashes.delimits_at boundary.now text.now 0 }
 {
@@ -52,7 +53,8 @@ fn delimits_at(boundary: &[u8], text: &[u8], place: usize) -> bool
 
 // Which of the places is that of the first delimiter line. The text starts at a place of its own.
 fn next_delimiter(boundary: &[u8], text: &[u8], start: usize, places: &[usize]) -> Option<usize>
-    ensures value { result ≡ position (λ at. dashes.delimits_at boundary.now text.now (at - start)) places.now }
+    ensures value { result
+        ≡ position (λ at. dashes.delimits_at boundary.now text.now (at - start)) places.now }
     ensures within { IfSome result (λ index. index < length places.now) }
 {
     places

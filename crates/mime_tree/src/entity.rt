@@ -47,8 +47,8 @@ fn parameter_in(
 
 // A parameter of the Content-Type, or nothing.
 fn type_parameter(alloc: Global, fields: &[Field], name: &[u8]) -> Result<Bytes, NoMemory>
-    ensures { IfOk result (λ b. b.items
-        ≡ unwrap_or (spec.parameter_in (codes "content-type") name.now (map plain_field fields.now)) []) }
+    ensures { IfOk result (λ b. b.items ≡ unwrap_or
+        (spec.parameter_in (codes "content-type") name.now (map plain_field fields.now)) []) }
 {
     match parameter_in(alloc, fields, b"content-type", name)? {
         Some(value) => Ok(value),
@@ -192,7 +192,8 @@ pub fn part_of(
 ) -> Result<Part, NoMemory>
     requires fits { start + length text.now < 2 ^ 64 }
     requires fields { map plain_field fields.now ≡ message_fields text.now }
-    ensures { IfOk result (λ p. plain_part p ≡ spec.typed_part nesting start text.now content.items) }
+    ensures { IfOk result
+        (λ p. plain_part p ≡ spec.typed_part nesting start text.now content.items) }
 {
     let charset = charset_of(alloc, fields)?;
     let filename = filename_of(alloc, fields)?;
@@ -210,9 +211,11 @@ pub fn part_of(
 
 impl<'a> Entity<'a> {
     pub fn read(alloc: Global, section: Section<'a>, nesting: u32) -> Result<Entity<'a>, NoMemory>
-        ensures part { IfOk result (λ e. plain_part e.part ≡ spec.part_of nesting (plain_section section.entry)) }
+        ensures part { IfOk result
+            (λ e. plain_part e.part ≡ spec.part_of nesting (plain_section section.entry)) }
         ensures children { IfOk result
-            (λ e. map plain_section e.children.items ≡ spec.children_of (plain_section section.entry)) }
+            (λ e. map plain_section e.children.items
+            ≡ spec.children_of (plain_section section.entry)) }
     {
         let body = body_in(section);
         let fields = read_fields(alloc, section.text)?;

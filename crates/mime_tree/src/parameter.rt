@@ -42,7 +42,8 @@ fn plain_len(text: &[u8]) -> usize
 
 // The value of a quoted string behind its first quote, if the string is closed.
 fn quoted_value<'a>(alloc: Global, text: &'a [u8]) -> Result<Option<Value<'a>>, NoMemory>
-    ensures value { IfOk result (λ o. option_map spec.plain_value o ≡ spec.quoted_value false text.now) }
+    ensures value { IfOk result
+        (λ o. option_map spec.plain_value o ≡ spec.quoted_value false text.now) }
     ensures shorter { IfOk result (λ o. IfSome o (λ v. length v.rest.now ≤ length text.now)) }
 {
     let mut bytes = Bytes::new(alloc);
@@ -78,8 +79,10 @@ impl<'a> Value<'a> {
 impl<'a> Parameter<'a> {
     /// The parameter that stands behind a semicolon, if it is of the form.
     fn read(alloc: Global, text: &'a [u8]) -> Result<Option<Parameter<'a>>, NoMemory>
-        ensures value { IfOk result (λ o. option_map spec.plain_parameter o ≡ spec.parameter text.now) }
-        ensures shorter { IfOk result (λ o. IfSome o (λ p. length p.value.rest.now ≤ length text.now)) }
+        ensures value { IfOk result
+            (λ o. option_map spec.plain_parameter o ≡ spec.parameter text.now) }
+        ensures shorter { IfOk result
+            (λ o. IfSome o (λ p. length p.value.rest.now ≤ length text.now)) }
     {
         let text = without_blanks(text);
         let (name, tail) = text.split_at(token_len(text));

@@ -39,7 +39,8 @@ impl From<NoMemory> for MimeError {
     }
 }
 
-// Adds the part of a section and those that stand in it, which may be so many levels deep with itself.
+// Adds the part of a section and those that stand in it, which may be so many levels deep with
+// itself.
 fn add_parts(
     alloc: Global,
     parts: &mut Parts,
@@ -49,7 +50,8 @@ fn add_parts(
 ) -> Result<(), MimeError>
     requires { levels + nesting < 2 ^ 32 }
     ensures ok { OnOk result (option_map (λ more. plain_parts parts.old ++ more)
-        (spec.parts_in levels nesting (plain_section section.entry)) ≡ Some (plain_parts parts.new)) }
+        (spec.parts_in levels nesting (plain_section section.entry))
+        ≡ Some (plain_parts parts.new)) }
     ensures too_deep { IsErrOf result MimeError.TooDeep
         → spec.parts_in levels nesting (plain_section section.entry) ≡ None }
 {
@@ -82,7 +84,8 @@ fn add_message(alloc: Global, parts: &mut Parts, raw: &[u8]) -> Result<(), MimeE
     add_parts(alloc, parts, whole, LEVELS, 0)
 }
 
-/// The parts of a message in the order of reading, each before those that stand in it (RFC 2046, section 5).
+/// The parts of a message in the order of reading, each before those that stand in it (RFC 2046,
+/// section 5).
 pub fn read_parts(alloc: Global, raw: &[u8]) -> Result<Parts, MimeError>
     ensures parts { IfOk result (λ p. spec.parts_of raw.now ≡ Some (plain_parts p)) }
     ensures too_deep { IsErrOf result MimeError.TooDeep → spec.parts_of raw.now ≡ None }

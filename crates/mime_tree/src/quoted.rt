@@ -9,10 +9,12 @@ use mail_base::{
 };
 use std::alloc::Global;
 
-// The byte that an `=` and what follows it write, and what follows that; a `=` that means nothing is itself.
+// The byte that an `=` and what follows it write, and what follows that; a `=` that means nothing
+// is itself.
 fn escaped_byte(rest: &[u8]) -> (u8, &[u8])
     ensures byte { result.0 ≡ (spec.escaped_byte rest.now).0 }
-    ensures text { spec.unquoted_from (spec.escaped_byte rest.now).1 rest.now ≡ spec.unquoted result.1.now }
+    ensures text { spec.unquoted_from (spec.escaped_byte rest.now).1 rest.now
+        ≡ spec.unquoted result.1.now }
     ensures shorter { length result.1.now ≤ length rest.now }
 {
     read_hex_byte(rest).unwrap_or((b'=', rest))
@@ -47,7 +49,8 @@ fn append_joined(bytes: &mut Bytes, text: &[u8], end: &[u8]) -> Result<(), NoMem
 // Adds the line whose text is given, without its line end.
 fn append_ended(bytes: &mut Bytes, text: &[u8], line: &[u8]) -> Result<(), NoMemory>
     requires { length text.now ≤ length line.now }
-    ensures { OnOk result (bytes.new.items ≡ bytes.old.items ++ spec.quoted_with text.now line.now) }
+    ensures { OnOk result (bytes.new.items
+        ≡ bytes.old.items ++ spec.quoted_with text.now line.now) }
 {
     if text.len() == line.len() {
         return append_unquoted(bytes, line);
@@ -62,7 +65,8 @@ fn append_line(bytes: &mut Bytes, line: &[u8]) -> Result<(), NoMemory>
     append_ended(bytes, without_line_end(line), line)
 }
 
-/// The bytes of a body in quoted-printable (RFC 2045, section 6.7); a `=` that means nothing stands as written.
+/// The bytes of a body in quoted-printable (RFC 2045, section 6.7); a `=` that means nothing stands
+/// as written.
 pub fn decode_quoted(alloc: Global, text: &[u8]) -> Result<Bytes, NoMemory>
     ensures { IfOk result (λ b. b.items ≡ spec.from_quoted text.now) }
 {

@@ -23,12 +23,13 @@ fn lines_of(alloc: Global, charset: Charset, text: &[u8]) -> Result<Lines, NoMem
     Ok(lines)
 }
 
-/// The text of a part that was read from these bytes: its body decoded, as lines without their line ends.
-/// A text of no charset is read as US-ASCII.
+/// The text of a part that was read from these bytes: its body decoded, as lines without their line
+/// ends. A text of no charset is read as US-ASCII.
 pub fn decoded_text(alloc: Global, raw: &[u8], part: &Part) -> Result<Lines, NoMemory>
     requires order { part.now.body_at ≤ part.now.body_end }
     requires within { part.now.body_end ≤ length raw.now }
-    ensures { IfOk result (λ l. plain_texts l ≡ spec.decoded_lines part.now.encoding part.now.charset.items
+    ensures { IfOk result
+        (λ l. plain_texts l ≡ spec.decoded_lines part.now.encoding part.now.charset.items
         (slice_range raw.now part.now.body_at part.now.body_end)) }
 {
     let body = behind_line(&raw[part.body_at..part.body_end]);

@@ -1,4 +1,4 @@
-use Rattle.std.proofs.Common.{◌≤◌, [], ◌∷◌, ◌++◌, length, map, sym, ap, ◌∙◌, arith}
+use Rattle.std.proofs.Common.{◌≤◌, [], ◌∷◌, ◌++◌, length, map, ap, ◌∙◌, arith}
 use Rattle.std.proofs.lemmas.List.{length-map, map-append}
 use Rattle.mail_base.specs.Series.{plain_texts}
 use Rattle.headers.specs.References.{last_ids}

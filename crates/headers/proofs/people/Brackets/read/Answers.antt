@@ -1,4 +1,4 @@
-use Rattle.std.proofs.Common.{refl, sym, ap, ◌∙◌}
+use Rattle.std.proofs.Common.{refl, sym, ap}
 use Rattle.headers.specs.AddressByte.{has}
 use Rattle.headers.specs.declared.address_byte.Role.TheVariants.{AngleStart}
 use Rattle.mail_base.proofs.PlacesLemmas.{after_last_some, before_last_some, list_any_last_none, list_any_last_some}
