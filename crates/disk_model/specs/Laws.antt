@@ -1,8 +1,9 @@
 -- Laws of pasts and of what a stop leaves of them.
-use Rattle.std.specs.Prelude.{true, ◌≡◌, ◌⊎◌, ℕ, List, [], length, map}
-use Rattle.disk_model.specs.Tree.{TreeNode, is_tree}
+use Rattle.std.specs.Prelude.{true, ◌≡◌, ◌<◌, ◌⊎◌, ℕ, List, [], ◌∷◌, Option, Some, None, length, map}
+use Rattle.disk_model.specs.Tree.{TreeNode, is_first_tree, is_tree}
 use Rattle.disk_model.specs.Journal.{Action, Rename, SyncDir, Done, Own, Others, Past}
-use Rattle.disk_model.specs.State.{File, State, after_entry, file_at, replaced, state_after, tree_after, tree_at, tree_of}
+use Rattle.disk_model.specs.State.{File, Name, State, after_entry, file_at}
+use Rattle.disk_model.specs.State.{replaced, state_after, state_at, tree_after, tree_at, tree_of}
 use Rattle.disk_model.specs.Lawful.{IsLawful}
 use Rattle.disk_model.specs.Images.{IsImage, IsLeft, IsTreeOf}
 use Rattle.disk_model.specs.Fills.{image_of}
@@ -61,3 +62,56 @@ EachMarkHasATree = (past : Past) (marks mark : ℕ) → IsLawful marks past → 
 -- what a disk shows as an image is one
 abbrev pub ShownIsImage : Type 0
 ShownIsImage = (past : Past) (count : ℕ) (fill : Fill) → IsImage (state_after past) (image_of (state_after past) count fill)
+
+-- Names with files of their own.
+
+-- a file's number is below this one, where it is a file's
+abbrev pub IsFileBelow : Option ℕ → ℕ → Type 0
+IsFileBelow None count = Unit {0}
+IsFileBelow (Some number) count = number < count
+
+-- all numbers of files are below this one
+abbrev pub AllBelow : ℕ → List Name → Type 0
+AllBelow count [] = Unit {0}
+AllBelow count (name ∷ names) = IsFileBelow name.file count × AllBelow count names
+
+-- no name has this file
+abbrev pub IsOther : ℕ → List Name → Type 0
+IsOther number [] = Unit {0}
+IsOther number (name ∷ names) = (name.file ≡ Some number → ⊥) × IsOther number names
+
+-- no name has this one's file, where it is a file's
+abbrev pub HasOwn : Option ℕ → List Name → Type 0
+HasOwn None names = Unit {0}
+HasOwn (Some number) names = IsOther number names
+
+-- no two names have one file
+abbrev pub AreNamedOnce : List Name → Type 0
+AreNamedOnce [] = Unit {0}
+AreNamedOnce (name ∷ names) = HasOwn name.file names × AreNamedOnce names
+
+-- no file has this stamp
+abbrev pub IsNew : ℕ → List File → Type 0
+IsNew stamp [] = Unit {0}
+IsNew stamp (file ∷ files) = (stamp ≡ file.stamp → ⊥) × IsNew stamp files
+
+-- no two files have one stamp
+abbrev pub AreStampedOnce : List File → Type 0
+AreStampedOnce [] = Unit {0}
+AreStampedOnce (file ∷ files) = IsNew file.stamp files × AreStampedOnce files
+
+-- all stamps are below this one
+abbrev pub Older : ℕ → List File → Type 0
+Older clock [] = Unit {0}
+Older clock (file ∷ files) = (file.stamp < clock) × Older clock files
+
+-- Each name of a file has a file, no two have one, and no two files have one stamp, nor the next one.
+pub record HasFiles (state : State) : Type 0 where
+  pub below : AllBelow (length state.files) state.names
+  pub once : AreNamedOnce state.names
+  pub stamps : AreStampedOnce state.files
+  pub older : Older state.clock state.files
+
+-- so it is at each mark of a past that began with a tree
+abbrev pub EachNameHasItsFile : Type 0
+EachNameHasItsFile = (past : Past) (mark : ℕ) → is_first_tree past.first ≡ true → HasFiles (state_at past mark)

@@ -7,6 +7,12 @@ pub fn each_mark_has_a_tree()
     ensures { spec.EachMarkHasATree }
 {}
 
+/// At each mark of a past that began with a tree each name of a file has a file of its own, and each
+/// file a stamp of its own.
+pub fn each_name_has_its_file()
+    ensures { spec.EachNameHasItsFile }
+{}
+
 /// The tree now is an image: a stop may lose nothing.
 pub fn a_stop_may_lose_nothing()
     ensures { spec.NowIsImage }
