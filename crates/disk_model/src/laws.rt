@@ -7,8 +7,8 @@ pub fn each_mark_has_a_tree()
     ensures { spec.EachMarkHasATree }
 {}
 
-/// At each mark of a past that began with a tree each name of a file has a file of its own, and each
-/// file a stamp of its own.
+/// At each mark of a past that began with a tree each name of a file has a file of its own, and
+/// each file a stamp of its own.
 pub fn each_name_has_its_file()
     ensures { spec.EachNameHasItsFile }
 {}

@@ -52,10 +52,12 @@ fn scan_file(
     known: &mut Known,
     archive: &mut Archive,
 ) -> Result<Found, ScanError>
-    ensures saw { GoesOn (Saw Mbox (map plain_letter archive.old.items) (map plain_letter archive.new.items) known.new
+    ensures saw { GoesOn (Saw Mbox (map plain_letter archive.old.items)
+        (map plain_letter archive.new.items) known.new
         result)
         (seen disk.old).told (seen disk.new).told }
-    ensures lists { IfOk result (λ found. ListsNew found (map plain_letter archive.old.items) (map plain_letter
+    ensures lists { IfOk result (λ found. ListsNew found (map plain_letter archive.old.items)
+        (map plain_letter
         archive.new.items)
         known.old known.new) }
     ensures err_archive { OnErr result (archive.new.items ≡ archive.old.items) }
@@ -65,7 +67,8 @@ fn scan_file(
     ensures looks { LooksOnly (seen disk.old).told (seen disk.new).told }
     ensures marks { (seen disk.old).marks ≤ (seen disk.new).marks }
     ensures faults { (seen disk.old).faults ≤ (seen disk.new).faults }
-    ensures cause { IsErrOf result ScanError.Fault → Rose (seen disk.old).faults (seen disk.new).faults }
+    ensures cause { IsErrOf result ScanError.Fault → Rose (seen disk.old).faults
+        (seen disk.new).faults }
 {
     let file = match read_file(alloc, disk, known.path()) {
         Ok(file) => file,
@@ -98,7 +101,8 @@ fn list_known(
       stamps = file.stat.stamp ∷ [];
     }) }
     ensures unknown { OnErr result (known.new ≡ known.old) }
-    ensures unlisted { IfErr result (IsUnlisted file.bytes.items (length (map plain_letter archive.old.items))) }
+    ensures unlisted { IfErr result (IsUnlisted file.bytes.items
+        (length (map plain_letter archive.old.items))) }
     ensures front { take (length archive.old.items) archive.new.items ≡ archive.old.items }
 {
     let came = match list_file(alloc, file.bytes.as_slice(), archive) {

@@ -22,10 +22,11 @@ const MOST_MESSAGES: usize = 65_535;
 /// The most letters of an archive.
 const MOST_LETTERS: usize = 4_294_967_295;
 
-/// Adds the letters of a file to an archive, and answers their listing. After a refusal letters may stand behind those
-/// that were there.
+/// Adds the letters of a file to an archive, and answers their listing. After a refusal letters may
+/// stand behind those that were there.
 pub fn list_file(alloc: Global, bytes: &[u8], archive: &mut Archive) -> Result<Listing, ScanError>
-    ensures listed { IfOk result (λ came. IsListedFile bytes.now (map plain_letter archive.old.items)
+    ensures listed { IfOk result (λ came. IsListedFile bytes.now
+        (map plain_letter archive.old.items)
         (map plain_letter archive.new.items) came.items) }
     ensures unlisted { IfErr result (IsUnlisted bytes.now (length archive.old.items)) }
     ensures front { take (length archive.old.items) archive.new.items ≡ archive.old.items }
@@ -68,8 +69,10 @@ fn list_messages(
     requires cut { regions.now ≡ regions_lem bytes.now }
     requires few { length archive.old.items + length regions.now ≤ most_letters }
     ensures letters { IfOk result (λ came. map plain_letter archive.new.items
-        ≡ map plain_letter archive.old.items ++ letters_from (length archive.old.items) (raw_messages bytes.now)) }
-    ensures listed { IfOk result (λ came. came.items ≡ listed_from (length archive.old.items) (raw_messages bytes.now)) }
+        ≡ map plain_letter archive.old.items ++ letters_from (length archive.old.items)
+        (raw_messages bytes.now)) }
+    ensures listed { IfOk result (λ came. came.items ≡ listed_from (length archive.old.items)
+        (raw_messages bytes.now)) }
     ensures front { take (length archive.old.items) archive.new.items ≡ archive.old.items }
 {
     let mut came = Listing::new(alloc);

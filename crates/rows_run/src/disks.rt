@@ -6,8 +6,9 @@ use disk_model::{Device, Disk, DiskError, FileRead, Fill, Stat, Tree};
 use mail_base::{Bytes, Names, NoMemory};
 use std::alloc::Global;
 
-/// Each `call` is its name and, with blanks between them, its path and what else it takes; the rest of a `write_at` are its
-/// bytes. `image N FILL` is asked for behind the calls: N name operations, and `kept`, `written` or the number of a byte.
+/// Each `call` is its name and, with blanks between them, its path and what else it takes; the rest
+/// of a `write_at` are its bytes. `image N FILL` is asked for behind the calls: N name operations,
+/// and `kept`, `written` or the number of a byte.
 pub struct DiskCalls;
 
 impl Subject for DiskCalls {

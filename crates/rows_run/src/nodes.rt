@@ -6,8 +6,9 @@ use mail_base::{Bytes, Numbers, Words};
 use memory_disk::{Action, Foreign, MemoryDisk, Script};
 use std::alloc::Global;
 
-/// A disk with the nodes of the case, of which the calls under `failing disk` and all from call `stop` on fail, and on which
-/// others do what stands under `others N DEED PATH`, before call N: `append`, `put`, `remove`, `write`, or `rename` to the value.
+/// A disk with the nodes of the case, of which the calls under `failing disk` and all from call
+/// `stop` on fail, and on which others do what stands under `others N DEED PATH`, before call N:
+/// `append`, `put`, `remove`, `write`, or `rename` to the value.
 pub fn disk_of(alloc: Global, case: &Case) -> Result<MemoryDisk, CaseFault> {
     let tree = tree_of(alloc, case)?;
     if !is_tree(&tree) {
