@@ -97,4 +97,4 @@ returns-clause-behind c =
       tail_is = c.behind_line-rest.ensures.value;
     } in
     rest_sections cut s.in_digest c.is_closing.result
-    (c.is_closing.ensures ∙ ap is_closing (c.of_line.ensures ∙ ap (kind_of boundary) c.first_line.ensures))
+    (c.is_closing.ensures ∙ ap is_closing (c.of_line.ensures ∙ ap (kind_of boundary) c.first_line.ensures.value))
