@@ -43,7 +43,7 @@ impl Subject for DiskCalls {
 }
 
 /// Makes a call and puts what it answers.
-fn put_call(
+pub fn put_call(
     alloc: Global,
     answer: &mut Answer,
     dev: &mut Device,

@@ -1,6 +1,8 @@
 //! What no case can say: streams that fail in mid-stream, the system's own streams, clock and
 //! files, and boxes.
 
+use crate::disks::put_call;
+use case_files::{Answer, CaseFault};
 use disk_model::{Device, Disk, DiskError, Node, Stat, Tree, is_tree};
 use folder_core::{Archive, Driver, Drivers, DriversError, Found, Known, ScanError};
 use mail_base::{
@@ -154,78 +156,69 @@ fn the_file_system_answers_by_its_files(rt: HostRuntime) -> Result<(), Fail> {
     Ok(())
 }
 
-/// What the file at a path holds.
-fn held(alloc: Global, disk: &mut RealDisk<HostRuntime>, path: &str) -> Result<Bytes, DiskError> {
-    Ok(disk.read_all(alloc, path, 100)?.bytes)
+/// What a call answers, as the cases of a disk in memory say it.
+fn told(alloc: Global, dev: &mut Device, call: &str) -> Result<Bytes, CaseFault> {
+    let mut answer = Answer::new(alloc);
+    put_call(alloc, &mut answer, dev, call)?;
+    let entry = answer.entries.pop().ok_or(CaseFault::NothingExpected)?;
+    Ok(entry.value)
 }
+
+const DONE: &str = "done";
+
+const THERE: &str = "it is there already";
+
+const MISSING: &str = "missing";
+
+const OTHER: &str = "a folder in place of a file, or a file in place of a folder";
 
 #[test]
 fn the_file_system_does_what_it_is_told(rt: HostRuntime) -> Result<(), Fail> {
     let alloc = rt.alloc();
-    let mut disk = RealDisk::new(rt.clone()?);
-    disk.make_dir(alloc, "told")?;
-    disk.create(alloc, "told/b")?;
-    disk.write_at(alloc, "told/b", 3, b"hello")?;
-    disk.write_at(alloc, "told/b", 4, b"E")?;
-    let bytes = held(alloc, &mut disk, "told/b")?;
-    assert_eq!(rt; bytes.as_slice(), b"\0\0\0hEllo".as_slice());
-    disk.cut(alloc, "told/b", 4)?;
-    disk.cut(alloc, "told/b", 6)?;
-    disk.sync(alloc, "told/b")?;
-    let mut front = [7u8; 8];
-    assert_eq!(rt; disk.read_front("told/b", &mut front), Ok(6));
-    assert_eq!(rt; front, [0, 0, 0, b'h', 0, 0, 7, 7]);
-    disk.create(alloc, "told/a")?;
-    let names = disk.list(alloc, "told")?;
-    assert_eq!(rt; names.len(), 2);
-    assert_eq!(rt;
-        names.get(0).map(|name| name.as_slice()),
-        Some(b"a".as_slice())
-    );
-    disk.rename(alloc, "told/b", "told/a")?;
-    disk.sync_dir(alloc, "told")?;
-    assert_eq!(rt; disk.stat("told/a").map(|stat| stat.length), Ok(6));
-    assert_eq!(rt; disk.stat("told/b"), Err(DiskError::Missing));
-    disk.remove(alloc, "told/a")?;
-    assert_eq!(rt; disk.list(alloc, "told").map(|names| names.len()), Ok(0));
-    assert_eq!(rt; disk.faults(), 0);
+    let mut dev = Device::new(Box::new(alloc, RealDisk::new(rt))?);
+    for (call, wanted) in [
+        ("make_dir told", DONE),
+        ("create told/b", DONE),
+        ("write_at told/b 3 hello", DONE),
+        ("write_at told/b 4 E", DONE),
+        ("read_front told/b 100", "\0\0\0hEllo"),
+        ("cut told/b 4", DONE),
+        ("cut told/b 6", DONE),
+        ("sync told/b", DONE),
+        ("read_front told/b 8", "\0\0\0h\0\0"),
+        ("read_front told/b 5", "\0\0\0h\0"),
+        ("create told/a", DONE),
+        ("list told", "names a b"),
+        ("make_dir told", THERE),
+        ("make_dir told/a", THERE),
+        ("make_dir told/none/d", MISSING),
+        ("create told/a", THERE),
+        ("create told", THERE),
+        ("create told/a/b", MISSING),
+        ("write_at told 0 x", OTHER),
+        ("write_at told/c 0 x", MISSING),
+        ("cut told/c 0", MISSING),
+        ("sync told", OTHER),
+        ("sync_dir told/a", OTHER),
+        ("list told/a", OTHER),
+        ("rename told/a told", OTHER),
+        ("rename told other", OTHER),
+        ("rename told/c told/d", MISSING),
+        ("rename told/a told/none/a", MISSING),
+        ("remove told", OTHER),
+        ("remove told/c", MISSING),
+        ("rename told/b told/a", DONE),
+        ("sync_dir told", DONE),
+        ("read_front told/a 9", "\0\0\0h\0\0"),
+        ("stat told/b", MISSING),
+        ("remove told/a", DONE),
+        ("list told", "names"),
+    ] {
+        let answer = told(alloc, &mut dev, call)?;
+        assert_eq!(rt; answer.as_slice(), wanted.as_bytes(), "{call}");
+    }
+    assert_eq!(rt; dev.faults(), 0);
     fs::remove_dir(&rt, "told")?;
-    Ok(())
-}
-
-#[test]
-fn the_file_system_refuses_by_what_stands_there(rt: HostRuntime) -> Result<(), Fail> {
-    let alloc = rt.alloc();
-    let mut disk = RealDisk::new(rt.clone()?);
-    disk.make_dir(alloc, "refused")?;
-    disk.create(alloc, "refused/a")?;
-    let there = Err(DiskError::Exists);
-    let missing = Err(DiskError::Missing);
-    let other = Err(DiskError::WrongNode);
-    assert_eq!(rt; disk.make_dir(alloc, "refused"), there);
-    assert_eq!(rt; disk.make_dir(alloc, "refused/a"), there);
-    assert_eq!(rt; disk.make_dir(alloc, "refused/none/d"), missing);
-    assert_eq!(rt; disk.create(alloc, "refused/a"), there);
-    assert_eq!(rt; disk.create(alloc, "refused"), there);
-    assert_eq!(rt; disk.create(alloc, "refused/a/b"), missing);
-    assert_eq!(rt; disk.write_at(alloc, "refused", 0, b"x"), other);
-    assert_eq!(rt; disk.write_at(alloc, "refused/b", 0, b"x"), missing);
-    assert_eq!(rt; disk.cut(alloc, "refused/b", 0), missing);
-    assert_eq!(rt; disk.sync(alloc, "refused"), other);
-    assert_eq!(rt; disk.sync_dir(alloc, "refused/a"), other);
-    assert_eq!(rt;
-        disk.list(alloc, "refused/a").map(|names| names.len()),
-        Err(DiskError::WrongNode)
-    );
-    assert_eq!(rt; disk.rename(alloc, "refused/a", "refused"), other);
-    assert_eq!(rt; disk.rename(alloc, "refused", "other"), other);
-    assert_eq!(rt; disk.rename(alloc, "refused/b", "refused/c"), missing);
-    assert_eq!(rt; disk.rename(alloc, "refused/a", "refused/none/a"), missing);
-    assert_eq!(rt; disk.remove(alloc, "refused"), other);
-    assert_eq!(rt; disk.remove(alloc, "refused/b"), missing);
-    disk.remove(alloc, "refused/a")?;
-    assert_eq!(rt; disk.faults(), 0);
-    fs::remove_dir(&rt, "refused")?;
     Ok(())
 }
 
