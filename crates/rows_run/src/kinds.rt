@@ -1,6 +1,6 @@
 //! Cases of the kind of a folder.
 
-use crate::nodes::{disk_of, text_of};
+use case_disks::{disk_of, text_of};
 use case_files::{Answer, Case, CaseFault, Subject};
 use disk_model::Device;
 use folder_core::kind_of;

@@ -1,21 +1,15 @@
-//! The worked rows of whole runs, of scans and of disks: each case file is read, each case's run
-//! made and compared.
+//! The worked rows of folders and of whole runs: each case file is read, each case's run made and
+//! compared.
 #![tactic(auto)]
 
-mod disks;
+mod clock;
 mod kinds;
-mod nodes;
 mod runs;
 mod scans;
-#[cfg(test)]
-mod tests;
-mod trees;
 
-use crate::disks::DiskCalls;
 use crate::kinds::FolderKinds;
 use crate::runs::WholeRuns;
 use crate::scans::Scans;
-use crate::trees::Trees;
 use case_files::{Report, play_file, print_report};
 use mail_base::NoMemory;
 use std::io;
@@ -31,8 +25,6 @@ fn main(rt: HostRuntime) -> io::Result<ExitCode> {
 
 /// Plays each case file, a line a file.
 fn play_all(rt: &HostRuntime, report: &mut Report) -> Result<(), NoMemory> {
-    play_file(rt, &Trees, "trees", report)?;
-    play_file(rt, &DiskCalls, "disks", report)?;
     play_file(rt, &FolderKinds, "kinds", report)?;
     play_file(rt, &Scans, "scans", report)?;
     play_file(rt, &WholeRuns, "runs", report)

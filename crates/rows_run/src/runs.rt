@@ -1,13 +1,14 @@
 //! Cases of whole runs over memory: words, nodes, keys and moments in; screens, notes and the
 //! status out.
 
-use crate::nodes::{disk_of, numbers_of, text_of, words_of};
+use crate::clock::LateClock;
+use case_disks::{disk_of, numbers_of, text_of, words_of};
 use case_files::{Answer, Case, CaseFault, Subject};
 use disk_model::{Device, Disk};
 use folder_core::{Archive, Drivers};
 use mail_base::{Bytes, MemoryClock, MemorySink, MemorySource, Words};
 use mbox_folder::MboxDriver;
-use mutt_run::{Events, Trace, run};
+use mutt_run::{Event, Events, Trace, run};
 use std::alloc::Global;
 
 /// The most bytes that a case prints.
@@ -17,15 +18,16 @@ const OUT_ROOM: usize = 1_000_000;
 const ERRS_ROOM: usize = 10_000;
 
 /// `words` and then each `word` are the command line, `failing keys`, `failing out`, `failing errs`
-/// and `failing disk` the calls that fail, from 0. `screen N` is a whole screen, `row N M` a line
-/// of it, both from 1; `after PATH` what stands there then.
+/// and `failing disk` the calls that fail, from 0. The clock is `behind` so many seconds. `screen N`
+/// is a whole screen, `row N M` a line of it, both from 1; `pressed` the moment of a key; `after
+/// PATH` what stands there then.
 pub struct WholeRuns;
 
 impl Subject for WholeRuns {
     fn inputs(&self) -> &[&[u8]] {
         &[
             b"file", b"folder", b"failing", b"stop", b"others", b"words", b"word", b"keys",
-            b"moments",
+            b"moments", b"behind",
         ]
     }
 
@@ -48,7 +50,7 @@ struct Streams {
     keys: MemorySource,
     out: MemorySink,
     errs: MemorySink,
-    clock: MemoryClock,
+    clock: LateClock,
 }
 
 fn streams_of(alloc: Global, case: &Case) -> Result<Streams, CaseFault> {
@@ -60,15 +62,23 @@ fn streams_of(alloc: Global, case: &Case) -> Result<Streams, CaseFault> {
         keys: MemorySource::new(keys, failing_keys),
         out: MemorySink::new(alloc, OUT_ROOM, failing_out)?,
         errs: MemorySink::new(alloc, ERRS_ROOM, failing_errs)?,
-        clock: MemoryClock::new(numbers_of(alloc, case, b"moments")?),
+        clock: clock_of(alloc, case)?,
     })
 }
 
-/// How a run ended: its exit status, and the number of letters that it met.
-#[derive(Clone, Copy)]
+fn clock_of(alloc: Global, case: &Case) -> Result<LateClock, CaseFault> {
+    let behind = case.number(b"behind")?.unwrap_or(0);
+    Ok(LateClock {
+        clock: MemoryClock::new(numbers_of(alloc, case, b"moments")?),
+        behind: i64::try_from(behind).unwrap_or(0),
+    })
+}
+
+/// How a run ended: its exit status, and what it met.
+#[derive(Drop)]
 struct End {
     status: u8,
-    letters: usize,
+    trace: Trace,
 }
 
 fn end_of_run(
@@ -98,13 +108,18 @@ fn end_of_run(
     );
     Ok(End {
         status: status.number(),
-        letters: trace.archive.len(),
+        trace,
     })
 }
 
 fn put_end(answer: &mut Answer, end: &End, streams: &Streams) -> Result<(), CaseFault> {
     answer.put_count(b"status", usize::from(end.status))?;
-    answer.put_count(b"letters", end.letters)?;
+    answer.put_count(b"letters", end.trace.archive.len())?;
+    for event in end.trace.events.as_slice() {
+        if let Event::Pressed { moment, .. } = event {
+            answer.put_number(b"pressed", *moment)?;
+        }
+    }
     answer.put(b"errs", streams.errs.written().as_slice())?;
     answer.put(b"out", streams.out.written().as_slice())
 }

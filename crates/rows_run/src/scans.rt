@@ -1,6 +1,6 @@
 //! Cases of folders that are scanned by the driver of their kind.
 
-use crate::nodes::{disk_of, text_of};
+use case_disks::{disk_of, text_of};
 use case_files::{Answer, Case, CaseFault, Subject};
 use disk_model::Device;
 use folder_core::{Archive, Driver, Known, Letter, Listed};

@@ -1,64 +1,55 @@
-//! Cases of the calls of a disk in memory, and of its images.
+//! Calls of a disk as a case writes them, and their answers.
 
-use crate::nodes::{disk_of, text_of};
-use case_files::{Answer, Case, CaseFault, Entry, Subject, read_number};
-use disk_model::{Device, Disk, DiskError, FileRead, Fill, Stat, Tree};
-use mail_base::{Bytes, Names, NoMemory};
+use case_disks::text_of;
+use case_files::{Answer, Case, CaseFault, read_number};
+use disk_model::{Device, Disk, DiskError, FileRead, Stat};
+use mail_base::{Bytes, Names};
 use std::alloc::Global;
 
-/// Each `call` is its name and, with blanks between them, its path and what else it takes; the rest
-/// of a `write_at` are its bytes. `image N FILL` is asked for behind the calls: N name operations,
-/// and `kept`, `written` or the number of a byte.
-pub struct DiskCalls;
-
-impl Subject for DiskCalls {
-    fn inputs(&self) -> &[&[u8]] {
-        &[b"file", b"folder", b"failing", b"stop", b"others", b"call"]
-    }
-
-    fn answer(&self, alloc: Global, case: &Case) -> Result<Answer, CaseFault> {
-        let mut answer = Answer::new(alloc);
-        let mut dev = Device::new(Box::new(alloc, disk_of(alloc, case)?)?);
-        for entry in case.entries.as_slice() {
-            if entry.key.as_slice() == b"call".as_slice() {
-                put_call(
-                    alloc,
-                    &mut answer,
-                    &mut dev,
-                    text_of(entry.value.as_slice())?,
-                )?;
-            }
-        }
-        let mark = dev.mark();
-        let faults = dev.faults();
-        answer.put_text(b"mark", format!(in alloc; "{mark}")?.as_str())?;
-        answer.put_text(b"faults", format!(in alloc; "{faults}")?.as_str())?;
-        for entry in case.entries.as_slice() {
-            if entry.role() == b"image".as_slice() {
-                put_image(alloc, &mut answer, &dev, entry)?;
-            }
-        }
-        Ok(answer)
-    }
+/// Whether the stamp of a file is told. That of a file on the system differs from run to run.
+#[derive(Clone, Copy)]
+pub enum Stamps {
+    Told,
+    Untold,
 }
 
-/// Makes a call and puts what it answers.
-pub fn put_call(
+/// Makes each `call` of a case and puts what it answers, and then the mark of the disk and its
+/// faults.
+pub fn put_calls(
+    alloc: Global,
+    answer: &mut Answer,
+    dev: &mut Device,
+    case: &Case,
+    stamps: Stamps,
+) -> Result<(), CaseFault> {
+    for entry in case.entries.as_slice() {
+        if entry.key.as_slice() == b"call".as_slice() {
+            put_call(alloc, answer, dev, text_of(entry.value.as_slice())?, stamps)?;
+        }
+    }
+    let mark = dev.mark();
+    let faults = dev.faults();
+    answer.put_text(b"mark", format!(in alloc; "{mark}")?.as_str())?;
+    answer.put_text(b"faults", format!(in alloc; "{faults}")?.as_str())
+}
+
+fn put_call(
     alloc: Global,
     answer: &mut Answer,
     dev: &mut Device,
     call: &str,
+    stamps: Stamps,
 ) -> Result<(), CaseFault> {
     let (name, rest) = call.split_once(' ').unwrap_or((call, ""));
     match name {
         "list" => put_names(alloc, answer, dev.disk.list(alloc, rest)),
-        "stat" => put_stat(alloc, answer, dev.disk.stat(rest)),
+        "stat" => put_stat(alloc, answer, dev.disk.stat(rest), stamps),
         "create" => put_done(alloc, answer, dev.disk.create(alloc, rest)),
         "sync" => put_done(alloc, answer, dev.disk.sync(alloc, rest)),
         "remove" => put_done(alloc, answer, dev.disk.remove(alloc, rest)),
         "sync_dir" => put_done(alloc, answer, dev.disk.sync_dir(alloc, rest)),
         "make_dir" => put_done(alloc, answer, dev.disk.make_dir(alloc, rest)),
-        _ => put_longer_call(alloc, answer, dev, name, rest),
+        _ => put_longer_call(alloc, answer, dev, call, stamps),
     }
 }
 
@@ -67,14 +58,15 @@ fn put_longer_call(
     alloc: Global,
     answer: &mut Answer,
     dev: &mut Device,
-    name: &str,
-    rest: &str,
+    call: &str,
+    stamps: Stamps,
 ) -> Result<(), CaseFault> {
+    let (name, rest) = call.split_once(' ').ok_or(CaseFault::BadInput)?;
     let (path, more) = rest.split_once(' ').ok_or(CaseFault::BadInput)?;
     match name {
         "read_all" => {
             let limit = read_number(more.as_bytes())?;
-            put_file(alloc, answer, dev.disk.read_all(alloc, path, limit))
+            put_file(alloc, answer, dev.disk.read_all(alloc, path, limit), stamps)
         }
         "read_front" => put_front(alloc, answer, dev, path, read_number(more.as_bytes())?),
         "cut" => {
@@ -125,9 +117,10 @@ fn put_stat(
     alloc: Global,
     answer: &mut Answer,
     stat: Result<Stat, DiskError>,
+    stamps: Stamps,
 ) -> Result<(), CaseFault> {
     match stat {
-        Ok(stat) => put_node(alloc, answer, stat),
+        Ok(stat) => put_node(alloc, answer, stat, stamps),
         Err(error) => put_error(alloc, answer, error),
     }
 }
@@ -136,10 +129,11 @@ fn put_file(
     alloc: Global,
     answer: &mut Answer,
     read: Result<FileRead, DiskError>,
+    stamps: Stamps,
 ) -> Result<(), CaseFault> {
     match read {
         Ok(read) => {
-            put_node(alloc, answer, read.stat)?;
+            put_node(alloc, answer, read.stat, stamps)?;
             answer.put(b"bytes", read.bytes.as_slice())
         }
         Err(error) => put_error(alloc, answer, error),
@@ -161,52 +155,25 @@ fn put_front(
     }
 }
 
-fn put_node(alloc: Global, answer: &mut Answer, stat: Stat) -> Result<(), CaseFault> {
+fn put_node(
+    alloc: Global,
+    answer: &mut Answer,
+    stat: Stat,
+    stamps: Stamps,
+) -> Result<(), CaseFault> {
     if stat.folder {
         return answer.put(b"answer", b"folder");
     }
     let length = stat.length;
     let stamp = stat.stamp;
-    let text = format!(in alloc; "file of {length}, stamp {stamp}")?;
+    let text = match stamps {
+        Stamps::Told => format!(in alloc; "file of {length}, stamp {stamp}")?,
+        Stamps::Untold if stamp > 0 => format!(in alloc; "file of {length}, stamped")?,
+        Stamps::Untold => format!(in alloc; "file of {length}, not stamped")?,
+    };
     answer.put_text(b"answer", text.as_str())
 }
 
 fn put_error(alloc: Global, answer: &mut Answer, error: DiskError) -> Result<(), CaseFault> {
     answer.put_text(b"answer", format!(in alloc; "{error}")?.as_str())
-}
-
-/// Puts an image as a line a node: `PATH/` of a folder, `PATH: BYTES` of a file.
-fn put_image(
-    alloc: Global,
-    answer: &mut Answer,
-    dev: &Device,
-    entry: &Entry,
-) -> Result<(), CaseFault> {
-    let about = text_of(entry.about())?;
-    let (names, fill) = about.split_once(' ').ok_or(CaseFault::BadInput)?;
-    let fill = match fill {
-        "kept" => Fill::Kept,
-        "written" => Fill::Written,
-        byte => Fill::Byte(u8::try_from(read_number(byte.as_bytes())?).unwrap_or(0)),
-    };
-    match dev.image(alloc, read_number(names.as_bytes())?, fill)? {
-        Some(tree) => answer.put(entry.key.as_slice(), lines_of(alloc, &tree)?.as_slice()),
-        None => answer.put(entry.key.as_slice(), b"none"),
-    }
-}
-
-fn lines_of(alloc: Global, tree: &Tree) -> Result<Bytes, NoMemory> {
-    let mut text = Bytes::new(alloc);
-    for node in tree.as_slice() {
-        text.append(node.path.as_slice())?;
-        match &node.bytes {
-            Some(bytes) => {
-                text.append(b": ")?;
-                text.append(bytes.as_slice())?;
-            }
-            None => text.push(b'/')?,
-        }
-        text.push(b'\n')?;
-    }
-    Ok(text)
 }

@@ -1,4 +1,4 @@
-//! What the cases of disks share: nodes, calls that fail, lists of words and numbers.
+//! Nodes, calls that fail and what others do, as a case names them.
 
 use case_files::{Case, CaseFault, Entry, read_number};
 use disk_model::{Node, Tree, is_tree};

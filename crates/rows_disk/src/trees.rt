@@ -1,6 +1,6 @@
 //! Cases of lists of nodes that are a tree, and of others.
 
-use crate::nodes::tree_of;
+use case_disks::tree_of;
 use case_files::{Answer, Case, CaseFault, Subject};
 use disk_model::is_tree;
 use std::alloc::Global;

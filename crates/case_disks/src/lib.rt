@@ -1,0 +1,6 @@
+//! What the cases of disks share: disks in memory, lists of words and numbers as cases name them.
+#![tactic(auto)]
+
+mod nodes;
+
+pub use nodes::{disk_of, numbers_of, text_of, tree_of, words_of};

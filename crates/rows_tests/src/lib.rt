@@ -1,0 +1,5 @@
+//! What no case file can say of the libraries below, as tests.
+#![tactic(auto)]
+
+#[cfg(test)]
+mod tests;
