@@ -20,12 +20,9 @@ use Rattle.folder_core.specs.Reads.{bytes_refusal, count_refusal, letters_from, 
 use Rattle.folder_core.specs.Reads.{most_messages}
 use Rattle.folder_core.specs.Scanned.{IsScanned, ListsNew, Saw, ids_from}
 use Rattle.mbox_folder.specs.FileSeen.{FileSeen, IsRead}
-use Rattle.mbox_folder.specs.ListedFile.{IsListedFile, IsUnlisted}
+use Rattle.mbox_folder.specs.ListedFile.{IsListedFile, IsUnlisted, ListsFile, known_file}
 
 -- A listed file was seen.
-
-abbrev pub known_file : KnownFolder → List Listed → FileRead → KnownFolder
-known_file known came file = record known { listing = came; bytes = file.bytes.items; stamps = file.stat.stamp ∷ [] }
 
 saw_listed : (file : FileRead) (found : Found) (archive new_archive : List Mail) (known : KnownFolder)
     (old new : Option Past)
@@ -50,13 +47,12 @@ saw_listed file found archive new_archive known (Some past) (Some next) listed s
 
 pub saw_found : (file : FileRead) (found : Found) (archive new_archive : List Mail) (known new_known : KnownFolder)
     (old new : Option Past)
-    → IsListedFile file.bytes.items archive new_archive found.came.items
-    → new_known ≡ known_file known found.came.items file
+    → ListsFile file archive new_archive known new_known found
     → GoesOn (FileSeen (Ok file) known.path) old new
     → GoesOn (Saw Mbox archive new_archive new_known (Ok found)) old new
-saw_found file found archive new_archive known new_known old new listed put seen =
-    subst (λ (k : KnownFolder). GoesOn (Saw Mbox archive new_archive k (Ok found)) old new) (sym put)
-    (saw_listed file found archive new_archive known old new listed seen)
+saw_found file found archive new_archive known new_known old new lists seen =
+    subst (λ (k : KnownFolder). GoesOn (Saw Mbox archive new_archive k (Ok found)) old new) (sym lists.put)
+    (saw_listed file found archive new_archive known old new lists.listed seen)
 
 -- A refusal was seen.
 
@@ -120,19 +116,19 @@ saw_unlisted why file archive new_archive known new_known old new same told seen
 
 -- A file is refused for want of ids only where they may run out.
 full_count : (letters count : ℕ) → count_refusal letters count ≡ Some ArchiveFull
-    → most_letters < letters + (most_messages + 1)
+    → most_letters < letters + most_messages
 full_count letters count is = many (nat_lt most_messages count) refl is
   where
     many : (t : Bool) → nat_lt most_messages count ≡ t
         → (if t then Some (TooMany count) else
         (if nat_lt most_letters (letters + count) then Some ArchiveFull else None)) ≡ Some ArchiveFull
-        → most_letters < letters + (most_messages + 1)
+        → most_letters < letters + most_messages
     many true over is = absurd (cc)
     many false over is = out (nat_lt most_letters (letters + count)) refl is
       where
         out : (u : Bool) → nat_lt most_letters (letters + count) ≡ u
             → (if u then Some ArchiveFull else None) ≡ Some ArchiveFull
-            → most_letters < letters + (most_messages + 1)
+            → most_letters < letters + most_messages
         out true past is = omega (
           arith,
           ltb-false most_messages count over,
@@ -142,12 +138,12 @@ full_count letters count is = many (nat_lt most_messages count) refl is
         out false past is = absurd (cc)
 
 pub full_unlisted : (letters : ℕ) (bytes : List ℕ) (why : ScanError) → why ≡ ArchiveFull → IsUnlisted bytes letters why
-    → most_letters < letters + (most_messages + 1)
+    → most_letters < letters + most_messages
 full_unlisted letters bytes why full told =
     begun (begins_mailbox bytes) refl (subst (λ (e : ScanError). IsUnlisted bytes letters e) full told)
   where
     begun : (t : Bool) → begins_mailbox bytes ≡ t → bytes_refusal letters bytes ≡ Some ArchiveFull
-        → most_letters < letters + (most_messages + 1)
+        → most_letters < letters + most_messages
     begun true begins is = full_count letters (length (raw_messages bytes))
         (sym (ap (λ (b : Bool). if b then count_refusal letters (length (raw_messages bytes)) else Some (NotMailbox 0))
         begins) ∙ is)
@@ -167,18 +163,16 @@ new_ids id [] = refl
 new_ids id (raw ∷ raws) = ap (λ ids. record { 0 = id } ∷ ids) (new_ids (id + 1) raws)
 
 pub lists_new : (file : FileRead) (found : Found) (archive new_archive : List Mail) (known new_known : KnownFolder)
-    → IsListedFile file.bytes.items archive new_archive found.came.items
-    → found.gone.items ≡ [] → found.reflagged.items ≡ []
-    → new_known ≡ known_file known found.came.items file
+    → ListsFile file archive new_archive known new_known found
     → ListsNew found archive new_archive known new_known
-lists_new file found archive new_archive known new_known listed gone reflagged put = record {
-  none_gone = gone;
-  none_reflagged = reflagged;
-  ids = ap (map (λ l. l.id)) listed.listed ∙ new_ids (length archive) (raw_messages file.bytes.items)
-      ∙ ap (ids_from (length archive)) (sym listed.listed);
+lists_new file found archive new_archive known new_known lists = record {
+  none_gone = lists.gone;
+  none_reflagged = lists.reflagged;
+  ids = ap (map (λ l. l.id)) lists.listed.listed ∙ new_ids (length archive) (raw_messages file.bytes.items)
+      ∙ ap (ids_from (length archive)) (sym lists.listed.listed);
   added = letters_from (length archive) (raw_messages file.bytes.items);
-  archived = listed.letters;
-  each = each_letter (length archive) (raw_messages file.bytes.items) ∙ ap length (sym listed.listed);
+  archived = lists.listed.letters;
+  each = each_letter (length archive) (raw_messages file.bytes.items) ∙ ap length (sym lists.listed.listed);
   kept = subst (λ (k : KnownFolder). k ≡ record known
-      { listing = found.came.items; bytes = k.bytes; stamps = k.stamps }) (sym put) refl;
+      { listing = found.came.items; bytes = k.bytes; stamps = k.stamps }) (sym lists.put) refl;
 }

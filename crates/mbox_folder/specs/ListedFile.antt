@@ -1,8 +1,11 @@
 -- What the messages of a file make of an archive.
-use Rattle.std.specs.Prelude.{◌≡◌, ◌++◌, ℕ, List, length, Some, None}
+use Rattle.std.specs.Prelude.{◌≡◌, ◌++◌, ◌∷◌, [], ℕ, List, length, Some, None}
+use Rattle.disk_model.specs.declared.answers.FileRead.{FileRead}
 use Rattle.folder_core.specs.declared.error.ScanError.{ScanError}
 use Rattle.folder_core.specs.declared.error.ScanError.TheVariants.{NoMemory}
+use Rattle.folder_core.specs.declared.listing.Found.{Found}
 use Rattle.folder_core.specs.declared.listing.Listed.{Listed}
+use Rattle.folder_core.specs.Known.{KnownFolder}
 use Rattle.folder_core.specs.Letters.{Mail}
 use Rattle.folder_core.specs.Mbox.{raw_messages}
 use Rattle.folder_core.specs.Reads.{bytes_refusal, letters_from, listed_from}
@@ -17,3 +20,15 @@ pub record IsListedFile (bytes : List ℕ) (archive new_archive : List Mail) (ca
 abbrev pub IsUnlisted : List ℕ → ℕ → ScanError → Type 0
 IsUnlisted bytes letters NoMemory = Unit {0}
 IsUnlisted bytes letters why = bytes_refusal letters bytes ≡ Some why
+
+-- what is known of a folder once a file was read and its messages are listed
+abbrev pub known_file : KnownFolder → List Listed → FileRead → KnownFolder
+known_file known came file = record known { listing = came; bytes = file.bytes.items; stamps = file.stat.stamp ∷ [] }
+
+-- the messages of a file are found, all of them new, and known
+pub record ListsFile (file : FileRead) (archive new_archive : List Mail) (known new_known : KnownFolder)
+    (found : Found) : Type 0 where
+  pub listed : IsListedFile file.bytes.items archive new_archive found.came.items
+  pub gone : found.gone.items ≡ []
+  pub reflagged : found.reflagged.items ≡ []
+  pub put : new_known ≡ known_file known found.came.items file

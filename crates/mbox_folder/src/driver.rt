@@ -1,14 +1,10 @@
 //! The driver of mailboxes in one file.
 
-ghost use Rattle.std.specs.Prelude.{◌≡◌, ◌≤◌, ◌<◌, ◌+◌, ◌∷◌, [], length, map, take, IfOk, IfErr, OnErr, IsErrOf};
-ghost use Rattle.mail_base.specs.Faults.{Rose};
+ghost use Rattle.std.specs.Prelude.{◌≡◌, length, map, take, IfOk, IfErr, OnErr};
 ghost use Rattle.mail_base.specs.declared.kind.Kind.TheVariants.{Mbox};
-ghost use Rattle.disk_model.specs.Judge.{GoesOn};
-ghost use Rattle.disk_model.specs.Looking.{LooksOnly};
 ghost use Rattle.folder_core.specs.Letters.{plain_letter};
-ghost use Rattle.folder_core.specs.Reads.{most_letters, most_messages};
-ghost use Rattle.folder_core.specs.Scanned.{ListsNew, Saw};
-ghost use Rattle.mbox_folder.specs.ListedFile.{IsListedFile, IsUnlisted};
+ghost use Rattle.folder_core.specs.Scanned.{Scans};
+ghost use Rattle.mbox_folder.specs.ListedFile.{IsUnlisted, ListsFile};
 
 use crate::listing::list_file;
 use crate::read::read_file;
@@ -52,23 +48,8 @@ fn scan_file(
     known: &mut Known,
     archive: &mut Archive,
 ) -> Result<Found, ScanError>
-    ensures saw { GoesOn (Saw Mbox (map plain_letter archive.old.items)
-        (map plain_letter archive.new.items) known.new
-        result)
-        (seen disk.old).told (seen disk.new).told }
-    ensures lists { IfOk result (λ found. ListsNew found (map plain_letter archive.old.items)
-        (map plain_letter
-        archive.new.items)
-        known.old known.new) }
-    ensures err_archive { OnErr result (archive.new.items ≡ archive.old.items) }
-    ensures err_known { OnErr result (known.new ≡ known.old) }
-    ensures full { IsErrOf result ScanError.ArchiveFull
-        → most_letters < length archive.old.items + most_messages }
-    ensures looks { LooksOnly (seen disk.old).told (seen disk.new).told }
-    ensures marks { (seen disk.old).marks ≤ (seen disk.new).marks }
-    ensures faults { (seen disk.old).faults ≤ (seen disk.new).faults }
-    ensures cause { IsErrOf result ScanError.Fault → Rose (seen disk.old).faults
-        (seen disk.new).faults }
+    ensures { Scans Mbox archive.old.items archive.new.items known.old known.new result
+        (seen disk.old) (seen disk.new) }
 {
     let file = match read_file(alloc, disk, known.path()) {
         Ok(file) => file,
@@ -91,15 +72,8 @@ fn list_known(
     known: &mut Known,
     archive: &mut Archive,
 ) -> Result<Found, ScanError>
-    ensures listed { IfOk result (λ found. IsListedFile file.bytes.items
-        (map plain_letter archive.old.items) (map plain_letter archive.new.items) found.came.items) }
-    ensures gone { IfOk result (λ found. found.gone.items ≡ []) }
-    ensures reflagged { IfOk result (λ found. found.reflagged.items ≡ []) }
-    ensures known { IfOk result (λ found. known.new ≡ record known.old {
-      listing = found.came.items;
-      bytes = file.bytes.items;
-      stamps = file.stat.stamp ∷ [];
-    }) }
+    ensures ok { IfOk result (λ found. ListsFile file (map plain_letter archive.old.items)
+        (map plain_letter archive.new.items) known.old known.new found) }
     ensures unknown { OnErr result (known.new ≡ known.old) }
     ensures unlisted { IfErr result (IsUnlisted file.bytes.items
         (length (map plain_letter archive.old.items))) }

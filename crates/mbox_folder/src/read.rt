@@ -1,10 +1,10 @@
 //! The one read of a mailbox.
 
-ghost use Rattle.std.specs.Prelude.{◌≤◌, IfErr, IsErrOf};
+ghost use Rattle.std.specs.Prelude.{IfErr, IsErrOf};
 ghost use Rattle.std.specs.Str.{IsUtf8};
 ghost use Rattle.mail_base.specs.Faults.{Rose};
 ghost use Rattle.disk_model.specs.Judge.{GoesOn};
-ghost use Rattle.disk_model.specs.Looking.{LooksOnly};
+ghost use Rattle.disk_model.specs.Looking.{OnlyLooks};
 ghost use Rattle.mbox_folder.specs.FileSeen.{FileSeen, IsFileError};
 
 use disk_model::{Disk, DiskError, FileRead};
@@ -21,9 +21,7 @@ pub fn read_file(alloc: Global, disk: &mut dyn Disk, path: &Bytes) -> Result<Fil
     ensures seen { GoesOn (FileSeen result path.now.items) (seen disk.old).told
         (seen disk.new).told }
     ensures possible { IfErr result IsFileError }
-    ensures looks { LooksOnly (seen disk.old).told (seen disk.new).told }
-    ensures marks { (seen disk.old).marks ≤ (seen disk.new).marks }
-    ensures faults { (seen disk.old).faults ≤ (seen disk.new).faults }
+    ensures looks { OnlyLooks (seen disk.old) (seen disk.new) }
     ensures cause { IsErrOf result ScanError.Fault → Rose (seen disk.old).faults
         (seen disk.new).faults }
 {

@@ -78,7 +78,8 @@ pub fn run<K: Source, O: Sink, E: Sink, C: Clock>(
         (plain_events trace.new.events.items))
         → Appends (O.written out.old) (O.written out.new)
         (concat (screens_from (chosen (plain_words words.now.items))
-        (map plain_letter trace.new.archive.items) Unopened (plain_events trace.new.events.items))) }
+        (map plain_letter trace.new.archive.items) Unopened
+        (plain_events trace.new.events.items))) }
 
     // What the events say of the disk is true.
     ensures happened { GoesOn (AllHappened (λ kind. Any (λ d. sort (d.vtable, d.value) ≡ kind)
@@ -107,7 +108,8 @@ pub fn run<K: Source, O: Sink, E: Sink, C: Clock>(
         (seen (dev.new.disk.vtable, dev.new.disk.value)).faults }
     ensures keys_cause { result ≡ KeysFault → Rose (K.faults keys.old) (K.faults keys.new) }
     ensures out_cause { result ≡ OutFault
-        → Rose (O.faults out.old) (O.faults out.new) ⊎ Rose (E.faults errs.old) (E.faults errs.new) }
+        → Rose (O.faults out.old) (O.faults out.new)
+        ⊎ Rose (E.faults errs.old) (E.faults errs.new) }
 
     // With a readable folder and no fault the run is done, or stops for memory or at the limit of
     // keys.

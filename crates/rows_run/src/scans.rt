@@ -71,12 +71,16 @@ fn put_listed(alloc: Global, answer: &mut Answer, listed: &Listed) -> Result<(),
     let number = format!(in alloc; "{id} ")?;
     let letters = [
         number.as_str(),
-        if seen { "S" } else { "" },
-        if aged { "O" } else { "" },
-        if replied { "R" } else { "" },
-        if flagged { "F" } else { "" },
+        letter_of(seen, "S"),
+        letter_of(aged, "O"),
+        letter_of(replied, "R"),
+        letter_of(flagged, "F"),
     ];
     answer.put_joined(b"listed", &letters)
+}
+
+fn letter_of(flag: bool, letter: &str) -> &str {
+    if flag { letter } else { "" }
 }
 
 fn put_letter(alloc: Global, answer: &mut Answer, letter: &Letter) -> Result<(), CaseFault> {

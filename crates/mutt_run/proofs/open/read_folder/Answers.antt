@@ -15,16 +15,16 @@ returns-in-Ok-scan-clause-looked g c =
     ∙ ap (λ (k : KnownFolder). record k
     { listing = c.in-Ok-scan.found.came.items; bytes = c.scan.new.known.bytes; stamps = c.scan.new.known.stamps })
     c.in-Ok-new.ensures))
-    c.in-Ok.ensures.kind c.in-Ok.ensures.looks c.in-Ok-scan.ensures.looks c.in-Ok-scan.ensures.saw
+    c.in-Ok.ensures.kind c.in-Ok.ensures.looks.looks c.in-Ok-scan.ensures.only.looks c.in-Ok-scan.ensures.saw
 
 pub returns-in-Ok-scan-clause-looks : goal.returns-in-Ok-scan-clause-looks
-returns-in-Ok-scan-clause-looks g c = looks_then _ _ _ c.in-Ok.ensures.looks c.in-Ok-scan.ensures.looks
+returns-in-Ok-scan-clause-looks g c = looks_then _ _ _ c.in-Ok.ensures.looks.looks c.in-Ok-scan.ensures.only.looks
 
 pub returns-clause-looked : goal.returns-clause-looked
 returns-clause-looked g c =
     refused_told _ c.in-Ok.kind _ c.in-Err-scan.why _ _ _ _ _ _ (ap (map plain_letter) c.requires)
     (ap (λ (k : KnownFolder). k.path) (c.in-Err-scan.ensures.err_known ∙ c.in-Ok-new.ensures))
-    c.in-Ok.ensures.kind c.in-Err-scan.ensures.looks c.in-Err-scan.ensures.saw (search rules)
+    c.in-Ok.ensures.kind c.in-Err-scan.ensures.only.looks c.in-Err-scan.ensures.saw (search rules)
 
 pub returns-clause-looks : goal.returns-clause-looks
-returns-clause-looks g c = looks_then _ _ _ c.in-Ok.ensures.looks c.in-Err-scan.ensures.looks
+returns-clause-looks g c = looks_then _ _ _ c.in-Ok.ensures.looks.looks c.in-Err-scan.ensures.only.looks
