@@ -24,10 +24,10 @@ pub record IsKept (file : File) : Type 0 where
       → slice_index file.kept place ≡ slice_index file.bytes place
 
 -- outside of these places the bytes are the same
-abbrev Outside : ℕ → ℕ → List ℕ → List ℕ → Type 0
+abbrev pub Outside : ℕ → ℕ → List ℕ → List ℕ → Type 0
 Outside low high old new = (place : ℕ) → (place < low) ⊎ (high ≤ place) → slice_index new place ≡ slice_index old place
 
-touched_if : (low high place : ℕ) (open_ one two rest : Bool) → nat_lt place low ≡ one → nat_lt place high ≡ two
+pub touched_if : (low high place : ℕ) (open_ one two rest : Bool) → nat_lt place low ≡ one → nat_lt place high ≡ two
     → (if not one && two then open_ else rest) ≡ false → open_ ≡ true
     → ((place < low) ⊎ (high ≤ place)) × (rest ≡ false)
 touched_if low high place open_ true two rest a b is fact = (inl (ltb-true place low a), is)
@@ -65,7 +65,7 @@ of_length-below size bytes place small there =
 back : (low place : ℕ) → low ≤ place → low + (place - low) ≡ place
 back low place above = omega arith
 
-outside_written : (at : ℕ) (piece bytes : List ℕ)
+pub outside_written : (at : ℕ) (piece bytes : List ℕ)
     → Outside (min at (length bytes)) (at + length piece) bytes
     (of_length at bytes ++ piece ++ drop (at + length piece) bytes)
 outside_written at piece bytes place (inl below) =

@@ -205,7 +205,7 @@ suc_place : (x y : ℕ) (xs ys : List ℕ)
     → (place : ℕ) → place < length ys → slice_index xs place ≡ slice_index ys place
 suc_place x y xs ys same place there = same (suc place) (omega arith)
 
-same_bytes : (xs ys : List ℕ) → length xs ≡ length ys
+pub same_bytes : (xs ys : List ℕ) → length xs ≡ length ys
     → ((place : ℕ) → place < length ys → slice_index xs place ≡ slice_index ys place) → xs ≡ ys
 same_bytes [] [] long same = refl
 same_bytes [] (y ∷ ys) long same = absurd (omega (arith, long))
@@ -216,7 +216,7 @@ same_bytes (x ∷ xs) (y ∷ ys) long same =
     ap (λ (z : ℕ). z ∷ xs) head ∙ ap (λ (l : List ℕ). y ∷ l) tail
 
 -- a durable file is left as it is
-left_durable : (file : File) (left : List ℕ) → IsDurable file → IsLeft file left → left ≡ file.bytes
+pub left_durable : (file : File) (left : List ℕ) → IsDurable file → IsLeft file left → left ≡ file.bytes
 left_durable file left d h =
     let long : length left ≡ length file.bytes = omega (arith, d.least, d.greatest, h.no_shorter, h.no_longer) in
     same_bytes left file.bytes long

@@ -14,7 +14,7 @@ use Rattle.disk_model.specs.State.{can_take, changed, cut_to, durable, file_at, 
 use Rattle.disk_model.specs.State.{is_file, moved, name_at, name_in, next_number, number_of, replaced, run_entries, settled}
 use Rattle.disk_model.specs.State.{state_of, with_made, with_names, without, written}
 use Rattle.disk_model.specs.Laws.{AllBelow, AreNamedOnce, AreStampedOnce, EachNameHasItsFile, HasFiles, HasOwn, IsFileBelow}
-use Rattle.disk_model.specs.Laws.{IsNew, IsOther, Older}
+use Rattle.disk_model.specs.Laws.{IsNew, IsOther, NamesAreOfFiles, Older}
 
 -- Stamps.
 
@@ -460,3 +460,7 @@ files_first first good = record {
 pub each_name_has_its_file : EachNameHasItsFile
 each_name_has_its_file past mark first =
     files_run (take mark past.journal) (state_of past.first) (files_first past.first first)
+
+pub names_are_of_files : NamesAreOfFiles
+names_are_of_files state path number h is =
+    record { name = is; below = below_in (length state.files) state.names path number (in_names state.names path number is) h.below }

@@ -1,8 +1,8 @@
 -- Laws of pasts and of what a stop leaves of them.
-use Rattle.std.specs.Prelude.{true, ◌≡◌, ◌<◌, ◌⊎◌, ℕ, List, [], ◌∷◌, Option, Some, None, length, map}
+use Rattle.std.specs.Prelude.{true, ◌≡◌, ◌<◌, ◌≤◌, ◌⊎◌, ℕ, List, [], ◌∷◌, ◌++◌, Option, Some, None, length, map}
 use Rattle.disk_model.specs.Tree.{TreeNode, is_first_tree, is_tree}
-use Rattle.disk_model.specs.Journal.{Action, Rename, SyncDir, Done, Own, Others, Past}
-use Rattle.disk_model.specs.State.{File, Name, State, after_entry, file_at}
+use Rattle.disk_model.specs.Journal.{Action, Answer, Call, WriteAt, Sync, Rename, SyncDir, Done, Own, Others, Past}
+use Rattle.disk_model.specs.State.{File, Name, State, after_entry, file_at, name_at}
 use Rattle.disk_model.specs.State.{replaced, state_after, state_at, tree_after, tree_at, tree_of}
 use Rattle.disk_model.specs.Lawful.{IsLawful}
 use Rattle.disk_model.specs.Images.{IsImage, IsLeft, IsTreeOf}
@@ -115,3 +115,52 @@ pub record HasFiles (state : State) : Type 0 where
 -- so it is at each mark of a past that began with a tree
 abbrev pub EachNameHasItsFile : Type 0
 EachNameHasItsFile = (past : Past) (mark : ℕ) → is_first_tree past.first ≡ true → HasFiles (state_at past mark)
+
+-- Pieces that we put at the end of a file.
+
+-- The path is that of a file, the one of that number.
+pub record IsNamed (state : State) (path : List ℕ) (number : ℕ) : Type 0 where
+  pub name : name_at state.names path ≡ Some (Some number)
+  pub below : number < length state.files
+
+-- the bytes of the file of that number
+abbrev pub bytes_in : State → ℕ → List ℕ
+bytes_in state number = (file_at state.files number).bytes
+
+-- the call that puts a piece behind the bytes of the file of that number
+abbrev pub append_call : State → List ℕ → ℕ → List ℕ → Call
+append_call state path number piece = WriteAt path (length (bytes_in state number)) piece
+
+-- The bytes of before are left, and behind them any bytes, at most so many.
+pub record IsTorn (before : List ℕ) (most : ℕ) (left : List ℕ) : Type 0 where
+  pub tail : List ℕ
+  pub bytes : left ≡ before ++ tail
+  pub within : length tail ≤ most
+
+-- what was on the disk is left whatever that call answers, and of the piece any bytes, no more than it has
+abbrev pub AppendedIsTorn : Type 0
+AppendedIsTorn = (state : State) (path piece left : List ℕ) (number : ℕ) (answer : Answer) → IsNamed state path number
+    → IsDurable (file_at state.files number)
+    → IsLeft (file_at (after_entry state (Own (append_call state path number piece) answer)).files number) left
+    → IsTorn (bytes_in state number) (length piece) left
+
+-- until it is synced all of these may be left
+abbrev pub AppendedMayBeTorn : Type 0
+AppendedMayBeTorn = (state : State) (path piece left : List ℕ) (number : ℕ) → IsNamed state path number
+    → IsDurable (file_at state.files number) → IsTorn (bytes_in state number) (length piece) left
+    → IsLeft (file_at (after_entry state (Own (append_call state path number piece) Done)).files number) left
+
+-- the state behind a piece that was put there and synced
+abbrev pub after_append : State → List ℕ → ℕ → List ℕ → State
+after_append state path number piece =
+    after_entry (after_entry state (Own (append_call state path number piece) Done)) (Own (Sync path) Done)
+
+-- once the file is synced, what it had is left and the whole piece, also where the file was not on the disk before
+abbrev pub SyncedAppendStands : Type 0
+SyncedAppendStands = (state : State) (path piece left : List ℕ) (number : ℕ) → IsNamed state path number
+    → IsLeft (file_at (after_append state path number piece).files number) left → left ≡ bytes_in state number ++ piece
+
+-- where each name has its file, what stands at a path by its number is so named
+abbrev pub NamesAreOfFiles : Type 0
+NamesAreOfFiles = (state : State) (path : List ℕ) (number : ℕ) → HasFiles state
+    → name_at state.names path ≡ Some (Some number) → IsNamed state path number

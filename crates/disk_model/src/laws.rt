@@ -43,3 +43,12 @@ pub fn a_barrier_leaves_one_row_of_names()
 pub fn what_others_write_stands()
     ensures { spec.WrittenByOthersStands }
 {}
+
+/// What we put at the end of a file that is on the disk may be torn by a stop: the bytes of before
+/// are left, and behind them any bytes, no more than were given, until the file is synced.
+pub fn an_appended_piece_may_be_torn_until_it_is_synced()
+    ensures torn { spec.AppendedIsTorn }
+    ensures any { spec.AppendedMayBeTorn }
+    ensures synced { spec.SyncedAppendStands }
+    ensures named { spec.NamesAreOfFiles }
+{}
