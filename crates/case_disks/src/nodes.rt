@@ -3,7 +3,8 @@
 use case_files::{Case, CaseFault, Entry, read_number};
 use disk_model::{Node, Tree, is_tree};
 use mail_base::{Bytes, Numbers, Words};
-use memory_disk::{Action, Foreign, MemoryDisk, Script};
+use disk_state::Action;
+use memory_disk::{Foreign, MemoryDisk, Script};
 use std::alloc::Global;
 
 /// A disk with the nodes of the case, of which the calls under `failing disk` and all from call

@@ -1,9 +1,5 @@
 pub mod Acting
-pub mod Files
-pub mod Firsts
 pub mod Oks
-pub mod Places
-pub mod Planning
 pub mod Sounds
 pub mod Steps
 pub mod Turns

@@ -5,9 +5,6 @@ use Rattle.disk_model.specs.declared.answers.Stat.{Stat}
 use Rattle.disk_model.specs.declared.answers.FileRead.{FileRead}
 use Rattle.disk_model.specs.declared.answers.DiskError.{DiskError}
 
-abbrev pub ok_stat : Stat → Result Stat DiskError
-ok_stat stat = Ok stat
-
 -- equal names are equal answers
 pub ok_names : (names other : List (List ℕ)) → names ≡ other
     → ◌≡◌ {A = Result (List (List ℕ)) DiskError} (Ok names) (Ok other)

@@ -15,7 +15,8 @@ use Rattle.disk_model.proofs.Runs.{run_entries-append}
 use Rattle.disk_model.proofs.TextNames.{AllText, text_begins, text_run}
 use Rattle.memory_disk.specs.Plan.{Planned, due, left}
 use Rattle.memory_disk.specs.Entering.{Acts, Scene}
-use Rattle.memory_disk.specs.Remembered.{IsSound, Remembered, answer_by_refusal, met}
+use Rattle.disk_state.specs.Plain.{answer_by_refusal}
+use Rattle.memory_disk.specs.Remembered.{IsSound, Remembered, met}
 
 -- Others have acted.
 

@@ -19,7 +19,8 @@ use Rattle.disk_model.proofs.Runs.{run_entries-append}
 use Rattle.disk_model.proofs.Refusing.{IsCause, MayRefuse, may_refuse}
 use Rattle.memory_disk.specs.Plan.{Planned, due, left}
 use Rattle.memory_disk.specs.Remembered.{Faces, IsFaulty, IsMeeting, Leaves, Plays, Remembered, Settles, begun}
-use Rattle.memory_disk.specs.Remembered.{answer_by_refusal, entered, met, seen_of, state_now, tree_now}
+use Rattle.disk_state.specs.Plain.{answer_by_refusal}
+use Rattle.memory_disk.specs.Remembered.{entered, met, seen_of, state_now, tree_now}
 use Rattle.memory_disk.proofs.Steps.{IsGiven, makes_step, memory_step, no_memory}
 
 -- The disk that a call meets.

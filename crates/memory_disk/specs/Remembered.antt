@@ -12,6 +12,7 @@ use Rattle.disk_model.specs.Seen.{Seen}
 use Rattle.disk_model.specs.Counts.{counted_up, faulted}
 use Rattle.disk_model.specs.declared.answers.DiskError.{DiskError}
 use Rattle.disk_model.specs.declared.answers.DiskError.TheVariants.{Fault, NoMemory}
+use Rattle.disk_state.specs.Plain.{answer_by_refusal}
 use Rattle.memory_disk.specs.Plan.{Planned, due, in_order, left}
 
 -- A disk in memory: its past, what others have done since, what they have still to do, which calls fail, the call from
@@ -102,11 +103,6 @@ answered result call disk =
       waiting = [];
       faults = faulted result disk.faults;
     }
-
--- the answer in the journal of a call that was refused so, or not
-abbrev pub answer_by_refusal : Option DiskError → Answer
-answer_by_refusal None = Done
-answer_by_refusal (Some why) = Refused why 0
 
 -- the faults after a call that was refused so, or not
 abbrev pub faults_by : Option DiskError → ℕ → ℕ

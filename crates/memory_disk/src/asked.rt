@@ -3,9 +3,10 @@
 ghost use Rattle.std.specs.Prelude.{◌≡◌, true, IfOk};
 ghost use Rattle.std.specs.Str.{is_utf8};
 ghost use Rattle.disk_model.specs.Lawful.{is_text};
-ghost use Rattle.memory_disk.specs.Plain.{plain_asked, plain_call};
+ghost use Rattle.disk_state.specs.Plain.{plain_call};
+ghost use Rattle.memory_disk.specs.Plain.{plain_asked};
 
-use crate::Call;
+use disk_state::Call;
 use mail_base::{Bytes, NoMemory};
 use std::alloc::Global;
 

@@ -1,31 +1,33 @@
 //! A disk in memory.
 
-ghost use Rattle.std.specs.Prelude.{◌≡◌, ◌≤◌, ◌↔◌, true, false, length, map, IsTrue, IfOk, OnOk, OnErr, if◌then◌else◌};
+ghost use Rattle.std.specs.Prelude.{◌≡◌, ◌≤◌, ◌↔◌, true, false, length, map};
+ghost use Rattle.std.specs.Prelude.{IsTrue, IfOk, OnOk, OnErr, if◌then◌else◌};
 ghost use Rattle.mail_base.specs.Faults.{Rose};
 ghost use Rattle.disk_model.specs.Answers.{AreText, IsPlainStat, IsWhole, LeavesFront};
-ghost use Rattle.disk_model.specs.Journal.{ListDir, StatPath, ReadFront, ReadAll, Create, WriteAt, Cut, Sync};
-ghost use Rattle.disk_model.specs.Journal.{Rename, Remove, SyncDir, MakeDir};
+ghost use Rattle.disk_model.specs.Journal.{ListDir, StatPath, ReadFront, ReadAll, Create, WriteAt};
+ghost use Rattle.disk_model.specs.Journal.{Cut, Sync, Rename, Remove, SyncDir, MakeDir};
 ghost use Rattle.disk_model.specs.Judge.{DoesStep, MakesStep, front_length, front_of, list_of};
-ghost use Rattle.disk_model.specs.Judge.{plain_front, plain_list, plain_read, read_length, read_of, stat_of};
+ghost use Rattle.disk_model.specs.Judge.{plain_front, plain_list, plain_read, read_length};
+ghost use Rattle.disk_model.specs.Judge.{read_of, stat_of};
 ghost use Rattle.disk_model.specs.Lawful.{IsAllowed, is_text};
 ghost use Rattle.disk_model.specs.Looking.{LooksOnly, is_look};
 ghost use Rattle.disk_model.specs.Node.{plain_node};
 ghost use Rattle.disk_model.specs.Refusals.{refusal};
 ghost use Rattle.disk_model.specs.Tree.{is_tree};
 ghost use Rattle.disk_model.specs.declared.answers.DiskError.TheVariants.{Fault};
-ghost use Rattle.memory_disk.specs.Plain.{plain_asked, plain_call, plain_planned};
-ghost use Rattle.memory_disk.specs.Remembered.{Faces, IsFaulty, IsMeeting, IsStopped, Plays, Settles};
-ghost use Rattle.memory_disk.specs.Remembered.{answer_by_refusal, begun, entered, faults_by, met, new_disk, seen_of, tree_now};
+ghost use Rattle.disk_state.specs.Plain.{answer_by_refusal, plain_call};
+ghost use Rattle.memory_disk.specs.Plain.{plain_asked, plain_planned};
+ghost use Rattle.memory_disk.specs.Remembered.{Faces, IsFaulty, IsMeeting, IsStopped, Plays};
+ghost use Rattle.memory_disk.specs.Remembered.{Settles, begun, entered, faults_by, met, new_disk};
+ghost use Rattle.memory_disk.specs.Remembered.{seen_of, tree_now};
 
 use crate::asked::{Asked, kept_call};
-use crate::bytes::put_front;
 use crate::entering::{act, enter};
-use crate::first::{First, first_of, state_with};
-use crate::images::{image_of, replay};
+use crate::front::put_front;
 use crate::plan::plan_of;
-use crate::state::State;
-use crate::{Action, Call, Entry, Foreign, Script};
+use crate::{Foreign, Script};
 use disk_model::{Disk, DiskError, FileRead, Fill, Stat, Tree};
+use disk_state::{Action, Call, Entry, First, State};
 use mail_base::{Names, NoMemory, Numbers};
 use std::alloc::Global;
 use std::marker::Model;
@@ -50,16 +52,16 @@ pub struct MemoryDisk {
 
 impl Model for MemoryDisk {
     ghost use Rattle.std.specs.Prelude.{map};
-    ghost use Rattle.memory_disk.specs.Plain.{plain_action, plain_entry, plain_kept, plain_planned, plain_state};
+    ghost use Rattle.disk_state.specs.Plain.{plain_action, plain_entry, plain_first, plain_state};
+    ghost use Rattle.memory_disk.specs.Plain.{plain_planned};
     ghost use Rattle.memory_disk.specs.Remembered.{IsSound, Remembered};
 
     ghost Value = { Remembered };
 
     ghost view = { λ d. record {
       past = record {
-        first = map plain_kept d.first.tree.items;
-        journal = map plain_entry
-            d.journal.items;
+        first = plain_first d.first;
+        journal = map plain_entry d.journal.items;
       };
       waiting = map plain_action d.waiting.items;
       plan = map plain_planned d.plan.items;
@@ -69,8 +71,9 @@ impl Model for MemoryDisk {
       faults = d.faults;
     } };
 
-    ghost invariant = { λ d. IsSound (map plain_kept d.first.tree.items) d.first.clock
-        (map plain_entry d.journal.items) (map plain_action d.waiting.items) (plain_state d.state) };
+    ghost invariant = { λ d. IsSound (plain_first d.first) d.first.clock
+        (map plain_entry d.journal.items) (map plain_action d.waiting.items)
+        (plain_state d.state) };
 }
 
 /// A call that has met others.
@@ -94,8 +97,8 @@ impl MemoryDisk {
         ensures { IfOk result (λ disk. disk ≡ new_disk (map plain_node tree.items)
             (map plain_planned script.items) fails.items stop) }
     {
-        let first = first_of(alloc, tree.as_slice())?;
-        let state = state_with(alloc, first.tree.as_slice(), first.clock)?;
+        let first = First::new(alloc, tree.as_slice())?;
+        let state = first.state(alloc)?;
         Ok(MemoryDisk {
             alloc,
             first,
@@ -244,9 +247,9 @@ impl Disk for MemoryDisk {
     }
 
     fn image(&self, alloc: Global, names: u64, fill: Fill) -> Result<Option<Tree>, NoMemory> {
-        let mut state = state_with(alloc, self.first.tree.as_slice(), self.first.clock)?;
-        replay(alloc, &mut state, self.journal.as_slice())?;
-        Ok(Some(image_of(alloc, &state, names, fill)?))
+        let mut state = self.first.state(alloc)?;
+        state.replay(alloc, self.journal.as_slice())?;
+        Ok(Some(state.image(alloc, names, fill)?))
     }
 
     fn list(&mut self, alloc: Global, dir: &str) -> Result<Names, DiskError>

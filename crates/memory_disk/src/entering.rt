@@ -5,14 +5,15 @@ ghost use Rattle.std.specs.Prelude.{OnOk, OnErr, vec_len, vec_capacity};
 ghost use Rattle.disk_model.specs.Journal.{Others, Own};
 ghost use Rattle.disk_model.specs.State.{after_entry};
 ghost use Rattle.memory_disk.specs.Entering.{Acts, IsUnchanged, is_due};
-ghost use Rattle.memory_disk.specs.Plain.{plain_action, plain_call, plain_entry};
-ghost use Rattle.memory_disk.specs.Plain.{plain_planned, plain_scene, plain_state};
+ghost use Rattle.disk_state.specs.Plain.{plain_action, plain_call, plain_entry};
+ghost use Rattle.disk_state.specs.Plain.{plain_state};
+ghost use Rattle.memory_disk.specs.Plain.{plain_planned, plain_scene};
 ghost use Rattle.memory_disk.specs.Plan.{due};
-ghost use Rattle.memory_disk.specs.Remembered.{answer_by_refusal};
+ghost use Rattle.disk_state.specs.Plain.{answer_by_refusal};
 
-use crate::state::State;
-use crate::{Action, Call, Entry, Foreign};
+use crate::Foreign;
 use disk_model::DiskError;
+use disk_state::{Action, Call, Entry, State};
 use mail_base::NoMemory;
 use std::alloc::Global;
 use std::mem;
@@ -25,7 +26,7 @@ pub(crate) fn act(
     plan: &mut Vec<Foreign>,
     call: u64,
 ) -> Result<(), NoMemory>
-    requires { state.old.clock + length plan.old.items < 2 ^ 127 }
+    requires { (plain_state state.old).clock + length plan.old.items < 2 ^ 127 }
     ensures acts { Acts call (plain_scene state.old waiting.old plan.old)
         (plain_scene state.new waiting.new plan.new) }
     ensures all { OnOk result (due call (map plain_planned plan.new.items) ≡ []) }
@@ -58,7 +59,7 @@ pub(crate) fn enter(
     call: Call,
     refused: Option<DiskError>,
 ) -> Result<(), NoMemory>
-    requires { state.old.clock < 2 ^ 127 }
+    requires { (plain_state state.old).clock < 2 ^ 127 }
     ensures state { OnOk result (plain_state state.new
         ≡ after_entry (plain_state state.old) (Own (plain_call call) (answer_by_refusal refused))) }
     ensures journal { OnOk result (map plain_entry journal.new.items ≡ map plain_entry

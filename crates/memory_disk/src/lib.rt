@@ -3,22 +3,11 @@
 #![tactic(auto)]
 
 mod asked;
-mod bytes;
-mod call;
 mod disk;
 mod entering;
-mod file;
-mod first;
-mod following;
-mod images;
-mod listing;
-mod names;
+mod front;
 mod plan;
-mod reading;
-mod refusals;
 mod script;
-mod state;
 
-pub use call::{Call, Entry};
 pub use disk::MemoryDisk;
-pub use script::{Action, Foreign, Script};
+pub use script::{Foreign, Script};

@@ -2,9 +2,11 @@
 
 ghost use Rattle.std.specs.Prelude.{◌≡◌, ◌≤◌, length, map, IfOk, OnOk};
 ghost use Rattle.memory_disk.specs.Plan.{in_order, place_before, planned};
-ghost use Rattle.memory_disk.specs.Plain.{plain_action, plain_planned};
+ghost use Rattle.disk_state.specs.Plain.{plain_action};
+ghost use Rattle.memory_disk.specs.Plain.{plain_planned};
 
-use crate::{Action, Foreign};
+use crate::Foreign;
+use disk_state::Action;
 use mail_base::{Bytes, NoMemory};
 use std::alloc::Global;
 

@@ -1,18 +1,7 @@
-//! What others do to a disk in memory.
+//! What others do to a disk in memory, and when.
 
-use mail_base::{Bytes, Series};
-
-/// What others do to a tree. An action that does not fit the tree does nothing.
-#[derive(Drop)]
-pub enum Action {
-    Append { path: Bytes, bytes: Bytes },
-    /// A new file.
-    Put { path: Bytes, bytes: Bytes },
-    Rename { from: Bytes, to: Bytes },
-    Remove { path: Bytes },
-    /// Replaces what the file holds.
-    Write { path: Bytes, bytes: Bytes },
-}
+use disk_state::Action;
+use mail_base::Series;
 
 /// An action of others before the call of that number. Calls are numbered from 0.
 #[derive(Drop)]

@@ -1,8 +1,9 @@
 use Rattle.std.proofs.Common.{◌≡◌, ◌<◌, ◌++◌, ◌∷◌, ◌∙◌, [], ap, sym, map, drop, length, List, refl}
 use Rattle.std.proofs.lemmas.List.{map-append}
 use Rattle.memory_disk.specs.Entering.{is_due}
-use Rattle.memory_disk.specs.Plain.{plain_action, plain_planned, plain_scene}
-use Rattle.memory_disk.specs.declared.script.Action.{Action}
+use Rattle.disk_state.specs.Plain.{plain_action}
+use Rattle.memory_disk.specs.Plain.{plain_planned, plain_scene}
+use Rattle.disk_state.specs.declared.action.Action.{Action}
 use Rattle.memory_disk.specs.declared.script.Foreign.{Foreign}
 use Rattle.memory_disk.proofs.Acting.{acts_more, first_item, same_first}
 use Rattle.memory_disk.proofs.entering.act.Goals as goal

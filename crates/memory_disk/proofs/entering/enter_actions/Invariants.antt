@@ -1,6 +1,6 @@
 use Rattle.std.proofs.Common.{◌≡◌, ◌+◌, ◌++◌, map, length, vec_len, vec_capacity}
 use Rattle.disk_model.specs.Journal.{Others}
-use Rattle.memory_disk.specs.Plain.{plain_action, plain_entry}
+use Rattle.disk_state.specs.Plain.{plain_action, plain_entry}
 use Rattle.memory_disk.proofs.entering.enter_actions.Given as goal
 
 abbrev pub invariant-loop-action : goal.invariant-loop-action

@@ -3,7 +3,7 @@ use Rattle.std.specs.List.{insert}
 use Rattle.memory_disk.specs.Plan.{place_before}
 use Rattle.memory_disk.specs.Plain.{plain_planned}
 use Rattle.memory_disk.specs.declared.script.Foreign.{Foreign}
-use Rattle.memory_disk.proofs.Planning.{map-insert}
+use Rattle.disk_state.proofs.Inserting.{map-insert}
 use Rattle.memory_disk.proofs.plan.put.Goals as goal
 
 pub returns : goal.returns

@@ -1,6 +1,7 @@
 use Rattle.std.proofs.Common.{refl, Ok}
 use Rattle.disk_model.specs.Judge.{done_by}
-use Rattle.memory_disk.specs.Plain.{plain_asked, plain_call}
+use Rattle.disk_state.specs.Plain.{plain_call}
+use Rattle.memory_disk.specs.Plain.{plain_asked}
 use Rattle.memory_disk.proofs.Turns.{err_step, no_bytes, refused_plays, turns, value_step, waits_plays}
 use Rattle.memory_disk.proofs.disk.MemoryDisk.change.Goals as goal
 

@@ -1,8 +1,9 @@
 use Rattle.std.proofs.Common.{ap, map, subst, sym}
 use Rattle.disk_model.specs.Lawful.{IsAllowed}
 use Rattle.disk_model.specs.State.{State, tree_of}
-use Rattle.memory_disk.specs.Plain.{plain_action, plain_call}
-use Rattle.memory_disk.specs.Remembered.{Remembered, answer_by_refusal, tree_now}
+use Rattle.disk_state.specs.Plain.{plain_action, plain_call}
+use Rattle.disk_state.specs.Plain.{answer_by_refusal}
+use Rattle.memory_disk.specs.Remembered.{Remembered, tree_now}
 use Rattle.memory_disk.proofs.Sounds.{sound_enters}
 use Rattle.memory_disk.proofs.disk.MemoryDisk.enter.Goals as goal
 

@@ -5,7 +5,7 @@ use Rattle.disk_model.specs.Names.{names_in}
 use Rattle.disk_model.specs.Tree.{TreeNode}
 use Rattle.disk_model.proofs.TextNames.{text_names, utf8_names}
 use Rattle.disk_model.proofs.Looking.{called_looks}
-use Rattle.memory_disk.specs.Plain.{plain_call, plain_names, plain_state}
+use Rattle.disk_state.specs.Plain.{plain_call, plain_names, plain_state}
 use Rattle.memory_disk.specs.contracts.disk.MemoryDisk.{the_view}
 use Rattle.memory_disk.proofs.Oks.{ok_names}
 use Rattle.memory_disk.proofs.Sounds.{sound_text}

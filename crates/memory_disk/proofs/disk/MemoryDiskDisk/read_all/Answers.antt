@@ -4,7 +4,7 @@ use Rattle.disk_model.specs.Judge.{plain_read, read_length, read_of}
 use Rattle.disk_model.specs.Tree.{TreeNode, node_at}
 use Rattle.disk_model.proofs.Answering.{length-read_value, read_answers, read_value}
 use Rattle.disk_model.proofs.Looking.{called_looks}
-use Rattle.memory_disk.specs.Plain.{plain_call, plain_state}
+use Rattle.disk_state.specs.Plain.{plain_call, plain_state}
 use Rattle.memory_disk.specs.Remembered.{tree_now}
 use Rattle.memory_disk.specs.contracts.disk.MemoryDisk.{the_view}
 use Rattle.memory_disk.proofs.Oks.{read_length_by}

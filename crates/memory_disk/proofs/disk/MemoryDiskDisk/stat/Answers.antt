@@ -4,7 +4,7 @@ use Rattle.disk_model.specs.Judge.{stat_of}
 use Rattle.disk_model.specs.Tree.{TreeNode, node_at}
 use Rattle.disk_model.proofs.Answering.{stat_answers, stat_value}
 use Rattle.disk_model.proofs.Looking.{called_looks}
-use Rattle.memory_disk.specs.Plain.{plain_call, plain_state}
+use Rattle.disk_state.specs.Plain.{plain_call, plain_state}
 use Rattle.memory_disk.specs.contracts.disk.MemoryDisk.{the_view}
 use Rattle.memory_disk.proofs.Turns.{err_step, granted, refused_plays, tree_met, turns, value_step, waits_plays}
 use Rattle.memory_disk.proofs.disk.MemoryDiskDisk.stat.Goals as goal
