@@ -12,7 +12,8 @@ use Rattle.disk_model.specs.State.{name_at, node_of, replaced, run_entries, sett
 use Rattle.disk_model.specs.State.{with_made, with_names, without, written}
 use Rattle.disk_model.specs.Images.{IsImage, IsLeft, IsLeftAt, IsOneOf, IsTreeOf, is_touched}
 use Rattle.disk_model.proofs.LawsOfFills.{IsKept, filled_left, kept_appended, kept_cut, kept_durable, kept_written}
-use Rattle.disk_model.specs.Laws.{IsDurable, NowIsImage, OthersAreBarrier, RenameIsWhole, SyncDirIsBarrier}
+use Rattle.disk_model.proofs.Eaches.{each_append, each_at, each_set}
+use Rattle.disk_model.specs.Laws.{Each, IsDurable, NowIsImage, OthersAreBarrier, RenameIsWhole, SyncDirIsBarrier}
 use Rattle.disk_model.specs.Laws.{ShownIsImage, SyncedStands, WrittenByOthersStands, unstamped}
 use Rattle.disk_model.specs.Fills.{filled, filled_at, filled_tree, names_after}
 use Rattle.disk_model.specs.declared.fill.Fill.{Fill}
@@ -21,23 +22,17 @@ use borrow.Author.Tests.{ltb-true}
 -- Each file keeps what a stop surely leaves of it.
 
 abbrev AllWithin : List File → Type 0
-AllWithin [] = Unit {0}
-AllWithin (file ∷ files) = IsKept file × AllWithin files
+AllWithin files = Each IsKept files
 
 file_within : (files : List File) (number : ℕ) → AllWithin files → IsKept (file_at files number)
-file_within [] number h = kept_durable [] 0
-file_within (file ∷ files) zero h = h.0
-file_within (file ∷ files) (suc number) h = file_within files number h.1
+file_within files number h = each_at IsKept files number (durable [] 0) (kept_durable [] 0) h
 
 set_within : (files : List File) (number : ℕ) (file : File) → AllWithin files → IsKept file
     → AllWithin (slice_set files number file)
-set_within [] number file h new = tt
-set_within (f ∷ files) zero file h new = (new, h.1)
-set_within (f ∷ files) (suc number) file h new = (h.0, set_within files number file h.1 new)
+set_within files number file h new = each_set IsKept files number (durable [] 0) file (λ old. new) h
 
 append_within : (files more : List File) → AllWithin files → AllWithin more → AllWithin (files ++ more)
-append_within [] more h m = m
-append_within (file ∷ files) more h m = (h.0, append_within files more h.1 m)
+append_within files more h m = each_append IsKept files more h m
 
 -- Each entry keeps it.
 

@@ -13,6 +13,7 @@ use Rattle.disk_model.specs.State.{File, Name, State, after_action, after_done, 
 use Rattle.disk_model.specs.State.{can_take, changed, cut_to, durable, file_at, files_of, first_clock, first_files, first_names}
 use Rattle.disk_model.specs.State.{is_file, moved, name_at, name_in, next_number, number_of, replaced, run_entries, settled}
 use Rattle.disk_model.specs.State.{state_of, with_made, with_names, without, written}
+use Rattle.disk_model.proofs.Eaches.{each_append, each_more, each_set, each_without}
 use Rattle.disk_model.specs.Laws.{AllBelow, AreNamedOnce, AreStampedOnce, EachNameHasItsFile, HasFiles, HasOwn, IsFileBelow}
 use Rattle.disk_model.specs.Laws.{IsNew, IsOther, NamesAreOfFiles, Older}
 
@@ -20,32 +21,32 @@ use Rattle.disk_model.specs.Laws.{IsNew, IsOther, NamesAreOfFiles, Older}
 
 -- a stamp above all is none of them
 fresh_above : (clock : ℕ) (files : List File) → Older clock files → IsNew clock files
-fresh_above clock [] h = tt
-fresh_above clock (file ∷ files) h = (λ same. absurd (omega (arith, same, h.0)), fresh_above clock files h.1)
+fresh_above clock files h =
+    each_more (λ (file : File). file.stamp < clock) (λ (file : File). clock ≡ file.stamp → ⊥)
+    (λ file below same. absurd (omega (arith, same, below))) files h
 
 older_more : (clock more : ℕ) (files : List File) → clock ≤ more → Older clock files → Older more files
-older_more clock more [] up h = tt
-older_more clock more (file ∷ files) up h = (omega (arith, h.0), older_more clock more files up h.1)
+older_more clock more files up h =
+    each_more (λ (file : File). file.stamp < clock) (λ (file : File). file.stamp < more)
+    (λ file below. omega (arith, below)) files h
 
-older_set : (clock : ℕ) (files : List File) (number : ℕ) (file : File) → file.stamp < clock → Older clock files
+older_set : (clock : ℕ) (files : List File) (number : ℕ) (file : File)
+    → ((file_at files number).stamp < clock → file.stamp < clock) → Older clock files
     → Older clock (slice_set files number file)
-older_set clock [] number file new h = tt
-older_set clock (f ∷ files) zero file new h = (new, h.1)
-older_set clock (f ∷ files) (suc number) file new h = (h.0, older_set clock files number file new h.1)
+older_set clock files number file new h =
+    each_set (λ (f : File). f.stamp < clock) files number (durable [] 0) file new h
 
 older_append : (clock : ℕ) (files more : List File) → Older clock files → Older clock more → Older clock (files ++ more)
-older_append clock [] more h m = m
-older_append clock (file ∷ files) more h m = (h.0, older_append clock files more h.1 m)
+older_append clock files more h m = each_append (λ (f : File). f.stamp < clock) files more h m
 
-new_set : (stamp : ℕ) (files : List File) (number : ℕ) (file : File) → (stamp ≡ file.stamp → ⊥) → IsNew stamp files
+new_set : (stamp : ℕ) (files : List File) (number : ℕ) (file : File)
+    → ((stamp ≡ (file_at files number).stamp → ⊥) → stamp ≡ file.stamp → ⊥) → IsNew stamp files
     → IsNew stamp (slice_set files number file)
-new_set stamp [] number file other h = tt
-new_set stamp (f ∷ files) zero file other h = (other, h.1)
-new_set stamp (f ∷ files) (suc number) file other h = (h.0, new_set stamp files number file other h.1)
+new_set stamp files number file other h =
+    each_set (λ (f : File). stamp ≡ f.stamp → ⊥) files number (durable [] 0) file other h
 
 new_append : (stamp : ℕ) (files more : List File) → IsNew stamp files → IsNew stamp more → IsNew stamp (files ++ more)
-new_append stamp [] more h m = m
-new_append stamp (file ∷ files) more h m = (h.0, new_append stamp files more h.1 m)
+new_append stamp files more h m = each_append (λ (f : File). stamp ≡ f.stamp → ⊥) files more h m
 
 -- a file with a stamp above all
 stamped_set : (clock : ℕ) (files : List File) (number : ℕ) (file : File) → file.stamp ≡ clock → Older clock files
@@ -54,7 +55,7 @@ stamped_set clock [] number file is old h = tt
 stamped_set clock (f ∷ files) zero file is old h =
     (subst (λ (s : ℕ). IsNew s files) (sym is) (fresh_above clock files old.1), h.1)
 stamped_set clock (f ∷ files) (suc number) file is old h = (
-  new_set f.stamp files number file (λ same. absurd (omega (arith, same, is, old.0))) h.0,
+  new_set f.stamp files number file (λ other same. absurd (omega (arith, same, is, old.0))) h.0,
   stamped_set clock files number file is old.1 h.1,
 )
 
@@ -67,56 +68,33 @@ stamped_more clock (f ∷ files) file is old h = (
 )
 
 -- a file that keeps its stamp
-new_same : (stamp : ℕ) (files : List File) (number : ℕ) (file : File) → file.stamp ≡ (file_at files number).stamp
-    → IsNew stamp files → IsNew stamp (slice_set files number file)
-new_same stamp [] number file is h = tt
-new_same stamp (f ∷ files) zero file is h = ((λ same. h.0 (same ∙ is)), h.1)
-new_same stamp (f ∷ files) (suc number) file is h = (h.0, new_same stamp files number file is h.1)
-
 stamped_same : (files : List File) (number : ℕ) (file : File) → file.stamp ≡ (file_at files number).stamp
     → AreStampedOnce files → AreStampedOnce (slice_set files number file)
 stamped_same [] number file is h = tt
 stamped_same (f ∷ files) zero file is h = (subst (λ (s : ℕ). IsNew s files) (sym is) h.0, h.1)
-stamped_same (f ∷ files) (suc number) file is h =
-    (new_same f.stamp files number file is h.0, stamped_same files number file is h.1)
-
-older_same : (clock : ℕ) (files : List File) (number : ℕ) (file : File) → file.stamp ≡ (file_at files number).stamp
-    → Older clock files → Older clock (slice_set files number file)
-older_same clock [] number file is h = tt
-older_same clock (f ∷ files) zero file is h = (omega (arith, is, h.0), h.1)
-older_same clock (f ∷ files) (suc number) file is h = (h.0, older_same clock files number file is h.1)
+stamped_same (f ∷ files) (suc number) file is h = (
+  new_set f.stamp files number file (λ other same. other (same ∙ is)) h.0,
+  stamped_same files number file is h.1,
+)
 
 -- Numbers.
 
 below_more : (count more : ℕ) (names : List Name) → count ≤ more → AllBelow count names → AllBelow more names
-below_more count more [] up h = tt
-below_more count more (name ∷ names) up h = (by_file name.file h.0, below_more count more names up h.1)
+below_more count more names up h =
+    each_more (λ (name : Name). IsFileBelow count name.file) (λ (name : Name). IsFileBelow more name.file)
+    (λ name. by_file name.file) names h
   where
-    by_file : (file : Option ℕ) → IsFileBelow file count → IsFileBelow file more
+    by_file : (file : Option ℕ) → IsFileBelow count file → IsFileBelow more file
     by_file None h = tt
     by_file (Some number) h = omega (arith, h)
 
-below_if : (b : Bool) (count : ℕ) (name : Name) (rest : List Name) → IsFileBelow name.file count → AllBelow count rest
-    → AllBelow count (if b then rest else name ∷ rest)
-below_if true count name rest here more = more
-below_if false count name rest here more = (here, more)
-
 below_without : (path : List ℕ) (count : ℕ) (names : List Name) → AllBelow count names
     → AllBelow count (without path names)
-below_without path count [] h = tt
-below_without path count (name ∷ names) h =
-    below_if (bytes_eq name.path path) count name (without path names) h.0 (below_without path count names h.1)
-
-other_if : (b : Bool) (number : ℕ) (name : Name) (rest : List Name) → (name.file ≡ Some number → ⊥)
-    → IsOther number rest → IsOther number (if b then rest else name ∷ rest)
-other_if true number name rest here more = more
-other_if false number name rest here more = (here, more)
+below_without path count names h = each_without (λ (name : Name). IsFileBelow count name.file) path names h
 
 other_without : (path : List ℕ) (number : ℕ) (names : List Name) → IsOther number names
     → IsOther number (without path names)
-other_without path number [] h = tt
-other_without path number (name ∷ names) h =
-    other_if (bytes_eq name.path path) number name (without path names) h.0 (other_without path number names h.1)
+other_without path number names h = each_without (λ (name : Name). name.file ≡ Some number → ⊥) path names h
 
 own_without : (path : List ℕ) (file : Option ℕ) (names : List Name) → HasOwn file names
     → HasOwn file (without path names)
@@ -135,7 +113,7 @@ once_without path (name ∷ names) h =
     (once_without path names h.1)
 
 -- a number past all files is nobody's
-other_file : (file : Option ℕ) (count : ℕ) → IsFileBelow file count → file ≡ Some count → ⊥
+other_file : (file : Option ℕ) (count : ℕ) → IsFileBelow count file → file ≡ Some count → ⊥
 other_file None count h is = none_some count is
   where
     none_some : (n : ℕ) → ◌≡◌ {A = Option ℕ} None (Some n) → ⊥
@@ -146,8 +124,9 @@ other_file (Some number) count h is = omega (arith, h, same number count is)
     same m n e = cc
 
 other_above : (count : ℕ) (names : List Name) → AllBelow count names → IsOther count names
-other_above count [] h = tt
-other_above count (name ∷ names) h = (other_file name.file count h.0, other_above count names h.1)
+other_above count names h =
+    each_more (λ (name : Name). IsFileBelow count name.file) (λ (name : Name). name.file ≡ Some count → ⊥)
+    (λ name. other_file name.file count) names h
 
 -- The name of a file that is moved.
 
@@ -181,7 +160,7 @@ below_in : (count : ℕ) (names : List Name) (path : List ℕ) (number : ℕ) �
 below_in count [] path number is h = absurd (none_two number is)
 below_in count (name ∷ names) path number is h =
     by_name (number < count) (bytes_eq name.path path) name (name_in names path) number is
-    (λ here. subst (λ (f : Option ℕ). IsFileBelow f count) here h.0)
+    (λ here. subst (λ (f : Option ℕ). IsFileBelow count f) here h.0)
     (λ there. below_in count names path number there h.1)
 
 other_no : (names : List Name) (path : List ℕ) (number : ℕ) → name_in names path ≡ Some (Some number)
@@ -223,7 +202,7 @@ files_changed (Some (Some number)) change state stamps h =
           (omega (arith, length-set state.files number file)) h.below;
       once = h.once;
       stamps = stamped_set state.clock state.files number file is h.older h.stamps;
-      older = older_set (state.clock + 1) state.files number file (omega (arith, is))
+      older = older_set (state.clock + 1) state.files number file (λ old. omega (arith, is))
           (older_more state.clock (state.clock + 1) state.files (omega arith) h.older);
     }
 
@@ -238,7 +217,7 @@ files_settled (Some (Some number)) state h = record {
   )) h.below;
   once = h.once;
   stamps = stamped_same state.files number _ refl h.stamps;
-  older = older_same state.clock state.files number _ refl h.older;
+  older = older_set state.clock state.files number _ (λ old. old) h.older;
 }
 
 files_moved : (at : Option (Option ℕ)) (from to : List ℕ) (state : State) → name_at state.names from ≡ at
@@ -383,7 +362,7 @@ once_first (node ∷ nodes) number =
     (own_first node.bytes number nodes, once_first nodes (next_number node.bytes number))
 
 below_node : (bytes : Option (List ℕ)) (stamp number count : ℕ) (rest : List File)
-    → number + length (files_of bytes stamp ++ rest) ≤ count → IsFileBelow (number_of bytes number) count
+    → number + length (files_of bytes stamp ++ rest) ≤ count → IsFileBelow count (number_of bytes number)
 below_node None stamp number count rest h = tt
 below_node (Some bytes) stamp number count rest h = omega (arith, h)
 

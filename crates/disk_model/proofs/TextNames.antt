@@ -18,23 +18,17 @@ use Rattle.disk_model.specs.State.{run_entries, settled, state_of, tree_of, with
 use Rattle.disk_model.specs.Lawful.{AreLawful, IsLawfulAt, is_text}
 use Rattle.disk_model.specs.Names.{behind_slash, more_names, name_of, names_in, place_of, put_name}
 use Rattle.disk_model.specs.Answers.{AreText}
+use Rattle.disk_model.specs.Laws.{Each}
+use Rattle.disk_model.proofs.Eaches.{each_without}
 
 -- each of these names has a path of text
 abbrev pub AllText : List Name → Type 0
-AllText [] = Unit {0}
-AllText (name ∷ names) = (is_utf8 name.path ≡ true) × AllText names
+AllText names = Each (λ (name : Name). is_utf8 name.path ≡ true) names
 
 -- Names that are left, made and moved.
 
-text_if : (b : Bool) (name : Name) (rest : List Name) → is_utf8 name.path ≡ true → AllText rest
-    → AllText (if b then rest else name ∷ rest)
-text_if true name rest text texts = texts
-text_if false name rest text texts = (text, texts)
-
 text_without : (path : List ℕ) (names : List Name) → AllText names → AllText (without path names)
-text_without path [] texts = tt
-text_without path (name ∷ names) texts =
-    text_if (bytes_eq name.path path) name (without path names) texts.0 (text_without path names texts.1)
+text_without path names texts = each_without (λ (name : Name). is_utf8 name.path ≡ true) path names texts
 
 text_changed : (at : Option (Option ℕ)) (change : ℕ → File → File) (state : State) → AllText state.names
     → AllText (changed at change state).names
@@ -200,8 +194,7 @@ text_name path text =
 -- The names in a folder are text.
 
 abbrev pub AllUtf8 : List (List ℕ) → Type 0
-AllUtf8 [] = Unit {0}
-AllUtf8 (name ∷ names) = IsUtf8 name × AllUtf8 names
+AllUtf8 names = Each IsUtf8 names
 
 utf8_insert : (names : List (List ℕ)) (place : ℕ) (name : List ℕ) → AllUtf8 names → IsUtf8 name
     → AllUtf8 (insert names place name)

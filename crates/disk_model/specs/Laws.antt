@@ -65,20 +65,23 @@ ShownIsImage = (past : Past) (count : ℕ) (fill : Fill) → IsImage (state_afte
 
 -- Names with files of their own.
 
+-- each of these is so
+abbrev pub Each : {A : Type 0} → (A → Type 0) → List A → Type 0
+Each IsSo [] = Unit {0}
+Each IsSo (x ∷ xs) = IsSo x × Each IsSo xs
+
 -- a file's number is below this one, where it is a file's
-abbrev pub IsFileBelow : Option ℕ → ℕ → Type 0
-IsFileBelow None count = Unit {0}
-IsFileBelow (Some number) count = number < count
+abbrev pub IsFileBelow : ℕ → Option ℕ → Type 0
+IsFileBelow count None = Unit {0}
+IsFileBelow count (Some number) = number < count
 
 -- all numbers of files are below this one
 abbrev pub AllBelow : ℕ → List Name → Type 0
-AllBelow count [] = Unit {0}
-AllBelow count (name ∷ names) = IsFileBelow name.file count × AllBelow count names
+AllBelow count names = Each (λ (name : Name). IsFileBelow count name.file) names
 
 -- no name has this file
 abbrev pub IsOther : ℕ → List Name → Type 0
-IsOther number [] = Unit {0}
-IsOther number (name ∷ names) = (name.file ≡ Some number → ⊥) × IsOther number names
+IsOther number names = Each (λ (name : Name). name.file ≡ Some number → ⊥) names
 
 -- no name has this one's file, where it is a file's
 abbrev pub HasOwn : Option ℕ → List Name → Type 0
@@ -92,8 +95,7 @@ AreNamedOnce (name ∷ names) = HasOwn name.file names × AreNamedOnce names
 
 -- no file has this stamp
 abbrev pub IsNew : ℕ → List File → Type 0
-IsNew stamp [] = Unit {0}
-IsNew stamp (file ∷ files) = (stamp ≡ file.stamp → ⊥) × IsNew stamp files
+IsNew stamp files = Each (λ (file : File). stamp ≡ file.stamp → ⊥) files
 
 -- no two files have one stamp
 abbrev pub AreStampedOnce : List File → Type 0
@@ -102,8 +104,7 @@ AreStampedOnce (file ∷ files) = IsNew file.stamp files × AreStampedOnce files
 
 -- all stamps are below this one
 abbrev pub Older : ℕ → List File → Type 0
-Older clock [] = Unit {0}
-Older clock (file ∷ files) = (file.stamp < clock) × Older clock files
+Older clock files = Each (λ (file : File). file.stamp < clock) files
 
 -- Each name of a file has a file, no two have one, and no two files have one stamp, nor the next one.
 pub record HasFiles (state : State) : Type 0 where

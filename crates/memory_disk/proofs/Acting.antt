@@ -1,44 +1,15 @@
 -- Others act, one after another.
-use Rattle.std.proofs.Common.{◌≡◌, ◌<◌, ◌≤◌, ◌+◌, ◌++◌, ◌∷◌, ◌∙◌, [], ℕ, Bool, true, false, List, Option, Some, None, not}
+use Rattle.std.proofs.Common.{◌≡◌, ◌<◌, ◌++◌, ◌∷◌, ◌∙◌, [], ℕ, Bool, true, false, List, not}
 use Rattle.std.proofs.Common.{length, map, drop, get_or, nat_lt, if◌then◌else◌, refl, sym, ap, arith, append_assoc}
 use Rattle.std.proofs.Common.{length-append}
 use Rattle.std.proofs.lemmas.List.{map-append}
-use Rattle.disk_model.specs.Journal.{Action, Appends, Puts, Renames, Removes, Writes, Entry, Others}
-use Rattle.disk_model.specs.State.{File, State, after_action, appended, barrier, can_make, can_take, changed, is_file}
-use Rattle.disk_model.specs.State.{moved, name_at, replaced, run_entries, with_made, with_names, without}
+use Rattle.disk_model.specs.Journal.{Action, Entry, Others}
+use Rattle.disk_model.specs.State.{State, after_action, barrier}
+use Rattle.disk_model.specs.State.{run_entries}
+use Rattle.disk_model.proofs.Clocks.{clock-after_entry}
 use Rattle.disk_model.proofs.Runs.{run_entries-append}
 use Rattle.memory_disk.specs.Plan.{Planned, due, left}
 use Rattle.memory_disk.specs.Entering.{Acts, Scene, is_due}
-
--- The clock goes up by one at most.
-
-clock_changed : (at : Option (Option ℕ)) (change : ℕ → File → File) (state : State)
-    → (changed at change state).clock ≤ state.clock + 1
-clock_changed None change state = omega arith
-clock_changed (Some None) change state = omega arith
-clock_changed (Some (Some number)) change state = omega arith
-
-clock_moved : (at : Option (Option ℕ)) (from to : List ℕ) (state : State)
-    → (moved at from to state).clock ≤ state.clock + 1
-clock_moved None from to state = omega arith
-clock_moved (Some None) from to state = omega arith
-clock_moved (Some (Some number)) from to state = omega arith
-
-clock_if : (b : Bool) (next state : State) → next.clock ≤ state.clock + 1
-    → (if b then next else state).clock ≤ state.clock + 1
-clock_if true next state h = h
-clock_if false next state h = omega arith
-
-clock-after_action : (action : Action) (state : State) → (after_action action state).clock ≤ state.clock + 1
-clock-after_action (Appends path piece) state = clock_changed (name_at state.names path) (appended piece) state
-clock-after_action (Puts path bytes) state =
-    clock_if (can_make state.names path) (with_made path bytes state) state (omega arith)
-clock-after_action (Renames from to) state =
-    clock_if (can_take state.names to) (moved (name_at state.names from) from to state) state
-    (clock_moved (name_at state.names from) from to state)
-clock-after_action (Removes path) state =
-    clock_if (is_file (name_at state.names path)) (with_names (without path state.names) state) state (omega arith)
-clock-after_action (Writes path bytes) state = clock_changed (name_at state.names path) (replaced bytes) state
 
 -- One action more.
 
@@ -84,7 +55,7 @@ acts_more call first old new foreign h plan is state waiting =
             arith,
             h.clock,
             ap (λ (s : State). s.clock) state,
-            clock-after_action foreign.action old.state,
+            clock-after_entry (Others foreign.action) old.state,
             length-append h.actions (foreign.action ∷ []),
           );
     }

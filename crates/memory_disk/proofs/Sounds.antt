@@ -1,16 +1,17 @@
 -- What is kept of a disk stays sound.
-use Rattle.std.proofs.Common.{◌≡◌, ◌≤◌, ◌^◌, ◌+◌, ◌++◌, ◌∷◌, ◌∙◌, [], ℕ, Bool, true, false, List, Option, Some, None, length}
+use Rattle.std.proofs.Common.{◌≡◌, ◌≤◌, ◌^◌, ◌++◌, ◌∷◌, ◌∙◌, [], ℕ, Bool, true, false, List, Option, Some, None, length}
 use Rattle.std.proofs.Common.{Result, Ok, Err, OnOk, map, nat_lt, if◌then◌else◌, refl, sym, ap, subst, arith, append_assoc, length-append}
 use Rattle.std.proofs.lemmas.List.{append-nil, length-map, map-append}
 use Rattle.disk_model.specs.Tree.{TreeNode, is_first_tree}
-use Rattle.disk_model.specs.Journal.{Action, Call, ListDir, StatPath, ReadFront, ReadAll, Create, WriteAt, Cut, Sync}
-use Rattle.disk_model.specs.Journal.{Rename, Remove, SyncDir, MakeDir, Entry, Own, Others}
-use Rattle.disk_model.specs.State.{State, after_done, after_entry, after_refused, changed, cut_to, moved, name_at}
-use Rattle.disk_model.specs.State.{first_clock, run_entries, settled, state_of, tree_of, written, File}
+use Rattle.disk_model.specs.Journal.{Action, Call}
+use Rattle.disk_model.specs.Journal.{Entry, Own, Others}
+use Rattle.disk_model.specs.State.{State, after_entry}
+use Rattle.disk_model.specs.State.{first_clock, run_entries, state_of, tree_of}
 use Rattle.disk_model.specs.Lawful.{AreLawful, IsAllowed, is_text}
 use Rattle.disk_model.specs.Refusals.{refusal}
 use Rattle.disk_model.specs.declared.answers.DiskError.{DiskError}
 use Rattle.disk_model.specs.declared.answers.DiskError.TheVariants.{Missing, WrongNode, Exists, Long, Fault, NoMemory}
+use Rattle.disk_model.proofs.Clocks.{clock-after_entry}
 use Rattle.disk_model.proofs.Runs.{run_entries-append}
 use Rattle.disk_model.proofs.TextNames.{AllText, text_begins, text_run}
 use Rattle.memory_disk.specs.Plan.{Planned, due, left}
@@ -87,56 +88,6 @@ allowed_by call tree (Some (Long size)) is = (refl, sym is)
 allowed_by call tree (Some Fault) is = omega arith
 allowed_by call tree (Some NoMemory) is = (refl, sym is)
 
-clock_changed : (at : Option (Option ℕ)) (change : ℕ → File → File) (state : State)
-    → (changed at change state).clock ≤ state.clock + 1
-clock_changed None change state = omega arith
-clock_changed (Some None) change state = omega arith
-clock_changed (Some (Some number)) change state = omega arith
-
-clock_moved : (at : Option (Option ℕ)) (from to : List ℕ) (state : State)
-    → (moved at from to state).clock ≤ state.clock + 1
-clock_moved None from to state = omega arith
-clock_moved (Some None) from to state = omega arith
-clock_moved (Some (Some number)) from to state = omega arith
-
-clock_settled : (at : Option (Option ℕ)) (state : State) → (settled at state).clock ≤ state.clock + 1
-clock_settled None state = omega arith
-clock_settled (Some None) state = omega arith
-clock_settled (Some (Some number)) state = omega arith
-
-clock_done : (call : Call) (state : State) → (after_done call state).clock ≤ state.clock + 1
-clock_done (ListDir dir) state = omega arith
-clock_done (StatPath path) state = omega arith
-clock_done (ReadFront path size) state = omega arith
-clock_done (ReadAll path limit) state = omega arith
-clock_done (Create path) state = omega arith
-clock_done (WriteAt path at piece) state = clock_changed (name_at state.names path) (written at piece) state
-clock_done (Cut path size) state = clock_changed (name_at state.names path) (cut_to size) state
-clock_done (Sync path) state = clock_settled (name_at state.names path) state
-clock_done (Rename from to) state = clock_moved (name_at state.names from) from to state
-clock_done (Remove path) state = omega arith
-clock_done (SyncDir dir) state = omega arith
-clock_done (MakeDir path) state = omega arith
-
-refused_same : (call : Call) (state : State) → after_refused call 0 state ≡ state
-refused_same (ListDir dir) state = refl
-refused_same (StatPath path) state = refl
-refused_same (ReadFront path size) state = refl
-refused_same (ReadAll path limit) state = refl
-refused_same (Create path) state = refl
-refused_same (WriteAt path at piece) state = refl
-refused_same (Cut path size) state = refl
-refused_same (Sync path) state = refl
-refused_same (Rename from to) state = refl
-refused_same (Remove path) state = refl
-refused_same (SyncDir dir) state = refl
-refused_same (MakeDir path) state = refl
-
-clock_entered : (call : Call) (refused : Option DiskError) (state : State)
-    → (after_entry state (Own call (answer_by_refusal refused))).clock ≤ state.clock + 1
-clock_entered call None state = clock_done call state
-clock_entered call (Some why) state = omega (arith, ap (λ (s : State). s.clock) (refused_same call state))
-
 pub sound_enters : (first : List TreeNode) (clock : ℕ) (journal journal' : List Entry) (waiting waiting' : List Action)
     (state state' : State) (call : Call) (refused : Option DiskError)
     → IsSound first clock journal waiting state → is_text call ≡ true
@@ -169,7 +120,7 @@ sound_enters first clock journal journal' waiting waiting' state state' call ref
             arith,
             h.later,
             ap (λ (s : State). s.clock) now,
-            clock_entered call refused state,
+            clock-after_entry (Own call (answer_by_refusal refused)) state,
             ap length grown,
             length-append journal (map Others waiting ++ own),
             length-append (map Others waiting) own,

@@ -82,23 +82,24 @@ refused_why : (asked : Call) (refused : Option DiskError) (why : DiskError) (old
     → Turns asked refused old new → refused ≡ Some why → Why asked why old
 refused_why asked refused why old new t is = why_by t.is_faulty asked why old t.faulty (sym is ∙ t.is)
 
-fault_error : (call : Call) → IsErrorOf call Fault
-fault_error (ListDir dir) = tt
-fault_error (StatPath path) = tt
-fault_error (ReadFront path size) = tt
-fault_error (ReadAll path limit) = tt
-fault_error (Create path) = tt
-fault_error (WriteAt path at piece) = tt
-fault_error (Cut path size) = tt
-fault_error (Sync path) = tt
-fault_error (Rename from to) = tt
-fault_error (Remove path) = tt
-fault_error (SyncDir dir) = tt
-fault_error (MakeDir path) = tt
+-- what every call may answer
+system_error : (call : Call) → IsErrorOf call Fault × IsErrorOf call NoMemory
+system_error (ListDir dir) = (tt, tt)
+system_error (StatPath path) = (tt, tt)
+system_error (ReadFront path size) = (tt, tt)
+system_error (ReadAll path limit) = (tt, tt)
+system_error (Create path) = (tt, tt)
+system_error (WriteAt path at piece) = (tt, tt)
+system_error (Cut path size) = (tt, tt)
+system_error (Sync path) = (tt, tt)
+system_error (Rename from to) = (tt, tt)
+system_error (Remove path) = (tt, tt)
+system_error (SyncDir dir) = (tt, tt)
+system_error (MakeDir path) = (tt, tt)
 
 why_error : (asked : Call) (why : DiskError) (old : Remembered) → Why asked why old → IsErrorOf asked why
 why_error asked why old w = elim w [
-  | inl h ↦ subst (λ (e : DiskError). IsErrorOf asked e) (sym h.0) (fault_error asked)
+  | inl h ↦ subst (λ (e : DiskError). IsErrorOf asked e) (sym h.0) (system_error asked).0
   | inr h ↦ (subst (λ (r : Option DiskError). MayRefuse asked r) h.0 (may_refuse asked (tree_now (met_by old)))).0
 ]
 
@@ -172,45 +173,23 @@ abbrev pub Refuses : {A : Type 0} → Call → (List TreeNode → Result A DiskE
 Refuses asked wanted = (tree : List TreeNode) (why : DiskError) → refusal asked tree ≡ Some why
     → wanted tree ≡ Err why
 
+judged_same : {A : Type 0} (why : DiskError) (wanted : Result A DiskError) → wanted ≡ Err why
+    → IsJudged (error A why) wanted
+judged_same Fault wanted is = tt
+judged_same Missing wanted is = sym is
+judged_same WrongNode wanted is = sym is
+judged_same Exists wanted is = sym is
+judged_same (Long size) wanted is = sym is
+judged_same NoMemory wanted is = sym is
+
 judged_by : {A : Type 0} (why : DiskError) (asked : Call) (wanted : List TreeNode → Result A DiskError)
     (old : Remembered) → (why ≡ Fault) ⊎ (IsCause why × (refusal asked (tree_now (met_by old)) ≡ Some why))
     → Refuses asked wanted → IsJudged (error A why) (wanted (tree_now (met_by old)))
-judged_by Fault asked wanted old w refuses = tt
-judged_by Missing asked wanted old w refuses = elim w [
-  | inl h ↦ absurd (no h)
-  | inr h ↦ sym (refuses (tree_now (met_by old)) Missing h.1)
+judged_by {A} why asked wanted old w refuses = elim w [
+  | inl h ↦
+      subst (λ (e : DiskError). IsJudged (error A e) (wanted (tree_now (met_by old)))) (sym h) tt
+  | inr h ↦ judged_same why (wanted (tree_now (met_by old))) (refuses (tree_now (met_by old)) why h.1)
 ]
-  where
-    no : ◌≡◌ {A = DiskError} Missing Fault → ⊥
-    no e = cc
-judged_by WrongNode asked wanted old w refuses = elim w [
-  | inl h ↦ absurd (no h)
-  | inr h ↦ sym (refuses (tree_now (met_by old)) WrongNode h.1)
-]
-  where
-    no : ◌≡◌ {A = DiskError} WrongNode Fault → ⊥
-    no e = cc
-judged_by Exists asked wanted old w refuses = elim w [
-  | inl h ↦ absurd (no h)
-  | inr h ↦ sym (refuses (tree_now (met_by old)) Exists h.1)
-]
-  where
-    no : ◌≡◌ {A = DiskError} Exists Fault → ⊥
-    no e = cc
-judged_by (Long size) asked wanted old w refuses = elim w [
-  | inl h ↦ absurd (no h)
-  | inr h ↦ sym (refuses (tree_now (met_by old)) (Long size) h.1)
-]
-  where
-    no : ◌≡◌ {A = DiskError} (Long size) Fault → ⊥
-    no e = cc
-judged_by NoMemory asked wanted old w refuses = elim w [
-  | inl h ↦ absurd (no h)
-  | inr h ↦ absurd h.0
-]
-  where
-    no : ◌≡◌ {A = DiskError} NoMemory Fault → ⊥
-    no e = cc
 
 -- The steps.
 
@@ -288,24 +267,10 @@ left_twice call (foreign ∷ plan) = left_if call foreign plan (nat_lt call fore
 memory_no_fault : {A : Type 0} → IsErrOf (no_memory A) Fault → ⊥
 memory_no_fault e = cc
 
-memory_error : (call : Call) → IsErrorOf call NoMemory
-memory_error (ListDir dir) = tt
-memory_error (StatPath path) = tt
-memory_error (ReadFront path size) = tt
-memory_error (ReadAll path limit) = tt
-memory_error (Create path) = tt
-memory_error (WriteAt path at piece) = tt
-memory_error (Cut path size) = tt
-memory_error (Sync path) = tt
-memory_error (Rename from to) = tt
-memory_error (Remove path) = tt
-memory_error (SyncDir dir) = tt
-memory_error (MakeDir path) = tt
-
 pub begins_step : (A : Type 0) (asked : Call) (wanted : List TreeNode → Result A DiskError) (old new : Remembered)
     → IsMeeting old.calls (begun old) new → MakesStep (no_memory A) asked wanted 0 (seen_of old) (seen_of new)
 begins_step A asked wanted old new h =
-    memory_step asked wanted old new h (memory_error asked)
+    memory_step asked wanted old new h (system_error asked).1
 
 pub begins_plays : (A : Type 0) (asked : Call) (old new : Remembered) → IsMeeting old.calls (begun old) new
     → Plays (no_memory A) asked old new
