@@ -6,8 +6,8 @@ use Rattle.disk_model.specs.Tree.{TreeNode}
 use Rattle.disk_model.specs.Journal.{Action, Appends, Puts, Renames, Removes, Writes, Call, ListDir, StatPath, ReadFront}
 use Rattle.disk_model.specs.Journal.{ReadAll, Create, WriteAt, Cut, Sync, Rename, Remove, SyncDir, MakeDir, Done, Refused}
 use Rattle.disk_model.specs.Journal.{Entry, Own, Others}
-use Rattle.disk_model.specs.State.{File, Name, Patch, State, after_action, after_done, after_entry, after_refused, appended, can_make}
-use Rattle.disk_model.specs.State.{can_take, changed, cut_to, durable, file_at, files_of, first_files, is_file, moved}
+use Rattle.disk_model.specs.State.{File, Name, Patch, State, after_action, after_done, after_entry, after_refused}
+use Rattle.disk_model.specs.State.{appended, can_make, can_take, changed, cut_to, durable, file_at, files_of, first_files, is_file, moved}
 use Rattle.disk_model.specs.State.{name_at, node_of, replaced, run_entries, settled, state_after, state_of}
 use Rattle.disk_model.specs.State.{with_made, with_names, without, written}
 use Rattle.disk_model.specs.Images.{IsImage, IsLeft, IsLeftAt, IsOneOf, IsTreeOf, is_touched}

@@ -442,4 +442,5 @@ each_name_has_its_file past mark first =
 
 pub names_are_of_files : NamesAreOfFiles
 names_are_of_files state path number h is =
-    record { name = is; below = below_in (length state.files) state.names path number (in_names state.names path number is) h.below }
+    let named : name_in state.names path ≡ Some (Some number) = in_names state.names path number is in
+    record { name = is; below = below_in (length state.files) state.names path number named h.below }

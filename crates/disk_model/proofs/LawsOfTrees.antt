@@ -1,5 +1,6 @@
 -- The tree at each mark of a lawful past is a tree.
-use Rattle.std.proofs.Common.{◌≡◌, ◌&&◌, ◌==◌, ◌∷◌, ◌∙◌, [], ℕ, zero, suc, Bool, true, false, not, List, Option, Some, None, is_none, map}
+use Rattle.std.proofs.Common.{◌≡◌, ◌&&◌, ◌==◌, ◌∷◌, ◌∙◌, [], ℕ, zero, suc, Bool, true, false, not}
+use Rattle.std.proofs.Common.{List, Option, Some, None, is_none, map}
 use Rattle.std.proofs.Common.{take, if◌then◌else◌, refl, sym, ap}
 use Rattle.std.proofs.lemmas.Bool.{and_from, and_parts}
 use Rattle.std.proofs.lemmas.Slice.Eq.{bytes_eq-Decides}
@@ -11,7 +12,8 @@ use Rattle.disk_model.specs.Journal.{SyncDir, MakeDir, Done, Refused, Action, Ap
 use Rattle.disk_model.specs.Journal.{Entry, Own, Others}
 use Rattle.disk_model.specs.State.{File, Name, State, after_action, after_done, after_entry, after_refused, appended, can_make}
 use Rattle.disk_model.specs.State.{can_take, changed, cut_to, is_file, is_folder, is_free, moved, name_at, name_in, node_of}
-use Rattle.disk_model.specs.State.{replaced, run_entries, settled, state_at, state_of, tree_of, with_made, with_names, without, written}
+use Rattle.disk_model.specs.State.{replaced, run_entries, settled, state_at, state_of, tree_of, with_made, with_names}
+use Rattle.disk_model.specs.State.{without, written}
 use Rattle.disk_model.specs.Lawful.{AreLawful, IsLawfulAt}
 use Rattle.disk_model.specs.Laws.{EachMarkHasATree}
 use Rattle.disk_model.specs.Refusals.{below_refusal, file_refusal, first_refusal, free_refusal, make_refusal}

@@ -63,6 +63,20 @@ overwritten-synced : image_behind (done (WriteAt old 2 (codes "XY")) ∷ done (S
     ≡ box_with (codes "abXY")
 overwritten-synced = refl
 
+-- the same of a piece at the end: a part of it may be left, also of other bytes
+abbrev appending : List Entry
+appending = done (WriteAt old 3 (codes "de")) ∷ []
+
+appended-lost : image_behind appending 0 Kept ≡ box_with (codes "abc")
+appended-lost = refl
+
+appended-garbled : image_behind appending 0 (Byte 46) ≡ box_with (codes "abc..")
+appended-garbled = refl
+
+appended-synced : image_behind (done (WriteAt old 3 (codes "de")) ∷ done (Sync old) ∷ []) 0 Kept
+    ≡ box_with (codes "abcde")
+appended-synced = refl
+
 -- the places between the end and a later piece hold zero bytes, and are open with it
 gap-seen : tree_behind (done (WriteAt old 5 (codes "Z")) ∷ [])
     ≡ folder_node box ∷ file old (97 ∷ 98 ∷ 99 ∷ 0 ∷ 0 ∷ 90 ∷ []) 2 ∷ []

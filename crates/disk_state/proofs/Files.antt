@@ -1,5 +1,6 @@
 -- One file among the files of a disk.
-use Rattle.std.proofs.Common.{◌≤◌, ◌∷◌, zero, suc, refl, arith, Result, Ok, Err, OnErr, ◌≡◌, ◌<◌, ℕ, List, map, length, get_or, slice_set, sym, ◌∙◌, ap, []}
+use Rattle.std.proofs.Common.{◌≡◌, ◌<◌, ◌≤◌, ◌∷◌, [], ◌∙◌, ℕ, zero, suc, List, map, length, get_or, slice_set}
+use Rattle.std.proofs.Common.{Result, Ok, Err, OnErr, refl, sym, ap, arith}
 use Rattle.std.proofs.Math.ListN.{set}
 use Rattle.std.proofs.Math.Seq.{map-set_same}
 use Rattle.std.proofs.lemmas.List.{map-set, get_or-map}

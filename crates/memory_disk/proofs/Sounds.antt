@@ -1,6 +1,7 @@
 -- What is kept of a disk stays sound.
 use Rattle.std.proofs.Common.{◌≡◌, ◌≤◌, ◌^◌, ◌++◌, ◌∷◌, ◌∙◌, [], ℕ, Bool, true, false, List, Option, Some, None, length}
-use Rattle.std.proofs.Common.{Result, Ok, Err, OnOk, map, nat_lt, if◌then◌else◌, refl, sym, ap, subst, arith, append_assoc, length-append}
+use Rattle.std.proofs.Common.{Result, Ok, Err, OnOk, map, nat_lt, if◌then◌else◌, refl, sym, ap, subst, arith}
+use Rattle.std.proofs.Common.{append_assoc, length-append}
 use Rattle.std.proofs.lemmas.List.{append-nil, length-map, map-append}
 use Rattle.disk_model.specs.Tree.{TreeNode, is_first_tree}
 use Rattle.disk_model.specs.Journal.{Action, Call}

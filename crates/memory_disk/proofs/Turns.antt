@@ -36,9 +36,9 @@ pub record Turns (asked : Call) (refused : Option DiskError) (old new : Remember
   pub faults : old.faults ≤ new.faults
   pub cause : refused ≡ Some Fault → Rose old.faults new.faults
 
-pub turns : (asked call : Call) (is_faulty : Bool) (refused : Option DiskError) (old mid new : Remembered)
+pub turns : {asked call : Call} {is_faulty : Bool} {refused : Option DiskError} {old mid new : Remembered}
     → Faces asked call is_faulty old mid → Settles refused is_faulty call mid new → Turns asked refused old new
-turns asked call is_faulty refused old mid new faces settles =
+turns {asked} {call} {is_faulty} {refused} {old} {mid} {new} faces settles =
     let same : Settles refused is_faulty asked (met_by old) new =
     subst (λ (c : Call). Settles refused is_faulty c (met_by old) new) faces.same_call
     (subst (λ (m : Remembered). Settles refused is_faulty call m new) faces.met settles) in
@@ -211,9 +211,9 @@ refused_step {A} asked refused why wanted old new t is refuses =
     })
     (why_error asked why old w) (given_by_error A why asked (tree_now (met_by old)))
 
-pub refused_plays : (A : Type 0) (asked : Call) (refused : Option DiskError) (why : DiskError) (old new : Remembered)
+pub refused_plays : {A : Type 0} {asked : Call} {refused : Option DiskError} {why : DiskError} {old new : Remembered}
     → Turns asked refused old new → refused ≡ Some why → Plays (error A why) asked old new
-refused_plays A asked refused why old new t is =
+refused_plays {A} {asked} {refused} {why} {old} {new} t is =
     let w = refused_why asked refused why old new t is in
     record {
       leaves = refused_leaves A asked refused why old new t is;
@@ -297,9 +297,9 @@ pub waits_step : (A : Type 0) (asked call : Call) (is_faulty : Bool) (wanted : L
 waits_step A asked call is_faulty wanted old mid new faces same =
     begins_step A asked wanted old new (meeting asked call is_faulty old mid new faces same)
 
-pub waits_plays : (A : Type 0) (asked call : Call) (is_faulty : Bool) (old mid new : Remembered)
+pub waits_plays : {A : Type 0} {asked call : Call} {is_faulty : Bool} {old mid new : Remembered}
     → Faces asked call is_faulty old mid → new ≡ mid → Plays (no_memory A) asked old new
-waits_plays A asked call is_faulty old mid new faces same =
+waits_plays {A} {asked} {call} {is_faulty} {old} {mid} {new} faces same =
     begins_plays A asked old new (meeting asked call is_faulty old mid new faces same)
 
 -- By why a call is refused and what else it gives.
@@ -314,11 +314,11 @@ refuses_by asked wanted value h tree why is =
     h.is tree ∙ ap (λ (r : Option DiskError). answer_by r (value tree)) is
 
 -- the call is refused
-pub err_step : {A : Type 0} (asked : Call) (refused : Option DiskError) (why : DiskError)
-    (wanted : List TreeNode → Result A DiskError) (value : List TreeNode → A) (old new : Remembered)
+pub err_step : {A : Type 0} {asked : Call} {refused : Option DiskError} {why : DiskError} {old new : Remembered}
+    (wanted : List TreeNode → Result A DiskError) (value : List TreeNode → A)
     → Turns asked refused old new → refused ≡ Some why → Answers asked wanted value
     → MakesStep (error A why) asked wanted 0 (seen_of old) (seen_of new)
-err_step asked refused why wanted value old new t is h =
+err_step {A} {asked} {refused} {why} {old} {new} wanted value t is h =
     refused_step asked refused why wanted old new t is (refuses_by asked wanted value h)
 
 none_refusal : (b : Bool) (asked : Call) (old : Remembered)
@@ -328,24 +328,24 @@ none_refusal true asked old is = absurd (none_some Fault is)
 none_refusal false asked old is = sym is
 
 -- it is not, and then gives the value
-pub granted : {A : Type 0} (asked : Call) (refused : Option DiskError)
-    (wanted : List TreeNode → Result A DiskError) (value : List TreeNode → A) (old new : Remembered)
+pub granted : {A : Type 0} {asked : Call} {refused : Option DiskError} {old new : Remembered}
+    (wanted : List TreeNode → Result A DiskError) (value : List TreeNode → A)
     → Turns asked refused old new → refused ≡ None → Answers asked wanted value
     → wanted (tree_now (met_by old)) ≡ Ok (value (tree_now (met_by old)))
-granted asked refused wanted value old new t is h =
+granted {A} {asked} {refused} {old} {new} wanted value t is h =
     h.is (tree_now (met_by old))
     ∙ ap (λ (r : Option DiskError). answer_by r (value (tree_now (met_by old))))
     (none_refusal t.is_faulty asked old (sym is ∙ t.is))
 
-pub value_step : {A : Type 0} (asked : Call) (refused : Option DiskError) (result : Result A DiskError)
-    (wanted : List TreeNode → Result A DiskError) (value : List TreeNode → A) (bytes : ℕ) (old new : Remembered)
+pub value_step : {A : Type 0} {asked : Call} {refused : Option DiskError} {old new : Remembered}
+    (result : Result A DiskError) (wanted : List TreeNode → Result A DiskError) (value : List TreeNode → A) (bytes : ℕ)
     → Turns asked refused old new → refused ≡ None → Answers asked wanted value
     → result ≡ Ok (value (tree_now (met_by old))) → bytes ≡ given (Own asked Done) (tree_now (met_by old))
     → MakesStep result asked wanted bytes (seen_of old) (seen_of new)
-value_step {A} asked refused result wanted value bytes old new t is h same gives =
+value_step {A} {asked} {refused} {old} {new} result wanted value bytes t is h same gives =
     subst (λ (r : Result A DiskError). MakesStep r asked wanted bytes (seen_of old) (seen_of new)) (sym same)
     (done_step asked refused (value (tree_now (met_by old))) wanted bytes old new t is
-    (sym (granted asked refused wanted value old new t is h)) gives)
+    (sym (granted wanted value t is h)) gives)
 
 -- The tree that a call meets.
 

@@ -1,11 +1,10 @@
 use Rattle.std.proofs.Common.{◌∙◌, List, Ok, refl, ap}
-use Rattle.disk_model.specs.Journal.{ListDir}
 use Rattle.disk_model.specs.Judge.{list_of}
 use Rattle.disk_model.specs.Names.{names_in}
 use Rattle.disk_model.specs.Tree.{TreeNode}
 use Rattle.disk_model.proofs.TextNames.{text_names, utf8_names}
 use Rattle.disk_model.proofs.Looking.{called_looks}
-use Rattle.disk_state.specs.Plain.{plain_call, plain_names, plain_state}
+use Rattle.disk_state.specs.Plain.{plain_names, plain_state}
 use Rattle.memory_disk.specs.contracts.disk.MemoryDisk.{the_view}
 use Rattle.memory_disk.proofs.Oks.{ok_names}
 use Rattle.memory_disk.proofs.Sounds.{sound_text}
@@ -14,33 +13,23 @@ use Rattle.memory_disk.proofs.disk.MemoryDiskDisk.list.Goals as goal
 
 pub returns-in-Ok-Some-clause-step : goal.returns-in-Ok-Some-clause-step
 returns-in-Ok-Some-clause-step c =
-    err_step (ListDir c.args.dir.now) c.in-Ok-Some.field-0 c.in-Ok-Some.why (λ tree. list_of tree c.args.dir.now)
-    (λ tree. names_in tree c.args.dir.now) _ _
-    (turns (ListDir c.args.dir.now) (plain_call c.in-Ok.turn.call) c.in-Ok.turn.is_faulty c.in-Ok-Some.field-0
-    c.args.self.now c.face.new.self c.settle.new.self c.in-Ok.ensures.ok c.in-Ok-Some.ensures.ok)
-    c.in-Ok-Some.field-0-is (record { is = λ tree. refl })
+    err_step (λ tree. list_of tree c.args.dir.now) (λ tree. names_in tree c.args.dir.now)
+    (turns c.in-Ok.ensures.ok c.in-Ok-Some.ensures.ok) c.in-Ok-Some.field-0-is (record { is = λ tree. refl })
 
 pub returns-in-Ok-Some-clause-looks : goal.returns-in-Ok-Some-clause-looks
 returns-in-Ok-Some-clause-looks c = called_looks _ _ _ _ _ refl (returns-in-Ok-Some-clause-step c).called
 
 pub returns-in-Ok-Some-clause-plays : goal.returns-in-Ok-Some-clause-plays
 returns-in-Ok-Some-clause-plays c =
-    refused_plays _ (ListDir c.args.dir.now) c.in-Ok-Some.field-0 c.in-Ok-Some.why _ _
-    (turns (ListDir c.args.dir.now) (plain_call c.in-Ok.turn.call) c.in-Ok.turn.is_faulty c.in-Ok-Some.field-0
-    c.args.self.now c.face.new.self c.settle.new.self c.in-Ok.ensures.ok c.in-Ok-Some.ensures.ok)
-    c.in-Ok-Some.field-0-is
+    refused_plays (turns c.in-Ok.ensures.ok c.in-Ok-Some.ensures.ok) c.in-Ok-Some.field-0-is
 
 pub returns-in-Err-clause-plays : goal.returns-in-Err-clause-plays
-returns-in-Err-clause-plays c =
-    waits_plays _ (ListDir c.args.dir.now) (plain_call c.in-Ok.turn.call) c.in-Ok.turn.is_faulty _ c.face.new.self _ c.in-Ok.ensures.ok
-    c.in-Err.ensures.err
+returns-in-Err-clause-plays c = waits_plays c.in-Ok.ensures.ok c.in-Err.ensures.err
 
 pub returns-in-Ok-None-clause-step : goal.returns-in-Ok-None-clause-step
 returns-in-Ok-None-clause-step c =
-    value_step (ListDir c.args.dir.now) c.in-Ok-None.field-0 (Ok (plain_names c.in-Ok-names_in.names.items))
-    (λ tree. list_of tree c.args.dir.now) (λ tree. names_in tree c.args.dir.now) 0 _ _
-    (turns (ListDir c.args.dir.now) (plain_call c.in-Ok.turn.call) c.in-Ok.turn.is_faulty c.in-Ok-None.field-0
-    c.args.self.now c.face.new.self c.settle.new.self c.in-Ok.ensures.ok c.in-Ok-None.ensures.ok)
+    value_step (Ok (plain_names c.in-Ok-names_in.names.items)) (λ tree. list_of tree c.args.dir.now)
+    (λ tree. names_in tree c.args.dir.now) 0 (turns c.in-Ok.ensures.ok c.in-Ok-None.ensures.ok)
     c.in-Ok-None.field-0-is (record { is = λ tree. refl })
     (ok_names _ _ (c.in-Ok-names_in.ensures
     ∙ ap (λ (tree : List TreeNode). names_in tree c.args.dir.now)
@@ -49,9 +38,7 @@ returns-in-Ok-None-clause-step c =
     refl
 
 pub returns-in_default-names_in-clause-plays : goal.returns-in_default-names_in-clause-plays
-returns-in_default-names_in-clause-plays c =
-    waits_plays _ (ListDir c.args.dir.now) (plain_call c.in-Ok.turn.call) c.in-Ok.turn.is_faulty _ c.face.new.self _ c.in-Ok.ensures.ok
-    refl
+returns-in_default-names_in-clause-plays c = waits_plays c.in-Ok.ensures.ok refl
 
 pub returns-in-Ok-None-clause-looks : goal.returns-in-Ok-None-clause-looks
 returns-in-Ok-None-clause-looks c = called_looks _ _ _ _ _ refl (returns-in-Ok-None-clause-step c).called
