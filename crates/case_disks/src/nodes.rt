@@ -2,8 +2,8 @@
 
 use case_files::{Case, CaseFault, Entry, read_number};
 use disk_model::{Node, Tree, is_tree};
-use mail_base::{Bytes, Numbers, Words};
 use disk_state::Action;
+use mail_base::{Bytes, Numbers, Words};
 use memory_disk::{Foreign, MemoryDisk, Script};
 use std::alloc::Global;
 

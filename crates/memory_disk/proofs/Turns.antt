@@ -291,12 +291,6 @@ meeting asked call is_faulty old mid new faces same =
       left = left_twice old.calls old.plan;
     })
 
-pub waits_step : (A : Type 0) (asked call : Call) (is_faulty : Bool) (wanted : List TreeNode → Result A DiskError)
-    (old mid new : Remembered) → Faces asked call is_faulty old mid → new ≡ mid
-    → MakesStep (no_memory A) asked wanted 0 (seen_of old) (seen_of new)
-waits_step A asked call is_faulty wanted old mid new faces same =
-    begins_step A asked wanted old new (meeting asked call is_faulty old mid new faces same)
-
 pub waits_plays : {A : Type 0} {asked call : Call} {is_faulty : Bool} {old mid new : Remembered}
     → Faces asked call is_faulty old mid → new ≡ mid → Plays (no_memory A) asked old new
 waits_plays {A} {asked} {call} {is_faulty} {old} {mid} {new} faces same =
@@ -375,12 +369,6 @@ tree_left state inside asked refused old new now view t is keeps =
     ∙ ap (λ (d : Remembered). tree_now d)
     (view ∙ t.entered ∙ ap (λ (r : Option DiskError). entered r asked (met_by old)) is)
     ∙ tree_now-entered asked (met_by old) keeps
-
-pub ok_plays : {A : Type 0} (asked : Call) (refused : Option DiskError) (result : Result A DiskError) (value : A)
-    (old new : Remembered) → Turns asked refused old new → refused ≡ None → result ≡ Ok value
-    → Plays result asked old new
-ok_plays {A} asked refused result value old new t is ok =
-    subst (λ (r : Result A DiskError). Plays r asked old new) (sym ok) (done_plays asked refused value old new t is)
 
 -- a change gives no bytes
 pub no_bytes : (call : Call) (tree : List TreeNode) → is_look call ≡ false → 0 ≡ given (Own call Done) tree
