@@ -9,8 +9,8 @@ use mail_base::{
 };
 use memory_disk::{MemoryDisk, Script};
 use std::alloc::Global;
-use std::test::Fail;
 use std::io;
+use std::test::Fail;
 
 #[test]
 fn lists_and_lines_grow(rt: HostRuntime) -> Result<(), Fail> {
