@@ -7,7 +7,7 @@ use Rattle.std.proofs.Math.Seq.{take-add}
 use Rattle.std.specs.List.{slice_index}
 use Rattle.std.specs.Prelude.{IfNone, IfSome}
 use Rattle.memchr.specs.Find.{IsFirstByte, is_byte}
-use Rattle.headers.specs.Charset.{utf8_text}
+use Rattle.mail_base.specs.Shown.{utf8_text}
 use Rattle.headers.specs.Decode.{PlainFoundWord, first_word, found_at, with_text, text_before, decoded_from}
 use Rattle.headers.specs.EncodedWord.{PlainDecodedWord, encoded_word}
 

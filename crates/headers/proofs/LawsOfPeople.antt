@@ -14,6 +14,7 @@ use Rattle.std.proofs.lemmas.List.Folds.{list_all-append}
 use Rattle.mail_base.specs.Blanks.{is_blank, trimmed, without_last_blanks}
 use Rattle.mail_base.specs.Lines.{is_continuation}
 use Rattle.mail_base.proofs.BlanksLemmas.{without_blanks_stay}
+use Rattle.mail_base.proofs.ShownLemmas.{shown_utf8}
 use Rattle.mail_base.proofs.RoundPlaces.{split_front, before_last_at, after_last_at, after_last_absent}
 use Rattle.mail_base.proofs.RoundPlaces.{before_first_at, after_first_at, any_at, all_not_at, filter_all}
 use Rattle.headers.specs.declared.address_byte.AddressByte.{AddressByte}
@@ -31,7 +32,7 @@ use Rattle.headers.specs.Person.{PlainPerson}
 use Rattle.headers.specs.Laws.{is_plain_byte, is_trimmed, is_plain, is_plain_person, written_person, has_mark}
 use Rattle.headers.specs.Laws.{WrittenPeopleAreRead, escaped, written_quoted, QuotedPhraseIsRead}
 use Rattle.headers.specs.Laws.{GroupIsRead, written_commented, CommentIsTheName}
-use Rattle.headers.proofs.LawsOfText.{plain_text_stays, shown_utf8}
+use Rattle.headers.proofs.LawsOfText.{plain_text_stays}
 
 -- bytes that are text
 abbrev text_bytes : List ℕ → List AddressByte

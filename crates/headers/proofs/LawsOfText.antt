@@ -2,17 +2,14 @@
 use Rattle.std.proofs.Common.{◌≡◌, ℕ, ◌==◌, ◌&&◌, Bool, true, false, List, [], ◌∷◌, ◌++◌, length}
 use Rattle.std.proofs.Common.{Option, Some, None, option_map, refl, sym, ap, ◌∙◌}
 use Rattle.std.specs.Prelude.{is_some}
-use Rattle.std.specs.Str.{IsUtf8}
 use Rattle.std.proofs.lemmas.Str.{IsUtf8-from_is_utf8}
-use Rattle.std.proofs.lemmas.List.{append-nil}
 use Rattle.std.proofs.lemmas.Bool.{or_parts}
 use Rattle.mail_base.specs.Fronts.{behind}
-use Rattle.headers.specs.Charset.{utf8_text}
+use Rattle.mail_base.proofs.ShownLemmas.{shown_utf8}
 use Rattle.headers.specs.Decode.{first_word, found_at, with_text}
 use Rattle.headers.specs.EncodedWord.{encoded_word, written_word}
 use Rattle.headers.specs.Laws.{has_mark, PlainTextStays, Utf8Stays}
 use Rattle.headers.proofs.DecodeLemmas.{decoded_from-absent}
-use Rattle.headers.proofs.CharsetLemmas.{utf8_text-nil, utf8_text_front}
 
 none_of : (o : Option (List ℕ)) → is_some o ≡ false → o ≡ None
 none_of None e = refl
@@ -36,10 +33,6 @@ no_word_found (b ∷ rest) none =
 
 pub plain_text_stays : PlainTextStays
 plain_text_stays s none = decoded_from-absent (length s) false s (no_word_found s none)
-
-pub shown_utf8 : (s : List ℕ) → IsUtf8 s → utf8_text s ≡ s
-shown_utf8 s utf8 =
-    ap utf8_text (sym (append-nil s)) ∙ utf8_text_front s [] utf8 ∙ ap (λ t. s ++ t) utf8_text-nil ∙ append-nil s
 
 pub utf8_stays : Utf8Stays
 utf8_stays s utf8 = shown_utf8 s (IsUtf8-from_is_utf8 s utf8)

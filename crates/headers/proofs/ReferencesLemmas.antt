@@ -1,5 +1,5 @@
 -- How the last 64 ids are kept while more are read.
-use Rattle.std.proofs.Common.{◌≡◌, ℕ, ◌≤◌, List, [], ◌∷◌, ◌++◌, length, take, drop, reverse, refl, sym, ap, ◌∙◌}
+use Rattle.std.proofs.Common.{◌≡◌, ℕ, ◌<◌, ◌≤◌, List, [], ◌∷◌, ◌++◌, length, take, drop, reverse, refl, sym, ap, ◌∙◌}
 use Rattle.std.proofs.Common.{◌-◌, Bool, true, false, filter, map, get_or, arith, append_assoc, codes}
 use Rattle.std.specs.List.{flat_map}
 use Rattle.std.specs.Prelude.{if◌then◌else◌}
@@ -71,3 +71,11 @@ last_ids_rest (f ∷ left) d done after all some read same =
     ∙ ap last_ids (append_assoc done first rest)
     ∙ ap (λ l. last_ids (done ++ l)) (sym (references-cons (plain_field f) (map plain_field left)))
     ∙ same
+
+-- behind the last field the ids that are kept are the last
+pub last_ids_kept : (names all : List (List ℕ)) (left : List Field) → length left < 1 → length names ≤ 64
+    → last_ids (names ++ references (map plain_field left)) ≡ last_ids all → reverse names ≡ last_ids all
+last_ids_kept names all (f ∷ left) none few same = absurd (omega arith)
+last_ids_kept names all [] none few same =
+    let room : length (reverse names) ≤ 64 = omega (arith, length-reverse names) in
+    sym (take_all 64 (reverse names) room) ∙ ap last_ids (sym (append-nil names)) ∙ same

@@ -1,8 +1,7 @@
 -- Bytes shown as UTF-8 by the charset that they are in (RFC 2047, section 2).
-use Rattle.std.specs.Prelude.{ℕ, nat_lt, List, map, Option, Some, None, replicate, encode_utf8, if◌then◌else◌, codes}
-use Rattle.std.specs.List.{flat_map}
+use Rattle.std.specs.Prelude.{ℕ, nat_lt, List, map, if◌then◌else◌, codes}
 use Rattle.std.specs.Str.{byte, encode_utf8_all, str_eq_ignore_ascii_case}
-use Rattle.bstr.specs.Utf8.{pieces}
+use Rattle.mail_base.specs.Shown.{utf8_text}
 use Rattle.headers.specs.declared.charset.Charset.{Charset}
 use Rattle.headers.specs.declared.charset.Charset.TheVariants.{Ascii, Utf8, Latin1}
 
@@ -11,15 +10,6 @@ abbrev pub charset_of : List ℕ → Charset
 charset_of name =
     if str_eq_ignore_ascii_case name (codes "utf-8") then Utf8
     else (if str_eq_ignore_ascii_case name (codes "iso-8859-1") then Latin1 else Ascii)
-
--- a character, or a `?` for each byte of a piece that is none
-abbrev pub shown : Option ℕ → ℕ → List ℕ
-shown (Some c) size = encode_utf8 c
-shown None size = replicate size (byte "?")
-
--- UTF-8 with a `?` in place of each malformed byte
-unfoldable pub utf8_text : List ℕ → List ℕ
-utf8_text bytes = flat_map (λ p. shown p.char p.size) (pieces bytes)
 
 -- US-ASCII with a `?` in place of each byte past it
 abbrev pub ascii_text : List ℕ → List ℕ

@@ -2,7 +2,7 @@
 use Rattle.std.specs.Prelude.{◌&&◌, ℕ, zero, suc, Bool, true, false, List, [], ◌∷◌, ◌++◌, Option, Some, None}
 use Rattle.std.specs.Prelude.{option_map, length, if◌then◌else◌}
 use Rattle.mail_base.specs.Blanks.{is_all_blank}
-use Rattle.headers.specs.Charset.{utf8_text}
+use Rattle.mail_base.specs.Shown.{utf8_text}
 use Rattle.headers.specs.EncodedWord.{PlainDecodedWord, encoded_word, plain_decoded_word}
 use Rattle.headers.specs.declared.decode.FoundWord.{FoundWord}
 

@@ -1,9 +1,7 @@
 -- The encodings of encoded words (RFC 2047, section 4).
 use Rattle.std.specs.Prelude.{◌==◌, ◌||◌, ℕ, zero, suc, List, [], ◌∷◌, Option, Some, None, option_map, if◌then◌else◌}
-use Rattle.std.specs.Result.{result_ok}
 use Rattle.std.specs.Str.{byte}
-use Rattle.base64.specs.GeneralPurpose.{decode_of}
-use Rattle.base64.specs.Engines.{standard}
+use Rattle.mail_base.specs.Base64Text.{base64_bytes}
 use Rattle.mail_base.specs.Fronts.{◌>>=◌}
 use Rattle.mail_base.specs.Hex.{hex_byte}
 use Rattle.headers.specs.declared.encoding.Encoding.{Encoding}
@@ -30,5 +28,5 @@ quoted_from zero (b ∷ rest) = do
 
 -- the bytes of a text
 abbrev pub bytes_of : Encoding → List ℕ → Option (List ℕ)
-bytes_of Base64 text = result_ok (decode_of standard text)
+bytes_of Base64 text = base64_bytes text
 bytes_of Quoted text = quoted_from 0 text

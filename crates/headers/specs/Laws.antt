@@ -6,7 +6,7 @@ use Rattle.std.specs.Str.{byte, is_utf8}
 use Rattle.mail_base.specs.Blanks.{is_blank}
 use Rattle.mail_base.specs.Fronts.{behind}
 use Rattle.mail_base.specs.Lines.{PlainField, body_at, is_continuation, is_name_byte, message_fields}
-use Rattle.headers.specs.Charset.{utf8_text}
+use Rattle.mail_base.specs.Shown.{utf8_text}
 use Rattle.headers.specs.Decode.{decoded_words}
 use Rattle.headers.specs.People.{people}
 use Rattle.headers.specs.Person.{PlainPerson}

@@ -1,12 +1,11 @@
 //! The ids of the messages that a message may answer (RFC 5322, section 3.6.4).
 
-ghost use Rattle.std.specs.Prelude.{◌≡◌, ◌++◌, map, option_map, option_to_list, IfOk, OnOk};
+ghost use Rattle.std.specs.Prelude.{◌≡◌, ◌++◌, map, reverse, option_map, option_to_list, IfOk, OnOk};
 ghost use Rattle.std.specs.List.{list_any};
 ghost use Rattle.std.specs.Str.{bytes_eq};
 ghost use Rattle.mail_base.specs.Series.{plain_texts};
 ghost use Rattle.headers.specs.Candidates as spec;
 ghost use Rattle.headers.specs.Field.{plain_field};
-ghost use Rattle.headers.specs.References.{last_ids};
 
 use crate::field::Field;
 use crate::references::last_references;
@@ -43,20 +42,14 @@ fn names_of(alloc: Global, id: Option<Bytes>) -> Result<Names, NoMemory>
     }
 }
 
-// The most ids of References that are taken.
-const MOST: usize = 64;
-
-// Adds the last 64 ids, from last to first, each unless it is there already.
-fn add_last(alloc: Global, names: &mut Names, references: &[Bytes]) -> Result<(), NoMemory>
+// Adds ids from last to first, each unless it is there already.
+fn add_backwards(alloc: Global, names: &mut Names, ids: &[Bytes]) -> Result<(), NoMemory>
     ensures { OnOk result (plain_texts names.new
         ≡ plain_texts names.old
-        ++ spec.new_ids (plain_texts names.old) (last_ids (map (λ n. n.items) references.now))) }
+        ++ spec.new_ids (plain_texts names.old) (reverse (map (λ n. n.items) ids.now))) }
 {
-    let mut left = references;
-    for _count in 0..MOST {
-        let Some((last, rest)) = left.split_last() else {
-            return Ok(());
-        };
+    let mut left = ids;
+    while let Some((last, rest)) = left.split_last() {
         add_new(alloc, names, last.as_slice())?;
         left = rest;
     }
@@ -70,6 +63,6 @@ pub fn candidates_of(alloc: Global, fields: &[Field]) -> Result<Names, NoMemory>
 {
     let references = last_references(alloc, fields)?;
     let mut names = names_of(alloc, id_in(alloc, fields, b"in-reply-to")?)?;
-    add_last(alloc, &mut names, references.as_slice())?;
+    add_backwards(alloc, &mut names, references.as_slice())?;
     Ok(names)
 }

@@ -1,11 +1,11 @@
 //! Charsets, and bytes shown as UTF-8 by the charset that they are in (RFC 2047, section 2).
 
-ghost use Rattle.std.specs.Prelude.{◌≡◌, ◌++◌, ◌≤◌, IfOk, OnOk, length, encode_utf8, replicate};
+ghost use Rattle.std.specs.Prelude.{◌≡◌, ◌++◌, ◌≤◌, IfOk, OnOk, length, encode_utf8};
 ghost use Rattle.std.specs.Str.{IsAscii, encode_utf8_all};
 ghost use Rattle.headers.specs.Charset as spec;
 
 use bstr::ByteSlice;
-use mail_base::{Line, NoMemory, is_same_name};
+use mail_base::{Line, NoMemory, append_utf8, is_same_name};
 use std::alloc::Global;
 
 /// A charset that is shown (RFC 2047, section 2); the bytes past ASCII of all others are marked, as
@@ -58,15 +58,6 @@ fn push_char(line: &mut Line, c: char) -> Result<(), NoMemory>
 {
     let mut buffer = [0; 4];
     line.append(c.encode_utf8(&mut buffer))
-}
-
-fn push_marks(line: &mut Line, count: usize) -> Result<(), NoMemory>
-    ensures { OnOk result (line.new.items ≡ line.old.items ++ replicate count 63) }
-{
-    for _i in 0..count {
-        line.push(b'?')?;
-    }
-    Ok(())
 }
 
 // The bytes before the first that is no ASCII, and those from it on.
@@ -124,18 +115,6 @@ fn append_latin1(line: &mut Line, bytes: &[u8]) -> Result<(), NoMemory>
     while let [first, rest @ ..] = left {
         push_char(line, char::from(*first))?;
         left = append_front(line, rest)?;
-    }
-    Ok(())
-}
-
-// Adds UTF-8 at the end of the line, with a `?` in place of each malformed byte. For want of memory
-// its front may stand there.
-pub(crate) fn append_utf8(line: &mut Line, bytes: &[u8]) -> Result<(), NoMemory>
-    ensures { OnOk result (line.new.items ≡ line.old.items ++ spec.utf8_text bytes.now) }
-{
-    for chunk in bytes.utf8_chunks() {
-        line.append(chunk.valid())?;
-        push_marks(line, chunk.invalid().len())?;
     }
     Ok(())
 }

@@ -3,9 +3,8 @@
 ghost use Rattle.std.specs.Prelude.{◌≡◌, ◌<◌, ◌+◌, ◌++◌, IfOk, OnOk, IfSome, IfNone, length, take, drop, option_map};
 ghost use Rattle.headers.specs.Decode as spec;
 
-use crate::charset::append_utf8;
 use crate::encoded_word::DecodedWord;
-use mail_base::{Line, NoMemory, is_all_blank};
+use mail_base::{Line, NoMemory, append_utf8, is_all_blank};
 use memchr::memchr;
 use std::alloc::Global;
 
@@ -68,7 +67,7 @@ pub fn decode_words(alloc: Global, value: &[u8]) -> Result<Line, NoMemory>
     while let Some(found) = FoundWord::find(alloc, left)? {
         append_before(&mut line, after_word, found.before)?;
         let word = found.word;
-        word.charset.append_to(&mut line, &word.bytes)?;
+        word.charset.append_to(&mut line, word.bytes.as_slice())?;
         after_word = true;
         left = word.rest;
     }

@@ -5,7 +5,7 @@ ghost use Rattle.headers.specs.EncodedWord as spec;
 
 use crate::charset::Charset;
 use crate::encoding::Encoding;
-use mail_base::{NoMemory, behind};
+use mail_base::{Bytes, NoMemory, behind};
 use std::alloc::Global;
 
 /// An encoded word as it is written, and the text behind it.
@@ -21,7 +21,7 @@ pub struct WrittenWord<'a> {
 #[derive(Drop)]
 pub struct DecodedWord<'a> {
     pub charset: Charset,
-    pub bytes: Vec<u8>,
+    pub bytes: Bytes,
     pub rest: &'a [u8],
 }
 

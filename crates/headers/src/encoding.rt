@@ -1,14 +1,9 @@
 //! The encodings of encoded words (RFC 2047, section 4).
 
 ghost use Rattle.std.specs.Prelude.{◌≡◌, option_map, IfOk};
-ghost use Rattle.std.specs.Result.{result_ok};
-ghost use Rattle.base64.specs.GeneralPurpose.{decode_of};
-ghost use Rattle.base64.specs.Engines.{standard};
 ghost use Rattle.headers.specs.Encoding as spec;
 
-use base64::DecodeAllocError;
-use base64::engine::general_purpose::STANDARD;
-use mail_base::{NoMemory, read_hex_byte};
+use mail_base::{Bytes, NoMemory, decode_base64, read_hex_byte};
 use std::alloc::Global;
 
 /// How the text of an encoded word is written (RFC 2047, section 4).
@@ -31,8 +26,8 @@ impl Encoding {
     }
 
     /// The bytes of a text, unless it is malformed.
-    pub fn decode(self, alloc: Global, text: &[u8]) -> Result<Option<Vec<u8>>, NoMemory>
-        ensures { IfOk result (λ o. option_map (λ v. v.items) o ≡ spec.bytes_of self text.now) }
+    pub fn decode(self, alloc: Global, text: &[u8]) -> Result<Option<Bytes>, NoMemory>
+        ensures { IfOk result (λ o. option_map (λ b. b.items) o ≡ spec.bytes_of self text.now) }
     {
         match self {
             Encoding::Base64 => decode_base64(alloc, text),
@@ -52,10 +47,10 @@ fn quoted_byte(first: u8, rest: &[u8]) -> Option<(u8, &[u8])>
     }
 }
 
-fn decode_quoted(alloc: Global, text: &[u8]) -> Result<Option<Vec<u8>>, NoMemory>
-    ensures { IfOk result (λ o. option_map (λ v. v.items) o ≡ spec.quoted_from 0 text.now) }
+fn decode_quoted(alloc: Global, text: &[u8]) -> Result<Option<Bytes>, NoMemory>
+    ensures { IfOk result (λ o. option_map (λ b. b.items) o ≡ spec.quoted_from 0 text.now) }
 {
-    let mut bytes = Vec::new(alloc);
+    let mut bytes = Bytes::new(alloc);
     let mut left = text;
     while let [first, rest @ ..] = left {
         let Some((byte, rest)) = quoted_byte(*first, rest) else {
@@ -65,16 +60,4 @@ fn decode_quoted(alloc: Global, text: &[u8]) -> Result<Option<Vec<u8>>, NoMemory
         left = rest;
     }
     Ok(Some(bytes))
-}
-
-/// The bytes of a text in base64 (RFC 4648, section 4), unless it is malformed.
-pub fn decode_base64(alloc: Global, text: &[u8]) -> Result<Option<Vec<u8>>, NoMemory>
-    ensures { IfOk result
-        (λ o. option_map (λ v. v.items) o ≡ result_ok (decode_of standard text.now)) }
-{
-    match STANDARD.decode(alloc, text) {
-        Ok(bytes) => Ok(Some(bytes)),
-        Err(DecodeAllocError::DecodeError(_)) => Ok(None),
-        Err(DecodeAllocError::OutOfMemory) => Err(NoMemory),
-    }
 }

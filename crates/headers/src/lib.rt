@@ -25,7 +25,6 @@ mod values;
 
 pub use charset::Charset;
 pub use decode::decode_words;
-pub use encoding::decode_base64;
 pub use field::{Field, Fields};
 pub use fields_so_far::read_fields;
 pub use header::{Header, read_header, read_subject};

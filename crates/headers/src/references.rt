@@ -1,6 +1,6 @@
 //! The ids of References fields, of which the last 64 count.
 
-ghost use Rattle.std.specs.Prelude.{◌≡◌, ◌++◌, ◌∷◌, [], map, IfOk, OnOk};
+ghost use Rattle.std.specs.Prelude.{◌≡◌, ◌≤◌, ◌++◌, ◌∷◌, [], length, map, reverse, IfOk, OnOk};
 ghost use Rattle.mail_base.specs.Series.{plain_texts};
 ghost use Rattle.headers.specs.Field.{plain_field};
 ghost use Rattle.headers.specs.Ids.{ids};
@@ -17,8 +17,10 @@ const MOST: usize = 64;
 
 // Adds an id at the end. Where enough are there, the first goes.
 fn push_last(names: &mut Names, id: Bytes) -> Result<(), NoMemory>
-    ensures { OnOk result
+    requires { length names.old.items ≤ 64 }
+    ensures value { OnOk result
         (last_ids (plain_texts names.new) ≡ last_ids (plain_texts names.old ++ id.items ∷ [])) }
+    ensures few { OnOk result (length names.new.items ≤ 64) }
 {
     if names.len() < MOST {
         names.push(id)?;
@@ -31,8 +33,10 @@ fn push_last(names: &mut Names, id: Bytes) -> Result<(), NoMemory>
 
 // Adds the ids of a text at the end.
 fn add_ids(alloc: Global, names: &mut Names, text: &[u8]) -> Result<(), NoMemory>
-    ensures { OnOk result
+    requires { length names.old.items ≤ 64 }
+    ensures value { OnOk result
         (last_ids (plain_texts names.new) ≡ last_ids (plain_texts names.old ++ ids text.now)) }
+    ensures few { OnOk result (length names.new.items ≤ 64) }
 {
     let mut left = text;
     while let Some(found) = FoundId::find(left) {
@@ -44,8 +48,10 @@ fn add_ids(alloc: Global, names: &mut Names, text: &[u8]) -> Result<(), NoMemory
 
 // Adds the ids of a References field at the end; another field has none.
 fn add_field(alloc: Global, names: &mut Names, field: &Field) -> Result<(), NoMemory>
-    ensures { OnOk result (last_ids (plain_texts names.new)
+    requires { length names.old.items ≤ 64 }
+    ensures value { OnOk result (last_ids (plain_texts names.new)
         ≡ last_ids (plain_texts names.old ++ references (plain_field field.now ∷ []))) }
+    ensures few { OnOk result (length names.new.items ≤ 64) }
 {
     if !is_same_name(field.name.as_slice(), b"references") {
         return Ok(());
@@ -54,10 +60,10 @@ fn add_field(alloc: Global, names: &mut Names, field: &Field) -> Result<(), NoMe
     Ok(())
 }
 
-/// The ids of all References fields, of which no more than the last 64 are kept.
+/// The last 64 ids of all References fields, in the order in which they stand.
 pub fn last_references(alloc: Global, fields: &[Field]) -> Result<Names, NoMemory>
     ensures { IfOk result
-        (λ n. last_ids (plain_texts n) ≡ last_ids (references (map plain_field fields.now))) }
+        (λ n. reverse (plain_texts n) ≡ last_ids (references (map plain_field fields.now))) }
 {
     let mut names = Names::new(alloc);
     let mut left = fields;

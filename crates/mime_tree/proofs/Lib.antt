@@ -1,3 +1,4 @@
+pub mod Base64Lemmas
 pub mod CutLemmas
 pub mod DashLinesLemmas
 pub mod EntityLemmas

@@ -1,9 +1,9 @@
 //! Bodies in base64 (RFC 2045, section 6.8).
 
-ghost use Rattle.std.specs.Prelude.{◌≡◌, IfOk, filter};
+ghost use Rattle.std.specs.Prelude.{◌≡◌, ◌++◌, ◌<◌, length, filter, not, position, IfOk, IfSome, IfNone};
 ghost use Rattle.mime_tree.specs.Base64Body as spec;
 
-use mail_base::{Bytes, NoMemory, is_blank};
+use mail_base::{Bytes, NoMemory, decode_base64, is_blank, split_around};
 use std::alloc::Global;
 
 fn is_solid(byte: u8) -> bool
@@ -12,25 +12,50 @@ fn is_solid(byte: u8) -> bool
     !(is_blank(byte) || byte == b'\n' || byte == b'\r')
 }
 
-fn without_white_space(alloc: Global, text: &[u8]) -> Result<Vec<u8>, NoMemory>
-    ensures { IfOk result (λ v. v.items ≡ filter spec.is_solid text.now) }
+// The place of the first white space.
+fn space_at(text: &[u8]) -> Option<usize>
+    ensures value { result ≡ position (λ b. not (spec.is_solid b)) text.now }
+    ensures within { IfSome result (λ at. at < length text.now) }
 {
-    Ok(
-        text.iter()
-            .copied()
-            .filter(|b| is_solid(*b))
-            .collect(alloc)?,
-    )
+    text.iter().position(|b| !is_solid(*b))
+}
+
+// What stands before and behind the first white space.
+fn split_at_space(text: &[u8]) -> Option<(&[u8], &[u8])>
+    ensures none { IfNone result (filter spec.is_solid text.now ≡ text.now) }
+    ensures some { IfSome result
+        (λ p. filter spec.is_solid text.now ≡ p.0.now ++ filter spec.is_solid p.1.now) }
+    ensures shorter { IfSome result (λ p. length p.1.now < length text.now) }
+{
+    match space_at(text) {
+        Some(place) => Some(split_around(text, place)),
+        None => None,
+    }
+}
+
+// Room for the whole text is made first, since most of it is no white space.
+fn without_white_space(alloc: Global, text: &[u8]) -> Result<Bytes, NoMemory>
+    ensures { IfOk result (λ b. b.items ≡ filter spec.is_solid text.now) }
+{
+    let mut solid = Bytes::new(alloc);
+    solid.reserve(text.len())?;
+    let mut left = text;
+    while let Some((run, rest)) = split_at_space(left) {
+        solid.append(run)?;
+        left = rest;
+    }
+    solid.append(left)?;
+    Ok(solid)
 }
 
 /// The bytes of a body in base64 (RFC 2045, section 6.8); one that does not decode stays as
 /// written.
-pub fn decode_base64(alloc: Global, text: &[u8]) -> Result<Bytes, NoMemory>
+pub fn decode_base64_body(alloc: Global, text: &[u8]) -> Result<Bytes, NoMemory>
     ensures { IfOk result (λ b. b.items ≡ spec.from_base64 text.now) }
 {
     let solid = without_white_space(alloc, text)?;
-    match headers::decode_base64(alloc, &solid)? {
-        Some(bytes) => Ok(Bytes::from_vec(bytes)),
+    match decode_base64(alloc, solid.as_slice())? {
+        Some(bytes) => Ok(bytes),
         None => Bytes::copy_of(alloc, text),
     }
 }

@@ -4,7 +4,7 @@ ghost use Rattle.std.specs.Prelude.{◌≡◌, ◌≤◌, length, slice_range, I
 ghost use Rattle.mail_base.specs.Series.{plain_texts};
 ghost use Rattle.mime_tree.specs.Text as spec;
 
-use crate::base64_body::decode_base64;
+use crate::base64_body::decode_base64_body;
 use crate::encoding::Encoding;
 use crate::part::Part;
 use crate::quoted::decode_quoted;
@@ -36,7 +36,7 @@ pub fn decoded_text(alloc: Global, raw: &[u8], part: &Part) -> Result<Lines, NoM
     let charset = Charset::from_name(part.charset.as_slice());
     match part.encoding {
         Encoding::Plain => lines_of(alloc, charset, body),
-        Encoding::Base64 => lines_of(alloc, charset, decode_base64(alloc, body)?.as_slice()),
+        Encoding::Base64 => lines_of(alloc, charset, decode_base64_body(alloc, body)?.as_slice()),
         Encoding::Quoted => lines_of(alloc, charset, decode_quoted(alloc, body)?.as_slice()),
     }
 }

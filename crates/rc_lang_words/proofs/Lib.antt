@@ -1,4 +1,3 @@
-pub mod ShownTextLemmas
 pub mod WordLemmas
 pub mod QuotingLemmas
 pub mod ReadBack

@@ -18,7 +18,7 @@ use Rattle.rc_lang_words.specs.Words.{line_of, pieces_of, text_of, with_text}
 use Rattle.rc_lang_words.specs.Words.{words_from}
 use Rattle.rc_lang_words.proofs.QuotingLemmas.{escaped_sign, escaped_signs, escaped_utf8}
 use Rattle.rc_lang_words.proofs.QuotingLemmas.{quoted_sign}
-use Rattle.rc_lang_words.proofs.ShownTextLemmas.{shown_utf8}
+use Rattle.mail_base.proofs.ShownLemmas.{shown_utf8}
 use Rattle.rc_lang_words.proofs.WordLemmas.{pieces_of_byte, with_text_append}
 
 abbrev pub is_no_end : Sign → Bool

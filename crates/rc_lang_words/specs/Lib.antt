@@ -1,5 +1,4 @@
 pub mod Faults
-pub mod ShownText
 pub mod Signs
 pub mod Words
 pub mod Laws

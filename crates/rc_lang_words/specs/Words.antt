@@ -6,6 +6,7 @@ use Rattle.std.specs.List.{filter_map}
 use Rattle.std.specs.declared.alloc.Global.{Global}
 use Rattle.std.specs.declared.vec.Vec.{Vec}
 use Rattle.mail_base.specs.Series.{Held}
+use Rattle.mail_base.specs.Shown.{utf8_text}
 use Rattle.rc_lang_words.specs.declared.fault.RcFault.{RcFault}
 use Rattle.rc_lang_words.specs.declared.fault.RcFault.TheVariants as fault
 use Rattle.rc_lang_words.specs.declared.rc_line.RcLine.{RcLine}
@@ -14,7 +15,6 @@ use Rattle.rc_lang_words.specs.declared.word.FoundName.{FoundName}
 use Rattle.rc_lang_words.specs.declared.word.RcPiece.{RcPiece}
 use Rattle.rc_lang_words.specs.declared.word.RcPiece.TheVariants as piece
 use Rattle.rc_lang_words.specs.declared.word.RcWord.{RcWord}
-use Rattle.rc_lang_words.specs.ShownText.{shown_text}
 use Rattle.rc_lang_words.specs.Signs.{signs_of, is_blank, is_end, is_open_quote, is_plain}
 use Rattle.rc_lang_words.specs.Signs.{is_active, is_in_name, byte_of}
 
@@ -185,7 +185,7 @@ command_line command = line_of command.is_open (words_from [] command.signs)
 
 -- the commands of muttrc text
 abbrev pub lines_of : List ℕ → List PlainLine
-lines_of text = filter_map command_line (commands_from [] (signs_of (shown_text text)))
+lines_of text = filter_map command_line (commands_from [] (signs_of (utf8_text text)))
 
 -- a command, without the rooms of its lists
 abbrev pub plain_line : RcLine → PlainLine

@@ -5,7 +5,6 @@
 mod fault;
 mod laws;
 mod rc_line;
-mod shown;
 mod sign;
 mod split;
 mod state;
@@ -14,5 +13,4 @@ mod word;
 pub use fault::{RcError, RcFault};
 pub use laws::quoted_words_are_read;
 pub use rc_line::{RcLine, RcLines, read_rc};
-pub use shown::shown_text;
 pub use word::{RcPiece, RcPieces, RcWord, RcWords};

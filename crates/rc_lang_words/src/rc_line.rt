@@ -4,12 +4,11 @@ ghost use Rattle.std.specs.Prelude.{◌≡◌, ◌++◌, [], OnOk, IfOk, map, op
 ghost use Rattle.rc_lang_words.specs.Words as spec;
 
 use crate::fault::RcFault;
-use crate::shown::shown_text;
 use crate::sign::Sign;
 use crate::split::{join_words, split_words};
 use crate::state::read_signs;
 use crate::word::{RcWord, RcWords};
-use mail_base::{NoMemory, Series};
+use mail_base::{Line, NoMemory, Series, append_utf8};
 use std::alloc::Global;
 
 /// A command, with the line on which its first word begins, counted from 1. Joined lines count
@@ -101,8 +100,9 @@ fn add_line(
 pub fn read_rc(alloc: Global, text: &[u8]) -> Result<RcLines, NoMemory>
     ensures { IfOk result (λ lines. spec.plain_lines lines ≡ spec.lines_of text.now) }
 {
-    let text = shown_text(alloc, text)?;
-    let signs = read_signs(alloc, text.as_slice())?;
+    let mut shown = Line::new(alloc);
+    append_utf8(&mut shown, text)?;
+    let signs = read_signs(alloc, shown.as_slice())?;
     let mut lines = RcLines::new(alloc);
     let mut command = Vec::new(alloc);
     let mut left = signs.as_slice();

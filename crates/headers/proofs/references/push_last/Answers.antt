@@ -5,8 +5,8 @@ use Rattle.headers.specs.References.{last_ids}
 use Rattle.headers.proofs.ReferencesLemmas.{last_ids-first, map_behind_first}
 use Rattle.headers.proofs.references.push_last.Goals as goal
 
-pub returns : goal.returns
-returns c =
+pub returns-clause-value : goal.returns-clause-value
+returns-clause-value c =
     let items = c.args.names.now.items in
     let names = plain_texts c.args.names.now in
     let id = c.args.id.items in
