@@ -2,9 +2,6 @@ pub mod CandidatesLemmas
 pub mod CharsetLemmas
 pub mod DecodeLemmas
 pub mod IdsLemmas
-pub mod LawsOfFields
-pub mod LawsOfPeople
-pub mod LawsOfText
 pub mod ReferencesLemmas
 pub mod SubjectLemmas
 pub mod ValuesLemmas

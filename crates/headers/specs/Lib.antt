@@ -10,7 +10,6 @@ pub mod Field
 pub mod FieldsSoFar
 pub mod Header
 pub mod Ids
-pub mod Laws
 pub mod People
 pub mod Person
 pub mod References

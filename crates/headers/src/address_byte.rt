@@ -4,7 +4,7 @@ ghost use Rattle.std.specs.Prelude.{◌≡◌};
 ghost use Rattle.headers.specs.AddressByte as spec;
 
 /// What a byte of an address list is there.
-#[derive(Clone, Copy, Debug, PartialEq, Eq)]
+#[derive(Clone, Copy, PartialEq, Eq)]
 pub enum Role {
     Text,
     /// A quote, or a backslash in quotes.
@@ -23,7 +23,7 @@ pub enum Role {
 }
 
 /// A byte of an address list with what it is.
-#[derive(Clone, Copy, Debug, PartialEq, Eq)]
+#[derive(Clone, Copy)]
 pub struct AddressByte {
     pub byte: u8,
     pub role: Role,

@@ -8,7 +8,7 @@ use mail_base::NoMemory;
 use std::alloc::Global;
 
 /// Where a byte stands; a comment has the number of comments that are open.
-#[derive(Clone, Copy, Debug, PartialEq, Eq)]
+#[derive(Clone, Copy)]
 pub enum Within {
     Plain,
     Quotes,
@@ -20,7 +20,7 @@ pub enum Within {
 }
 
 /// Where the next byte stands, and whether in angle brackets.
-#[derive(Clone, Copy, Debug, PartialEq, Eq)]
+#[derive(Clone, Copy)]
 pub struct AddressState {
     pub in_angle: bool,
     pub within: Within,

@@ -9,7 +9,7 @@ use mail_base::{Bytes, NoMemory, behind};
 use std::alloc::Global;
 
 /// An encoded word as it is written, and the text behind it.
-#[derive(Clone, Copy, Debug)]
+#[derive(Clone, Copy)]
 pub struct WrittenWord<'a> {
     pub charset: &'a [u8],
     pub encoding: Encoding,

@@ -7,7 +7,7 @@ use mail_base::{Bytes, NoMemory, decode_base64, read_hex_byte};
 use std::alloc::Global;
 
 /// How the text of an encoded word is written (RFC 2047, section 4).
-#[derive(Clone, Copy, Debug, PartialEq, Eq)]
+#[derive(Clone, Copy)]
 pub enum Encoding {
     Base64,
     Quoted,

@@ -7,7 +7,7 @@ use mail_base::{Bytes, NoMemory, split_once};
 use std::alloc::Global;
 
 /// What stands in the brackets of a message id, and behind it.
-#[derive(Clone, Copy, Debug)]
+#[derive(Clone, Copy)]
 pub struct FoundId<'a> {
     pub inside: &'a [u8],
     pub rest: &'a [u8],

@@ -15,7 +15,6 @@ mod field;
 mod fields_so_far;
 mod header;
 mod ids;
-mod laws;
 mod people;
 mod person;
 mod references;
@@ -28,10 +27,6 @@ pub use decode::decode_words;
 pub use field::{Field, Fields};
 pub use fields_so_far::read_fields;
 pub use header::{Header, read_header, read_subject};
-pub use laws::{
-    comment_is_the_name, group_is_read, plain_text_stays, quoted_phrase_is_read,
-    written_fields_are_read, written_people_are_read,
-};
 pub use people::read_people;
 pub use person::{Person, Persons};
 pub use sent_date::SentDate;

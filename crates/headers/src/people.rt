@@ -17,7 +17,7 @@ use mail_base::{Bytes, Line, NoMemory, is_blank, split_around, trimmed};
 use std::alloc::Global;
 
 /// The brackets of an address, with what stands before, in and behind them.
-#[derive(Clone, Copy, Debug)]
+#[derive(Clone, Copy)]
 pub struct Brackets<'a> {
     pub before: &'a [AddressByte],
     pub inside: &'a [AddressByte],

@@ -1,5 +1,5 @@
 -- How a clock in memory goes on.
-use Rattle.std.proofs.Common.{◌≡◌, ◌<◌, ◌≤◌, ℕ, ℤ, List, Some, map, length, drop, get_or, refl, subst, sym, arith, ◌+◌, ◌∷◌, ◌∙◌, ap}
+use Rattle.std.proofs.Common.{◌<◌, ℕ, List, Some, map, length, drop, get_or, refl, subst, sym, arith, ◌+◌, ◌∷◌}
 use Rattle.std.proofs.lemmas.List.{drop_more}
 use Rattle.mail_base.specs.Streams.{Ticks, moment_of}
 

@@ -52,7 +52,6 @@ fn malformed_len(bytes: &[u8]) -> usize
 fn push_marks(line: &mut Line, count: usize) -> Result<(), NoMemory>
     ensures { OnOk result (line.new.items ≡ line.old.items ++ replicate count 63) }
 {
-    line.reserve(count)?;
     for _i in 0..count {
         line.push(b'?')?;
     }
@@ -64,6 +63,7 @@ fn push_marks(line: &mut Line, count: usize) -> Result<(), NoMemory>
 pub fn append_utf8(line: &mut Line, bytes: &[u8]) -> Result<(), NoMemory>
     ensures { OnOk result (line.new.items ≡ line.old.items ++ spec.utf8_text bytes.now) }
 {
+    line.reserve(bytes.len())?;
     let mut left = bytes;
     while !left.is_empty() {
         let (text, behind) = left.split_at(text_len(left));

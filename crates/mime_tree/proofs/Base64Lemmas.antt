@@ -1,6 +1,6 @@
 -- How white space is left out of a text, run by run.
 use Rattle.std.proofs.Common.{◌≡◌, ℕ, suc, ◌+◌, Bool, true, false, not, List, [], ◌∷◌, ◌++◌, take, drop}
-use Rattle.std.proofs.Common.{Some, None, position, filter, refl, sym, ap, ◌∙◌, arith}
+use Rattle.std.proofs.Common.{Some, None, position, filter, refl, ap, ◌∙◌, arith}
 use Rattle.std.specs.Prelude.{if◌then◌else◌}
 use Rattle.std.specs.List.{before_first, after_first, position_or_len}
 use Rattle.std.proofs.lemmas.List.{append-nil}

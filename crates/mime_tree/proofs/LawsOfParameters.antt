@@ -12,7 +12,7 @@ use Rattle.mail_base.specs.Fronts.{◌>>=◌, behind}
 use Rattle.mail_base.specs.Tokens.{is_token_byte, token_len}
 use Rattle.mail_base.proofs.FrontsLemmas.{bytes_eq_same}
 use Rattle.mail_base.proofs.RoundPlaces.{prefix_stop}
-use Rattle.headers.specs.Laws.{escaped}
+use Rattle.mail_base.specs.Written.{escaped}
 use Rattle.mime_tree.specs.Laws.{is_token, WrittenParameterIsRead}
 use Rattle.mime_tree.specs.Parameter.{PlainParameter, PlainValue, named_value, parameter_at}
 use Rattle.mime_tree.specs.Parameter.{parameters_from, parameters_with, quoted_value, value_of, with_byte}

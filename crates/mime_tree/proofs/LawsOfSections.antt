@@ -12,7 +12,7 @@ use Rattle.bstr.proofs.lemmas.RestLemmas.{concat-lines_of}
 use Rattle.mail_base.specs.Fronts.{◌>>=◌, behind_text}
 use Rattle.mail_base.proofs.FrontsLemmas.{behind_text_front}
 use Rattle.mail_base.proofs.LinesLemmas.{lines_feed, terminator_goes}
-use Rattle.headers.specs.Laws.{is_line_byte}
+use Rattle.mail_base.specs.Written.{is_line_byte}
 use Rattle.mime_tree.specs.Delimiter.{is_delimiter, kind_behind, kind_of}
 use Rattle.mime_tree.specs.Laws.{dashed, is_apart, written_sections, WrittenSectionsAreCut}
 use Rattle.mime_tree.specs.Section.{PlainSection, section_at, section_text, sections, sections_with}

@@ -5,7 +5,7 @@ use Rattle.std.specs.List.{list_all, list_any, flat_map}
 use Rattle.std.specs.Str.{byte}
 use Rattle.bstr.specs.Text.{lines_of}
 use Rattle.mail_base.specs.Tokens.{is_token_byte}
-use Rattle.headers.specs.Laws.{escaped, is_line_byte}
+use Rattle.mail_base.specs.Written.{escaped, is_line_byte}
 use Rattle.mime_tree.specs.Delimiter.{is_delimiter, kind_of}
 use Rattle.mime_tree.specs.Parameter.{parameters, value_of}
 use Rattle.mime_tree.specs.Quoted.{from_quoted}

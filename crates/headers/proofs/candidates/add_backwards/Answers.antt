@@ -1,5 +1,5 @@
 use Rattle.std.proofs.Common.{◌≡◌, List, ℕ, ◌++◌, ◌∷◌, [], map, reverse, sym, ap, ◌∙◌}
-use Rattle.std.proofs.lemmas.List.{append-nil, map-append, reverse-append}
+use Rattle.std.proofs.lemmas.List.{map-append, reverse-append}
 use Rattle.headers.specs.Candidates.{new_ids, with_id}
 use Rattle.mail_base.specs.Series.{plain_texts}
 use Rattle.headers.proofs.CandidatesLemmas.{new_ids-more}

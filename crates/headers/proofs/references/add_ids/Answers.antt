@@ -18,13 +18,13 @@ loop-found-preserved c =
     let id = c.in_ok-bracketed.field-0.items in record {
       few = c.in_ok-push_last.ensures.few;
       same = (
-      next.0,
-      next.1,
-      last_ids-append (plain_texts c.push_last.new.names) (names ++ id ∷ []) (ids_from next.0 found.rest) c.in_ok-push_last.ensures.value
-          ∙ ap last_ids (append_assoc names (id ∷ []) (ids_from next.0 found.rest))
-          ∙ ap (λ (i : List ℕ). last_ids (names ++ i ∷ ids_from next.0 found.rest)) c.in_ok-bracketed.ensures
-          ∙ ap (λ (l : List (List ℕ)). last_ids (names ++ l)) (sym next.2)
-          ∙ same.2,
+        next.0,
+        next.1,
+        last_ids-append (plain_texts c.push_last.new.names) (names ++ id ∷ []) (ids_from next.0 found.rest) c.in_ok-push_last.ensures.value
+            ∙ ap last_ids (append_assoc names (id ∷ []) (ids_from next.0 found.rest))
+            ∙ ap (λ (i : List ℕ). last_ids (names ++ i ∷ ids_from next.0 found.rest)) c.in_ok-bracketed.ensures
+            ∙ ap (λ (l : List (List ℕ)). last_ids (names ++ l)) (sym next.2)
+            ∙ same.2,
       );
     }
 

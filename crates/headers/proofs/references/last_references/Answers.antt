@@ -1,4 +1,4 @@
-use Rattle.std.proofs.Common.{◌≡◌, ◌≤◌, [], ◌∷◌, ◌++◌, length, map, reverse, sym, ap, ◌∙◌, arith}
+use Rattle.std.proofs.Common.{◌≤◌, [], ◌∷◌, ◌++◌, length, map, ap, ◌∙◌, arith}
 use Rattle.std.proofs.lemmas.List.{length-map}
 use Rattle.mail_base.specs.Series.{plain_texts}
 use Rattle.headers.specs.Field.{plain_field}
@@ -12,10 +12,10 @@ pub loop-left-preserved : goal.loop-left-preserved
 loop-left-preserved c = record {
   few = c.in_ok-add_field.ensures.few;
   same = last_ids_rest c.loop-left.left.now c.first-item.result (plain_texts c.loop-left.names)
-    (plain_texts c.add_field.new.names) (references (map plain_field c.args.fields.now)) c.in-len1-up.len_at_least
-    (c.in_ok-add_field.ensures.value ∙ ap (λ (f : Field). last_ids (plain_texts c.loop-left.names ++ references (plain_field f ∷ [])))
-    c.first-item.is)
-    c.loop-left.invariant.same;
+      (plain_texts c.add_field.new.names) (references (map plain_field c.args.fields.now)) c.in-len1-up.len_at_least
+      (c.in_ok-add_field.ensures.value ∙ ap (λ (f : Field). last_ids (plain_texts c.loop-left.names ++ references (plain_field f ∷ [])))
+      c.first-item.is)
+      c.loop-left.invariant.same;
 }
 
 pub returns : goal.returns

@@ -1,4 +1,4 @@
-use Rattle.std.proofs.Common.{length, ◌≤◌, arith, sym}
+use Rattle.std.proofs.Common.{length, arith, sym}
 use Rattle.mail_base.proofs.LinesLemmas.{length_left, shorter_left}
 use Rattle.mail_base.proofs.lines.first_line.Goals as goal
 

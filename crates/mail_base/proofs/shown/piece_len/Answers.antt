@@ -1,5 +1,4 @@
-use Rattle.std.proofs.Common.{◌≡◌, None, sym, ◌∙◌, arith}
-use Rattle.bstr.specs.Utf8.{decoded}
+use Rattle.std.proofs.Common.{sym, ◌∙◌, arith}
 use Rattle.mail_base.proofs.ShownLemmas.{piece_some, piece_within, utf8_text_piece}
 use Rattle.mail_base.proofs.shown.piece_len.Goals as goal
 

@@ -1,6 +1,6 @@
 -- Text without encoded words, and UTF-8, show as they are.
-use Rattle.std.proofs.Common.{◌≡◌, ℕ, ◌==◌, ◌&&◌, Bool, true, false, List, [], ◌∷◌, ◌++◌, length}
-use Rattle.std.proofs.Common.{Option, Some, None, option_map, refl, sym, ap, ◌∙◌}
+use Rattle.std.proofs.Common.{◌≡◌, ℕ, ◌==◌, ◌&&◌, Bool, true, false, List, [], ◌∷◌, length}
+use Rattle.std.proofs.Common.{Option, Some, None, option_map, refl, ap, ◌∙◌}
 use Rattle.std.specs.Prelude.{is_some}
 use Rattle.std.proofs.lemmas.Str.{IsUtf8-from_is_utf8}
 use Rattle.std.proofs.lemmas.Bool.{or_parts}
@@ -8,7 +8,7 @@ use Rattle.mail_base.specs.Fronts.{behind}
 use Rattle.mail_base.proofs.ShownLemmas.{shown_utf8}
 use Rattle.headers.specs.Decode.{first_word, found_at, with_text}
 use Rattle.headers.specs.EncodedWord.{encoded_word, written_word}
-use Rattle.headers.specs.Laws.{has_mark, PlainTextStays, Utf8Stays}
+use Rattle.headers_laws.specs.Laws.{has_mark, PlainTextStays, Utf8Stays}
 use Rattle.headers.proofs.DecodeLemmas.{decoded_from-absent}
 
 none_of : (o : Option (List ℕ)) → is_some o ≡ false → o ≡ None

@@ -13,8 +13,9 @@ use Rattle.mail_base.specs.Lines.{PlainField, is_empty_line, is_continuation, is
 use Rattle.mail_base.specs.Lines.{colon_of, name_of, behind_colon, header_block, continuations, unfolded}
 use Rattle.mail_base.specs.Lines.{fields_of}
 use Rattle.mail_base.specs.Blanks.{without_blanks}
-use Rattle.headers.specs.Laws.{is_name, is_line_byte, is_one_line, written_field, written_message, WrittenFieldsAreRead}
-use Rattle.headers.specs.Laws.{WrittenBodyIsFound}
+use Rattle.headers_laws.specs.Laws.{is_name, is_one_line, written_field, written_message, WrittenFieldsAreRead}
+use Rattle.mail_base.specs.Written.{is_line_byte}
+use Rattle.headers_laws.specs.Laws.{WrittenBodyIsFound}
 use Rattle.mail_base.proofs.BlanksLemmas.{without_blanks_stay}
 use Rattle.mail_base.proofs.LinesLemmas.{lines_feed}
 use Rattle.mail_base.proofs.RoundPlaces.{prefix_stop}

@@ -29,10 +29,11 @@ use Rattle.headers.specs.AddressState.{address_bytes, bytes_from, comment_step, 
 use Rattle.headers.specs.Decode.{decoded_words}
 use Rattle.headers.specs.People.{PlainBrackets, brackets_of, first_comment, shown_name, person_of, person_in, people}
 use Rattle.headers.specs.Person.{PlainPerson}
-use Rattle.headers.specs.Laws.{is_plain_byte, is_trimmed, is_plain, is_plain_person, written_person, has_mark}
-use Rattle.headers.specs.Laws.{WrittenPeopleAreRead, escaped, written_quoted, QuotedPhraseIsRead}
-use Rattle.headers.specs.Laws.{GroupIsRead, written_commented, CommentIsTheName}
-use Rattle.headers.proofs.LawsOfText.{plain_text_stays}
+use Rattle.headers_laws.specs.Laws.{is_plain_byte, is_trimmed, is_plain, is_plain_person, written_person, has_mark}
+use Rattle.headers_laws.specs.Laws.{WrittenPeopleAreRead, written_quoted, QuotedPhraseIsRead}
+use Rattle.mail_base.specs.Written.{escaped}
+use Rattle.headers_laws.specs.Laws.{GroupIsRead, written_commented, CommentIsTheName}
+use Rattle.headers_laws.proofs.LawsOfText.{plain_text_stays}
 
 -- bytes that are text
 abbrev text_bytes : List ℕ → List AddressByte

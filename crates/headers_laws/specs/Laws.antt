@@ -1,12 +1,13 @@
 -- Laws of the definitions, in the words of a reader of mail.
 use Rattle.std.specs.Prelude.{◌≡◌, ◌==◌, ◌&&◌, ◌||◌, ℕ, Bool, true, false, not, nat_le, is_some, List, [], ◌∷◌, ◌++◌}
-use Rattle.std.specs.Prelude.{length, if◌then◌else◌}
+use Rattle.std.specs.Prelude.{length}
 use Rattle.std.specs.List.{list_all, flat_map, suffix_len}
 use Rattle.std.specs.Str.{byte, is_utf8}
 use Rattle.mail_base.specs.Blanks.{is_blank}
 use Rattle.mail_base.specs.Fronts.{behind}
 use Rattle.mail_base.specs.Lines.{PlainField, body_at, is_continuation, is_name_byte, message_fields}
 use Rattle.mail_base.specs.Shown.{utf8_text}
+use Rattle.mail_base.specs.Written.{escaped, is_line_byte}
 use Rattle.headers.specs.Decode.{decoded_words}
 use Rattle.headers.specs.People.{people}
 use Rattle.headers.specs.Person.{PlainPerson}
@@ -52,12 +53,6 @@ WrittenPeopleAreRead =
     (persons : List PlainPerson) → list_all is_plain_person persons ≡ true
     → people (flat_map written_person persons) ≡ persons
 
--- a quote and a backslash stand behind a backslash (RFC 5322, section 3.2.4)
-abbrev pub escaped : List ℕ → List ℕ
-escaped [] = []
-escaped (b ∷ s) =
-    if b == byte "\"" || b == byte "\\" then byte "\\" ∷ b ∷ escaped s else b ∷ escaped s
-
 -- a person whose name can be written in quotes
 abbrev pub is_quotable_person : PlainPerson → Bool
 is_quotable_person p = is_utf8 p.name && is_trimmed p.name && not (has_mark p.name) && is_plain p.address
@@ -94,10 +89,6 @@ CommentIsTheName = (p : PlainPerson) → is_plain_person p ≡ true → people (
 abbrev pub is_name : List ℕ → Bool
 is_name [] = false
 is_name (b ∷ name) = is_name_byte b && list_all is_name_byte name
-
--- a byte that a value on one line may hold
-abbrev pub is_line_byte : ℕ → Bool
-is_line_byte b = not (b == byte "\n") && not (b == byte "\r")
 
 -- a field that fits one line
 abbrev pub is_one_line : PlainField → Bool

@@ -1,5 +1,5 @@
-use Rattle.headers.proofs.LawsOfText.{plain_text_stays, utf8_stays}
-use Rattle.headers.proofs.laws.plain_text_stays.Goals as goal
+use Rattle.headers_laws.proofs.LawsOfText.{plain_text_stays, utf8_stays}
+use Rattle.headers_laws.proofs.laws.plain_text_stays.Goals as goal
 
 pub returns-clause-text : goal.returns-clause-text
 returns-clause-text c = plain_text_stays

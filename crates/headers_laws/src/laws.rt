@@ -1,6 +1,6 @@
 //! Laws of what is read: what was written so is read back.
 
-ghost use Rattle.headers.specs.Laws as spec;
+ghost use Rattle.headers_laws.specs.Laws as spec;
 
 /// A value without encoded words is read as UTF-8, with a `?` for each malformed byte.
 pub fn plain_text_stays()

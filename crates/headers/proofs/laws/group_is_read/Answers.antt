@@ -1,5 +1,0 @@
-use Rattle.headers.proofs.LawsOfPeople.{group_is_read}
-use Rattle.headers.proofs.laws.group_is_read.Goals as goal
-
-pub returns : goal.returns
-returns c = group_is_read

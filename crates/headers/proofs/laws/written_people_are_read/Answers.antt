@@ -1,5 +1,0 @@
-use Rattle.headers.proofs.LawsOfPeople.{written_people_are_read}
-use Rattle.headers.proofs.laws.written_people_are_read.Goals as goal
-
-pub returns : goal.returns
-returns c = written_people_are_read

@@ -1,0 +1,3 @@
+pub mod LawsOfFields
+pub mod LawsOfPeople
+pub mod LawsOfText
