@@ -1,10 +1,9 @@
 -- How ids are taken, each once.
-use Rattle.std.proofs.Common.{◌≡◌, ℕ, suc, Bool, true, false, ◌||◌, List, [], ◌∷◌, ◌++◌, map, take, reverse, refl, ap}
+use Rattle.std.proofs.Common.{◌≡◌, ℕ, Bool, true, false, ◌||◌, List, [], ◌∷◌, ◌++◌, map, refl, ap}
 use Rattle.std.proofs.Common.{append_assoc}
 use Rattle.std.specs.List.{list_any}
 use Rattle.std.specs.Str.{bytes_eq}
 use Rattle.std.specs.Prelude.{if◌then◌else◌}
-use Rattle.std.proofs.lemmas.List.{reverse-append}
 use Rattle.headers.specs.Candidates.{with_id, new_ids}
 
 -- a test of what a list maps to
@@ -23,8 +22,3 @@ new_ids_if false names id rest = append_assoc names (id ∷ []) (new_ids (names 
 pub new_ids-more : (names : List (List ℕ)) (id : List ℕ) (rest : List (List ℕ))
     → with_id names id ++ new_ids (with_id names id) rest ≡ names ++ new_ids names (id ∷ rest)
 new_ids-more names id rest = new_ids_if (list_any (bytes_eq id) names) names id rest
-
--- the last of a list comes first in reverse
-pub take_reversed : (k : ℕ) (rest : List (List ℕ)) (last : List ℕ)
-    → take (suc k) (reverse (rest ++ last ∷ [])) ≡ last ∷ take k (reverse rest)
-take_reversed k rest last = ap (take (suc k)) (reverse-append rest (last ∷ []))

@@ -13,7 +13,8 @@ loop-left-preserved c = record {
   few = c.in_ok-add_field.ensures.few;
   same = last_ids_rest c.loop-left.left.now c.first-item.result (plain_texts c.loop-left.names)
       (plain_texts c.add_field.new.names) (references (map plain_field c.args.fields.now)) c.in-len1-up.len_at_least
-      (c.in_ok-add_field.ensures.value ∙ ap (λ (f : Field). last_ids (plain_texts c.loop-left.names ++ references (plain_field f ∷ [])))
+      (c.in_ok-add_field.ensures.value
+      ∙ ap (λ (f : Field). last_ids (plain_texts c.loop-left.names ++ references (plain_field f ∷ [])))
       c.first-item.is)
       c.loop-left.invariant.same;
 }
