@@ -1,0 +1,4 @@
+pub mod CharLemmas
+pub mod FunctionLemmas
+pub mod PiecesLemmas
+pub mod TableLemmas

@@ -1,0 +1,6 @@
+pub mod Functions
+pub mod Keys
+pub mod KeyWords
+pub mod Menus
+pub mod Pieces
+pub mod Stream
