@@ -3,4 +3,5 @@ pub mod Keys
 pub mod KeyWords
 pub mod Menus
 pub mod Pieces
+pub mod Reader
 pub mod Stream

@@ -4,10 +4,13 @@
 mod escape;
 mod function;
 mod key;
+mod key_reader;
 mod key_word;
 mod menu;
+mod stream;
 
 pub use function::{Function, function_named};
 pub use key::{Key, Keys};
+pub use key_reader::{KeyFault, KeyReader};
 pub use key_word::read_keys;
 pub use menu::Menu;
