@@ -4,6 +4,7 @@
 mod escape;
 mod function;
 mod key;
+mod key_queue;
 mod key_reader;
 mod key_word;
 mod menu;
@@ -11,6 +12,7 @@ mod stream;
 
 pub use function::{Function, function_named};
 pub use key::{Key, Keys};
+pub use key_queue::KeyQueue;
 pub use key_reader::{KeyFault, KeyReader};
 pub use key_word::read_keys;
 pub use menu::Menu;
