@@ -1,3 +1,4 @@
+pub mod Bindings
 pub mod Functions
 pub mod Keys
 pub mod KeyWords

@@ -1,6 +1,7 @@
 //! Keys, bindings and macros.
 #![tactic(auto)]
 
+mod bindings;
 mod escape;
 mod function;
 mod key;
