@@ -1,5 +1,6 @@
 pub mod Bindings
 pub mod Functions
+pub mod Keymap
 pub mod Keys
 pub mod KeyWords
 pub mod Menus

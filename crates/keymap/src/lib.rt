@@ -8,6 +8,7 @@ mod key;
 mod key_queue;
 mod key_reader;
 mod key_word;
+mod keymap;
 mod menu;
 mod stream;
 
@@ -16,4 +17,5 @@ pub use key::{Key, Keys};
 pub use key_queue::KeyQueue;
 pub use key_reader::{KeyFault, KeyReader};
 pub use key_word::read_keys;
+pub use keymap::Keymap;
 pub use menu::Menu;
