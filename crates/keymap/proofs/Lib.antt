@@ -3,6 +3,7 @@ pub mod CharLemmas
 pub mod FunctionLemmas
 pub mod KeyLemmas
 pub mod PiecesLemmas
+pub mod PressLemmas
 pub mod ReaderLemmas
 pub mod StreamLemmas
 pub mod TableLemmas

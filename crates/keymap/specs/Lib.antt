@@ -5,6 +5,7 @@ pub mod Keys
 pub mod KeyWords
 pub mod Menus
 pub mod Pieces
+pub mod Press
 pub mod Queue
 pub mod Reader
 pub mod Stream

@@ -1,5 +1,5 @@
 -- Keys that wait to be pressed.
-use Rattle.std.specs.Prelude.{◌≡◌, ℕ, List}
+use Rattle.std.specs.Prelude.{◌≡◌, ℕ, List, [], ◌∷◌, Option, Some, None}
 use Rattle.keymap.specs.declared.key.Key.{Key}
 
 -- the most replacements for one typed key
@@ -17,3 +17,8 @@ pub record PlainQueue : Type 0 where
 pub record IsAsBefore (old new : PlainQueue) : Type 0 where
   pub items : new.items ≡ old.items
   pub replaced : new.replaced ≡ old.replaced
+
+-- the first key was taken, or there was none
+abbrev pub TakesFirst : Option Key → List Key → List Key → Type 0
+TakesFirst None old new = (old ≡ []) × (new ≡ [])
+TakesFirst (Some key) old new = old ≡ key ∷ new

@@ -1,7 +1,7 @@
 //! Keys that wait to be pressed.
 
 ghost use Rattle.std.specs.Prelude.{◌≡◌, ◌↔◌, ◌+◌, ◌-◌, ◌<◌, ◌≤◌, ◌++◌, ◌∷◌, [], drop, length, option_copied, slice_get};
-ghost use Rattle.std.specs.Prelude.{option_to_list, IsOk, OnOk, OnErr, false, if◌then◌else◌};
+ghost use Rattle.std.specs.Prelude.{IsOk, OnOk, OnErr, false, if◌then◌else◌};
 ghost use Rattle.keymap.specs.Queue as spec;
 
 use crate::key::{Key, Keys};
@@ -123,9 +123,47 @@ impl KeyQueue {
         }
     }
 
+    /// An empty queue that goes on with the count.
+    pub(crate) fn ahead(&self, alloc: Global) -> KeyQueue
+        ensures items { result.items ≡ [] }
+        ensures replaced { result.replaced ≡ self.now.replaced }
+    {
+        KeyQueue {
+            keys: VecDeque::new(alloc),
+            replaced: self.replaced,
+        }
+    }
+
+    /// Puts the keys of another queue in the place of the first so many, and takes its count.
+    pub(crate) fn replace_first(&mut self, count: usize, ahead: KeyQueue) -> Result<(), NoMemory>
+        requires { count ≤ length self.old.items }
+        ensures items { OnOk result (self.new.items ≡ ahead.items ++ drop count self.old.items) }
+        ensures replaced { OnOk result (self.new.replaced ≡ ahead.replaced) }
+        ensures err { OnErr result (spec.IsAsBefore self.old self.new) }
+    {
+        self.reserve(ahead.len())?;
+        for _key in 0..count {
+            let _ = self.keys.pop_front();
+        }
+        self.replaced = ahead.replaced;
+        self.move_before(ahead);
+        Ok(())
+    }
+
+    // Puts the keys of another queue, for which there is room, before all that wait.
+    fn move_before(&mut self, mut ahead: KeyQueue)
+        requires { length ahead.items ≤ self.old.room }
+        ensures items { self.new.items ≡ ahead.items ++ self.old.items }
+        ensures replaced { self.new.replaced ≡ self.old.replaced }
+    {
+        while let Some(key) = ahead.keys.pop_back() {
+            let _ = self.keys.push_front(key);
+        }
+    }
+
     /// Takes the first key.
     pub fn take_first(&mut self) -> Option<Key>
-        ensures items { self.old.items ≡ option_to_list result ++ self.new.items }
+        ensures items { spec.TakesFirst result self.old.items self.new.items }
         ensures replaced { self.new.replaced ≡ self.old.replaced }
     {
         self.keys.pop_front()

@@ -10,6 +10,7 @@ mod key_reader;
 mod key_word;
 mod keymap;
 mod menu;
+mod press;
 mod stream;
 
 pub use function::{Function, function_named};
@@ -19,3 +20,4 @@ pub use key_reader::{KeyFault, KeyReader};
 pub use key_word::read_keys;
 pub use keymap::Keymap;
 pub use menu::Menu;
+pub use press::Press;
