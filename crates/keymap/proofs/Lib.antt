@@ -1,6 +1,7 @@
 pub mod BindingsLemmas
 pub mod CharLemmas
 pub mod FunctionLemmas
+pub mod KeyLaws
 pub mod KeyLemmas
 pub mod PiecesLemmas
 pub mod PressLemmas

@@ -3,6 +3,7 @@ pub mod Functions
 pub mod Keymap
 pub mod Keys
 pub mod KeyWords
+pub mod Laws
 pub mod Menus
 pub mod Pieces
 pub mod Press

@@ -155,6 +155,13 @@ impl Function {
         self as usize
     }
 
+    /// The name by which muttrc knows the function.
+    pub fn name(self) -> &'static [u8]
+        ensures { result.now ≡ (spec.row_of self).name }
+    {
+        self.row().0
+    }
+
     /// The function's row of the table.
     pub fn row(self) -> Row
         ensures { spec.plain_row result ≡ spec.row_of self }
