@@ -16,11 +16,11 @@ use Rattle.bstr.proofs.lemmas.EncodeLemmas.{decoded-encode}
 use Rattle.bstr.proofs.lemmas.PieceLemmas.{value-1}
 use Rattle.keymap.specs.Bindings.{Binding, PlainAction, action_of, binding, bound}
 use Rattle.keymap.specs.Functions.{row_of}
-use Rattle.keymap.specs.Keys.{char_key, one_char, same_keys}
+use Rattle.keymap.specs.Keys.{same_keys}
 use Rattle.keymap.specs.KeyWords.{word_keys}
 use Rattle.keymap.specs.Laws.{BoundCounts, CallIsRead, CharsAreRead, ClosedTells, FormsAreRead, NamesAreRead}
 use Rattle.keymap.specs.Laws.{FunctionIsFound, OthersStay, TextIsFirst}
-use Rattle.keymap.specs.Pieces.{Piece, pieces}
+use Rattle.keymap.specs.Pieces.{Piece, char_key, one_char, pieces}
 use Rattle.keymap.specs.Stream.{Sent, begins, first_key, form_at, form_or, forms, keys_of}
 use Rattle.keymap.specs.declared.function.Function.{Function}
 use Rattle.keymap.specs.declared.function.Function.TheVariants.{NextUndeleted}

@@ -14,9 +14,8 @@ use Rattle.bstr.specs.Utf8.{or_replacement}
 use Rattle.bstr.specs.Utf8.{code_of_4}
 use Rattle.bstr.proofs.lemmas.PieceLemmas.{by-shape, piece-bounds, value-1, value-2, value-3, value-5}
 use Rattle.bstr.proofs.lemmas.PieceLemmas.{value-6, value-8, value-9, value-11, value-12}
-use Rattle.keymap.specs.Keys.{char_key, one_char}
 use Rattle.keymap.specs.declared.key.Key.{Key}
-use Rattle.keymap.specs.Pieces.{Piece}
+use Rattle.keymap.specs.Pieces.{Piece, char_key, one_char}
 use Rattle.keymap.specs.Stream.{Sent, begins, first_key, form_at, form_or, forms, is_in_char, is_in_form}
 use Rattle.keymap.specs.Stream.{is_lead, is_open}
 use Rattle.std.proofs.lemmas.Option.{none-some}

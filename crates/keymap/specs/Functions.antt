@@ -1,6 +1,7 @@
 -- The functions that keys run: names, menus and default keys.
 use Rattle.std.specs.Prelude.{ℕ, List, [], ◌∷◌, Option, Some, None, codes, find, map, option_map}
 use Rattle.std.specs.Str.{bytes_eq}
+use Prim.Native.String.{String}
 use Rattle.keymap.specs.declared.function.Function.{Function}
 use Rattle.keymap.specs.declared.function.Row.{Row}
 use Rattle.keymap.specs.declared.function.Function.TheVariants.{NextUndeleted, PreviousUndeleted}
@@ -27,11 +28,86 @@ use Rattle.keymap.specs.declared.function.Function.TheVariants.{SyncMailbox, Qui
 use Rattle.keymap.specs.declared.function.Function.TheVariants.{NextLine, PreviousLine, Top}
 use Rattle.keymap.specs.declared.function.Function.TheVariants.{Bottom, ToggleQuoted}
 
--- default keys in a menu, as key words with a blank between them; none where the menu lacks the function
+-- default keys in a menu, as key words with a blank between them; none where the menu lacks the
+-- function
 abbrev pub MenuKeys : Type 0
 MenuKeys = Option (List ℕ)
 
--- a function with its name and its default keys in the index, the pager and the attachment screen
+abbrev pub keys : String → MenuKeys
+keys words = Some (codes words)
+
+abbrev pub lacks : MenuKeys
+lacks = None
+
+-- a name, and the default keys in the index, the pager and the attachment screen
+pub record Line : Type 0 where
+  pub name : List ℕ
+  pub index : MenuKeys
+  pub pager : MenuKeys
+  pub attach : MenuKeys
+
+abbrev pub line : String → MenuKeys → MenuKeys → MenuKeys → Line
+line name index pager attach =
+    record { name = codes name; index = index; pager = pager; attach = attach }
+
+-- the table
+abbrev pub line_of : Function → Line
+line_of NextUndeleted = line "next-undeleted" (keys "j <Down>") (keys "j") lacks
+line_of PreviousUndeleted = line "previous-undeleted" (keys "k <Up>") (keys "k") lacks
+line_of NextEntry = line "next-entry" (keys "J") (keys "J") (keys "j J <Down>")
+line_of PreviousEntry = line "previous-entry" (keys "K") (keys "K") (keys "k K <Up>")
+line_of FirstEntry = line "first-entry" (keys "= <Home>") lacks lacks
+line_of LastEntry = line "last-entry" (keys "* <End>") lacks lacks
+line_of NextPage = line "next-page" (keys "z <PageDown> <Right>") (keys "<Space> <PageDown>") lacks
+line_of PreviousPage = line "previous-page" (keys "Z <PageUp> <Left>") (keys "- <PageUp>") lacks
+line_of NextNewThenUnread = line "next-new-then-unread" (keys "<Tab>") lacks lacks
+line_of NextThread = line "next-thread" (keys "\x0e") lacks lacks
+line_of PreviousThread = line "previous-thread" (keys "\x10") lacks lacks
+line_of ParentMessage = line "parent-message" (keys "P") lacks lacks
+line_of DeleteMessage = line "delete-message" (keys "d") (keys "d") lacks
+line_of UndeleteMessage = line "undelete-message" (keys "u") (keys "u") lacks
+line_of DeleteThread = line "delete-thread" (keys "\x04") lacks lacks
+line_of UndeleteThread = line "undelete-thread" (keys "\x15") lacks lacks
+line_of DeletePattern = line "delete-pattern" (keys "D") lacks lacks
+line_of UndeletePattern = line "undelete-pattern" (keys "U") lacks lacks
+line_of TagEntry = line "tag-entry" (keys "t") lacks lacks
+line_of TagPattern = line "tag-pattern" (keys "T") lacks lacks
+line_of UntagPattern = line "untag-pattern" (keys "\x14") lacks lacks
+line_of TagThread = line "tag-thread" (keys "<Esc>t") lacks lacks
+line_of TagPrefix = line "tag-prefix" (keys ";") lacks lacks
+line_of Limit = line "limit" (keys "l") lacks lacks
+line_of SortMailbox = line "sort-mailbox" (keys "o") lacks lacks
+line_of SortReverse = line "sort-reverse" (keys "O") lacks lacks
+line_of Search = line "search" (keys "/") (keys "/") lacks
+line_of SearchNext = line "search-next" (keys "n") (keys "n") lacks
+line_of FlagMessage = line "flag-message" (keys "F") (keys "F") lacks
+line_of ToggleNew = line "toggle-new" (keys "N") lacks lacks
+line_of SetFlag = line "set-flag" (keys "w") lacks lacks
+line_of ClearFlag = line "clear-flag" (keys "W") lacks lacks
+line_of CollapseThread = line "collapse-thread" (keys "<Esc>v") lacks lacks
+line_of CollapseAll = line "collapse-all" (keys "<Esc>V") lacks lacks
+line_of DisplayMessage = line "display-message" (keys "<Enter>") lacks (keys "<Enter>")
+line_of ViewAttachments = line "view-attachments" (keys "v") (keys "v") lacks
+line_of DisplayToggleWeed = line "display-toggle-weed" (keys "h") (keys "h") lacks
+line_of SaveMessage = line "save-message" (keys "s") lacks lacks
+line_of CopyMessage = line "copy-message" (keys "C") lacks lacks
+line_of ChangeFolder = line "change-folder" (keys "c") lacks lacks
+line_of Mail = line "mail" (keys "m") lacks lacks
+line_of Reply = line "reply" (keys "r") lacks lacks
+line_of RecallMessage = line "recall-message" (keys "R") lacks lacks
+line_of EnterCommand = line "enter-command" (keys ":") (keys ":") lacks
+line_of ToggleWrite = line "toggle-write" (keys "%") lacks lacks
+line_of SyncMailbox = line "sync-mailbox" (keys "$") lacks lacks
+line_of Quit = line "quit" (keys "q") lacks lacks
+line_of Exit = line "exit" (keys "x") (keys "q x i") (keys "q x")
+line_of Noop = line "noop" (keys "") lacks lacks
+line_of NextLine = line "next-line" lacks (keys "<Enter> <Down>") lacks
+line_of PreviousLine = line "previous-line" lacks (keys "<BackSpace> <Up>") lacks
+line_of Top = line "top" lacks (keys "^ <Home>") lacks
+line_of Bottom = line "bottom" lacks (keys "$ <End>") lacks
+line_of ToggleQuoted = line "toggle-quoted" lacks (keys "T") lacks
+
+-- a function with its line
 pub record TableRow : Type 0 where
   pub name : List ℕ
   pub function : Function
@@ -39,66 +115,17 @@ pub record TableRow : Type 0 where
   pub pager : MenuKeys
   pub attach : MenuKeys
 
-abbrev pub row : List ℕ → Function → MenuKeys → MenuKeys → MenuKeys → TableRow
-row name function index pager attach =
-    record { name = name; function = function; index = index; pager = pager; attach = attach }
+abbrev pub row : Function → Line → TableRow
+row function l = record {
+  name = l.name;
+  function = function;
+  index = l.index;
+  pager = l.pager;
+  attach = l.attach;
+}
 
--- the table
 abbrev pub row_of : Function → TableRow
-row_of NextUndeleted = row (codes "next-undeleted") NextUndeleted (Some (codes "j <Down>")) (Some (codes "j")) None
-row_of PreviousUndeleted = row (codes "previous-undeleted") PreviousUndeleted (Some (codes "k <Up>")) (Some (codes "k")) None
-row_of NextEntry = row (codes "next-entry") NextEntry (Some (codes "J")) (Some (codes "J")) (Some (codes "j J <Down>"))
-row_of PreviousEntry = row (codes "previous-entry") PreviousEntry (Some (codes "K")) (Some (codes "K")) (Some (codes "k K <Up>"))
-row_of FirstEntry = row (codes "first-entry") FirstEntry (Some (codes "= <Home>")) None None
-row_of LastEntry = row (codes "last-entry") LastEntry (Some (codes "* <End>")) None None
-row_of NextPage = row (codes "next-page") NextPage (Some (codes "z <PageDown> <Right>")) (Some (codes "<Space> <PageDown>")) None
-row_of PreviousPage = row (codes "previous-page") PreviousPage (Some (codes "Z <PageUp> <Left>")) (Some (codes "- <PageUp>")) None
-row_of NextNewThenUnread = row (codes "next-new-then-unread") NextNewThenUnread (Some (codes "<Tab>")) None None
-row_of NextThread = row (codes "next-thread") NextThread (Some (codes "\x0e")) None None
-row_of PreviousThread = row (codes "previous-thread") PreviousThread (Some (codes "\x10")) None None
-row_of ParentMessage = row (codes "parent-message") ParentMessage (Some (codes "P")) None None
-row_of DeleteMessage = row (codes "delete-message") DeleteMessage (Some (codes "d")) (Some (codes "d")) None
-row_of UndeleteMessage = row (codes "undelete-message") UndeleteMessage (Some (codes "u")) (Some (codes "u")) None
-row_of DeleteThread = row (codes "delete-thread") DeleteThread (Some (codes "\x04")) None None
-row_of UndeleteThread = row (codes "undelete-thread") UndeleteThread (Some (codes "\x15")) None None
-row_of DeletePattern = row (codes "delete-pattern") DeletePattern (Some (codes "D")) None None
-row_of UndeletePattern = row (codes "undelete-pattern") UndeletePattern (Some (codes "U")) None None
-row_of TagEntry = row (codes "tag-entry") TagEntry (Some (codes "t")) None None
-row_of TagPattern = row (codes "tag-pattern") TagPattern (Some (codes "T")) None None
-row_of UntagPattern = row (codes "untag-pattern") UntagPattern (Some (codes "\x14")) None None
-row_of TagThread = row (codes "tag-thread") TagThread (Some (codes "<Esc>t")) None None
-row_of TagPrefix = row (codes "tag-prefix") TagPrefix (Some (codes ";")) None None
-row_of Limit = row (codes "limit") Limit (Some (codes "l")) None None
-row_of SortMailbox = row (codes "sort-mailbox") SortMailbox (Some (codes "o")) None None
-row_of SortReverse = row (codes "sort-reverse") SortReverse (Some (codes "O")) None None
-row_of Search = row (codes "search") Search (Some (codes "/")) (Some (codes "/")) None
-row_of SearchNext = row (codes "search-next") SearchNext (Some (codes "n")) (Some (codes "n")) None
-row_of FlagMessage = row (codes "flag-message") FlagMessage (Some (codes "F")) (Some (codes "F")) None
-row_of ToggleNew = row (codes "toggle-new") ToggleNew (Some (codes "N")) None None
-row_of SetFlag = row (codes "set-flag") SetFlag (Some (codes "w")) None None
-row_of ClearFlag = row (codes "clear-flag") ClearFlag (Some (codes "W")) None None
-row_of CollapseThread = row (codes "collapse-thread") CollapseThread (Some (codes "<Esc>v")) None None
-row_of CollapseAll = row (codes "collapse-all") CollapseAll (Some (codes "<Esc>V")) None None
-row_of DisplayMessage = row (codes "display-message") DisplayMessage (Some (codes "<Enter>")) None (Some (codes "<Enter>"))
-row_of ViewAttachments = row (codes "view-attachments") ViewAttachments (Some (codes "v")) (Some (codes "v")) None
-row_of DisplayToggleWeed = row (codes "display-toggle-weed") DisplayToggleWeed (Some (codes "h")) (Some (codes "h")) None
-row_of SaveMessage = row (codes "save-message") SaveMessage (Some (codes "s")) None None
-row_of CopyMessage = row (codes "copy-message") CopyMessage (Some (codes "C")) None None
-row_of ChangeFolder = row (codes "change-folder") ChangeFolder (Some (codes "c")) None None
-row_of Mail = row (codes "mail") Mail (Some (codes "m")) None None
-row_of Reply = row (codes "reply") Reply (Some (codes "r")) None None
-row_of RecallMessage = row (codes "recall-message") RecallMessage (Some (codes "R")) None None
-row_of EnterCommand = row (codes "enter-command") EnterCommand (Some (codes ":")) (Some (codes ":")) None
-row_of ToggleWrite = row (codes "toggle-write") ToggleWrite (Some (codes "%")) None None
-row_of SyncMailbox = row (codes "sync-mailbox") SyncMailbox (Some (codes "$")) None None
-row_of Quit = row (codes "quit") Quit (Some (codes "q")) None None
-row_of Exit = row (codes "exit") Exit (Some (codes "x")) (Some (codes "q x i")) (Some (codes "q x"))
-row_of Noop = row (codes "noop") Noop (Some []) None None
-row_of NextLine = row (codes "next-line") NextLine None (Some (codes "<Enter> <Down>")) None
-row_of PreviousLine = row (codes "previous-line") PreviousLine None (Some (codes "<BackSpace> <Up>")) None
-row_of Top = row (codes "top") Top None (Some (codes "^ <Home>")) None
-row_of Bottom = row (codes "bottom") Bottom None (Some (codes "$ <End>")) None
-row_of ToggleQuoted = row (codes "toggle-quoted") ToggleQuoted None (Some (codes "T")) None
+row_of function = row function (line_of function)
 
 -- the functions in the order of the table
 abbrev pub functions : List Function
@@ -182,4 +209,9 @@ abbrev pub function_named : List ℕ → Option Function
 function_named name = option_map (λ r. r.function) (row_named name)
 
 abbrev pub plain_row : Row → TableRow
-plain_row r = row r.0.now r.1 (option_map (λ k. k.now) r.2) (option_map (λ k. k.now) r.3) (option_map (λ k. k.now) r.4)
+plain_row r = row r.1 (record {
+  name = r.0.now;
+  index = option_map (λ k. k.now) r.2;
+  pager = option_map (λ k. k.now) r.3;
+  attach = option_map (λ k. k.now) r.4;
+})

@@ -4,8 +4,7 @@ use Rattle.std.specs.Prelude.{take, map, is_some, option_map, if◌then◌else�
 use Rattle.std.specs.Str.{str_eq_ignore_ascii_case}
 use Rattle.mail_base.specs.Fronts.{◌>>=◌, behind, behind_text}
 use Rattle.keymap.specs.Functions.{TableRow, rows}
-use Rattle.keymap.specs.Keys.{one_char}
-use Rattle.keymap.specs.Pieces.{Piece, pieces}
+use Rattle.keymap.specs.Pieces.{Piece, one_char, pieces}
 use Rattle.keymap.specs.declared.key.Key.{Key}
 use Rattle.keymap.specs.declared.key_word.KeyName.{KeyName}
 use Rattle.keymap.specs.declared.key.Key.TheVariants.{Char, Up, Down, Left, Right, Home, End}

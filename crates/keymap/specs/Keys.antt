@@ -1,12 +1,8 @@
--- Keys, and characters as keys.
-use Rattle.std.specs.Prelude.{◌==◌, ◌-◌, ℕ, Bool, true, false, List, [], ◌∷◌, Option, Some, None}
-use Rattle.std.specs.Prelude.{if◌then◌else◌}
+-- When keys are the same.
+use Rattle.std.specs.Prelude.{◌==◌, Bool, true, false, List}
 use Rattle.std.specs.Cmp.Lexicographic.{pointwise}
-use Rattle.bstr.specs.Utf8.{decoded, or_replacement}
 use Rattle.keymap.specs.Functions.{place_of}
-use Rattle.keymap.specs.Pieces.{Piece}
 use Rattle.keymap.specs.declared.key.Key.{Key}
-use Rattle.keymap.specs.declared.key.KeyPiece.{KeyPiece}
 use Rattle.keymap.specs.declared.key.Key.TheVariants.{Char, Up, Down, Left, Right, Home, End}
 use Rattle.keymap.specs.declared.key.Key.TheVariants.{PageUp, PageDown, Insert, Delete, F1, F2, F3}
 use Rattle.keymap.specs.declared.key.Key.TheVariants.{F4, Call}
@@ -34,17 +30,3 @@ same_key _ _ = false
 -- whether two sequences of keys are the same
 abbrev pub same_keys : List Key → List Key → Bool
 same_keys keys others = pointwise same_key keys others
-
--- a line feed is the key Enter, which is CR; each other character is a key of its own
-abbrev pub char_key : ℕ → Key
-char_key c = if c == 10 then Char 13 else Char c
-
--- the first character of a text, or U+FFFD for a maximal part that is malformed
-abbrev pub one_char : List ℕ → Piece Key
-one_char text = record {
-  value = char_key (or_replacement (decoded text).char);
-  more = (decoded text).size - 1;
-}
-
-abbrev pub plain_piece : KeyPiece → Piece Key
-plain_piece p = record { value = p.key; more = p.more }

@@ -10,3 +10,4 @@ pub mod Press
 pub mod Queue
 pub mod Reader
 pub mod Stream
+pub mod Walk

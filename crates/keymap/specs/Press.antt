@@ -3,6 +3,7 @@ use Rattle.std.specs.Prelude.{◌+◌, ◌-◌, ◌≤◌, ◌≡◌, ℕ, zero,
 use Rattle.keymap.specs.Bindings.{Begun, Bound, Found, Replace, Run, Unbound}
 use Rattle.keymap.specs.Keymap.{PlainKeymap, found_in}
 use Rattle.keymap.specs.Queue.{PlainQueue, most_replacements}
+use Rattle.keymap.specs.Walk.{waiting_on}
 use Rattle.keymap.specs.declared.function.Function.{Function}
 use Rattle.keymap.specs.declared.key.Key.{Key}
 use Rattle.keymap.specs.declared.key.Key.TheVariants.{Call}
@@ -11,7 +12,7 @@ use Rattle.keymap.specs.declared.press.Press.{Press}
 use Rattle.keymap.specs.declared.press.Press.TheVariants as press
 use Rattle.keymap.specs.declared.press.Reached.{Reached as ReachedKeys}
 use Rattle.keymap.specs.declared.press.Reached.TheVariants as reached_keys
-use Rattle.keymap.specs.declared.press.Walk.{Walk}
+use Rattle.keymap.specs.declared.walk.Walk.{Walk}
 
 -- the function that a key calls
 abbrev pub called : Key → Option Function
@@ -94,15 +95,6 @@ pub record Presses (press : Press) (menu : Menu) (map map' : PlainKeymap) (queue
   pub bindings : map' ≡ record map { begun = map'.begun }
 
 -- For the code alone.
-
--- the keys that wait on a walk through a queue: those put ahead, and those of the queue that were not taken
-abbrev pub waiting_on : Walk → PlainQueue → List Key
-waiting_on walk queue = walk.ahead.items ++ drop walk.taken queue.items
-
--- no more keys of the queue were taken than it has, and no replacement was counted
-pub record IsWithin (old new : Walk) (queue : PlainQueue) : Type 0 where
-  pub taken : new.taken ≤ length queue.items
-  pub replaced : new.ahead.replaced ≡ old.ahead.replaced
 
 abbrev pub plain_reached : ReachedKeys → Walk → PlainQueue → Reached
 plain_reached (reached_keys.Answer press) walk queue = Answered press walk.begun.items (waiting_on walk queue)

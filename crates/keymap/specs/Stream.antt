@@ -4,8 +4,7 @@ use Rattle.std.specs.Prelude.{codes, find, length, take, nat_lt, nat_le, is_none
 use Rattle.std.specs.List.{list_any}
 use Rattle.std.specs.Str.{bytes_eq}
 use Rattle.bstr.specs.Utf8.{decoded}
-use Rattle.keymap.specs.Keys.{one_char}
-use Rattle.keymap.specs.Pieces.{Piece, pieces}
+use Rattle.keymap.specs.Pieces.{Piece, one_char, pieces}
 use Rattle.keymap.specs.declared.escape.Form.{Form}
 use Rattle.keymap.specs.declared.key.Key.{Key}
 use Rattle.keymap.specs.declared.key.Key.TheVariants.{Up, Down, Left, Right, Home, End, PageUp}

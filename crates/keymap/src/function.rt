@@ -163,7 +163,7 @@ impl Function {
     }
 
     /// The function's row of the table.
-    pub fn row(self) -> Row
+    pub(crate) fn row(self) -> Row
         ensures { spec.plain_row result ≡ spec.row_of self }
     {
         rows()[self.place()]

@@ -9,13 +9,16 @@ use crate::stream::{first_key, is_open};
 use arrayvec::ArrayVec;
 use mail_base::Source;
 use std::marker::Model;
+use thiserror::Error;
 
 /// Why no key was read.
-#[derive(Clone, Copy, Debug, PartialEq, Eq)]
+#[derive(Clone, Copy, Debug, PartialEq, Eq, Error)]
 pub enum KeyFault {
-    /// A read of the source failed. What was taken before waits for the next call.
+    /// What was taken before waits for the next call.
+    #[error("a read failed")]
     ReadFault,
     /// A further byte is needed, and 16,777,216 were taken.
+    #[error("too many keys")]
     TooManyKeys,
 }
 

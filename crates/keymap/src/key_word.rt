@@ -2,13 +2,14 @@
 
 ghost use Rattle.std.specs.Prelude.{◌≡◌, ◌<◌, ◌≤◌, find, length, map, option_map, IfOk, IfSome};
 ghost use Rattle.keymap.specs.Functions.{plain_row};
-ghost use Rattle.keymap.specs.Keys.{plain_piece};
+ghost use Rattle.keymap.specs.Pieces.{plain_piece};
 ghost use Rattle.keymap.specs.KeyWords as spec;
 ghost use Rattle.std.specs.Prelude.{is_some};
 ghost use Rattle.std.specs.Prelude.{min, take};
 
 use crate::function::{Row, rows};
-use crate::key::{Key, KeyPiece, Keys, behind_bytes};
+use crate::key::{Key, Keys};
+use crate::piece::{KeyPiece, behind_piece};
 use mail_base::{NoMemory, behind, behind_text, is_same_name};
 use std::alloc::Global;
 
@@ -141,10 +142,10 @@ pub fn read_keys(alloc: Global, word: &[u8], functions: bool) -> Result<Keys, No
 {
     let mut keys = Keys::new(alloc);
     let mut left = word;
-    while let [_, behind @ ..] = left {
+    while !left.is_empty() {
         let piece = first_word_key(functions, left);
         keys.push(piece.key)?;
-        left = behind_bytes(behind, piece.more);
+        left = behind_piece(left, piece.more);
     }
     Ok(keys)
 }

@@ -8,9 +8,10 @@ ghost use Rattle.keymap.specs.Pieces.{pieces};
 
 use crate::bindings::{Action, Bindings, Found};
 use crate::function::{Function, MenuKeys, Row, rows};
-use crate::key::{Key, Keys, behind_bytes};
+use crate::key::{Key, Keys};
 use crate::key_word::read_keys;
 use crate::menu::Menu;
+use crate::piece::behind_piece;
 use mail_base::{NoMemory, first_word};
 use std::alloc::Global;
 use std::marker::Model;
@@ -151,11 +152,11 @@ fn bind_words(
         ≡ fold (spec.bound_word function) bindings.old (pieces spec.one_word words.now)) }
 {
     let mut left = words;
-    while let [_, behind @ ..] = left {
+    while !left.is_empty() {
         let word = first_word(left);
         let keys = read_keys(alloc, word, false)?;
         bindings.bind(alloc, keys.as_slice(), Action::Run(function))?;
-        left = behind_bytes(behind, word.len());
+        left = behind_piece(left, word.len());
     }
     Ok(())
 }

@@ -1,4 +1,6 @@
-//! Keys, bindings and macros.
+//! Keys, bindings and macros: a `KeyReader` makes keys of bytes and `read_keys` of key words, and
+//! `function_named` finds a function by its name. A `Keymap` holds the bindings of all menus
+//! (`bind`, `macro_key`), a `KeyQueue` the keys that wait; `Keymap::press` says what these do.
 #![tactic(auto)]
 
 mod bindings;
@@ -11,8 +13,10 @@ mod key_word;
 mod keymap;
 mod laws;
 mod menu;
+mod piece;
 mod press;
 mod stream;
+mod walk;
 
 pub use function::{Function, function_named};
 pub use key::{Key, Keys};

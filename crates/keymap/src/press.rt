@@ -4,6 +4,7 @@ ghost use Rattle.std.specs.Prelude.{◌≡◌, ◌≢◌, ◌<◌, ◌≤◌, �
 ghost use Rattle.keymap.specs.Keymap.{found_in};
 ghost use Rattle.keymap.specs.Press as spec;
 ghost use Rattle.keymap.specs.Queue.{IsAsBefore, TakesFirst, most_replacements};
+ghost use Rattle.keymap.specs.Walk.{IsWithin, waiting_on};
 ghost use Rattle.keymap.specs.declared.menu.Menu.TheVariants as menus;
 
 use crate::bindings::{Action, Found};
@@ -12,8 +13,8 @@ use crate::key::{Key, Keys};
 use crate::key_queue::{KeyQueue, MOST_REPLACEMENTS};
 use crate::keymap::Keymap;
 use crate::menu::Menu;
+use crate::walk::Walk;
 use mail_base::NoMemory;
-use std::alloc::Global;
 
 /// What waiting keys come to.
 #[derive(Clone, Copy, Debug, PartialEq, Eq)]
@@ -32,71 +33,6 @@ pub enum Press {
 pub enum Reached<'a> {
     Answer(Press),
     Text(&'a Keys),
-}
-
-/// A walk through a queue, which stays as it is: the keys of a begun sequence, the keys put ahead
-/// of those that wait, with the count of replacements, and how many of the queue were taken.
-#[derive(Drop)]
-pub struct Walk {
-    pub begun: Vec<Key>,
-    pub ahead: KeyQueue,
-    pub taken: usize,
-}
-
-impl Walk {
-    fn start(alloc: Global, begun: &[Key], queue: &KeyQueue) -> Result<Walk, NoMemory>
-        ensures { IfOk result (λ w. (w.begun.items ≡ begun.now) × (w.ahead.items ≡ [])
-            × (w.ahead.replaced ≡ queue.now.replaced) × (w.taken ≡ 0)) }
-    {
-        Ok(Walk {
-            begun: Vec::from_slice(alloc, begun)?,
-            ahead: queue.ahead(alloc),
-            taken: 0,
-        })
-    }
-
-    // Takes the next key.
-    fn next(&mut self, queue: &KeyQueue) -> Option<Key>
-        requires { self.old.taken ≤ length queue.now.items }
-        ensures key { TakesFirst result (spec.waiting_on self.old queue.now)
-            (spec.waiting_on self.new queue.now) }
-        ensures kept { spec.IsWithin self.old self.new queue.now }
-        ensures begun { self.new.begun.items ≡ self.old.begun.items }
-    {
-        if let Some(key) = self.ahead.take_first() {
-            return Some(key);
-        }
-        if self.taken >= queue.len() {
-            return None;
-        }
-        let key = queue.get(self.taken)?;
-        self.taken += 1;
-        Some(*key)
-    }
-
-    // Puts a text in the place of a begun sequence, where a replacement is left.
-    fn replace(&mut self, text: &Keys) -> Result<(), NoMemory>
-        requires { self.old.ahead.replaced < most_replacements }
-        ensures begun { OnOk result (self.new.begun.items ≡ []) }
-        ensures ahead { OnOk result (self.new.ahead.items ≡ text.now.items ++ self.old.ahead.items) }
-        ensures replaced { self.new.ahead.replaced ≡ self.old.ahead.replaced + 1 }
-        ensures taken { self.new.taken ≡ self.old.taken }
-    {
-        self.begun.clear();
-        let _counted = self.ahead.count_one();
-        self.ahead.put_before(text)
-    }
-
-    // Drops all keys.
-    fn drop_all(&mut self, queue: &KeyQueue)
-        ensures begun { self.new.begun.items ≡ [] }
-        ensures waiting { spec.waiting_on self.new queue.now ≡ [] }
-        ensures kept { spec.IsWithin self.old self.new queue.now }
-    {
-        self.begun.clear();
-        self.ahead.clear();
-        self.taken = queue.len();
-    }
 }
 
 impl Keymap {
@@ -125,8 +61,8 @@ impl Keymap {
         requires { walk.old.taken ≤ length queue.now.items }
         ensures reached { IfOk result (λ r. spec.plain_reached r walk.new queue.now
             ≡ spec.reached self.now menu walk.old.begun.items
-            (spec.waiting_on walk.old queue.now)) }
-        ensures kept { spec.IsWithin walk.old walk.new queue.now }
+            (waiting_on walk.old queue.now)) }
+        ensures kept { IsWithin walk.old walk.new queue.now }
     {
         while let Some(key) = walk.next(queue) {
             if let Key::Call(function) = key {
@@ -147,7 +83,7 @@ impl Keymap {
         requires { walk.old.taken ≤ length queue.now.items }
         ensures pressed { IfOk result (λ p. spec.pressed_on p walk.new queue.now
             ≡ spec.pressed self.now menu (most_replacements - walk.old.ahead.replaced)
-            walk.old.ahead.replaced walk.old.begun.items (spec.waiting_on walk.old queue.now)) }
+            walk.old.ahead.replaced walk.old.begun.items (waiting_on walk.old queue.now)) }
         ensures taken { walk.new.taken ≤ length queue.now.items }
     {
         for _turn in walk.ahead.replaced()..MOST_REPLACEMENTS {

@@ -1,11 +1,11 @@
 //! The keys of a stream of bytes: UTF-8 and escape forms.
 
 ghost use Rattle.std.specs.Prelude.{◌≡◌, ◌<◌, length};
-ghost use Rattle.keymap.specs.Keys.{plain_piece};
+ghost use Rattle.keymap.specs.Pieces.{plain_piece};
 ghost use Rattle.keymap.specs.Stream as spec;
 
 use crate::escape::{Form, is_in_form};
-use crate::key::KeyPiece;
+use crate::piece::KeyPiece;
 use bstr::decode_utf8;
 
 /// The first key of the bytes, if no more follow.

@@ -1,5 +1,6 @@
 use Rattle.std.proofs.Common.{◌≡◌, ◌≤◌, length}
-use Rattle.keymap.specs.Press.{IsWithin, reached, waiting_on}
+use Rattle.keymap.specs.Press.{reached}
+use Rattle.keymap.specs.Walk.{IsWithin, waiting_on}
 use Rattle.keymap.proofs.keymap.Keymap.reach.Given as goal
 
 abbrev pub invariant-loop-key : goal.invariant-loop-key

@@ -1,5 +1,6 @@
 use Rattle.std.proofs.Common.{◌≡◌, ◌∙◌, ◌+◌, ◌-◌, ◌++◌, [], sym, ap, drop, suc, arith, append_assoc}
-use Rattle.keymap.specs.Press.{Replaced, plain_reached, pressed, reached, waiting_on}
+use Rattle.keymap.specs.Press.{Replaced, plain_reached, pressed, reached}
+use Rattle.keymap.specs.Walk.{waiting_on}
 use Rattle.keymap.specs.Queue.{most_replacements}
 use Rattle.keymap.proofs.PressLemmas.{replaced_once}
 use Rattle.keymap.proofs.keymap.Keymap.walk_on.Goals as goal

@@ -1,5 +1,6 @@
 use Rattle.std.proofs.Common.{◌≡◌, ◌≤◌, ◌-◌, length}
-use Rattle.keymap.specs.Press.{pressed, waiting_on}
+use Rattle.keymap.specs.Press.{pressed}
+use Rattle.keymap.specs.Walk.{waiting_on}
 use Rattle.keymap.specs.Queue.{most_replacements}
 use Rattle.keymap.proofs.keymap.Keymap.walk_on.Given as goal
 

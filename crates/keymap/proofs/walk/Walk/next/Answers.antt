@@ -1,6 +1,6 @@
 use Rattle.std.proofs.Common.{◌∙◌, ◌+◌, ◌++◌, ◌∷◌, sym, ap, drop, arith}
 use Rattle.keymap.proofs.PressLemmas.{got}
-use Rattle.keymap.proofs.press.Walk.next.Goals as goal
+use Rattle.keymap.proofs.walk.Walk.next.Goals as goal
 
 pub returns-clause-key : goal.returns-clause-key
 returns-clause-key c =

@@ -1,0 +1,144 @@
+//! Cases of keys that are pressed in a menu.
+
+use crate::key_texts::{is_sequence, menu_named, need_function};
+use case_files::{Answer, Case, CaseFault, Entry, Subject};
+use keymap::{KeyQueue, Keymap, Menu, Press, read_keys};
+use std::alloc::Global;
+
+/// The lines are done in their order. `bind MENU FUNCTION` binds the keys of its word to a function
+/// and `macro MENU KEYS` to its text; `menu` is the menu that is shown from then on. The keys of
+/// `typed` are typed one by one, and after each those that wait are pressed, up to one that
+/// waits for more; `put` puts its keys before all others, to be pressed then. Each `press` is an
+/// answer, `presses` their number and `last` the last of them; `waiting` is how many keys wait.
+pub struct Presses;
+
+impl Subject for Presses {
+    fn inputs(&self) -> &[&[u8]] {
+        &[b"bind", b"macro", b"menu", b"typed", b"put"]
+    }
+
+    fn answer(&self, alloc: Global, case: &Case) -> Result<Answer, CaseFault> {
+        let mut table = Table {
+            alloc,
+            menu: Menu::Index,
+            keymap: Keymap::new(alloc)?,
+            queue: KeyQueue::new(alloc),
+            answer: Answer::new(alloc),
+            presses: 0,
+            last: b"",
+        };
+        for entry in case.entries.as_slice() {
+            table.run(entry)?;
+        }
+        let Table {
+            mut answer,
+            queue,
+            presses,
+            last,
+            ..
+        } = table;
+        answer.put_count(b"presses", presses)?;
+        answer.put(b"last", last)?;
+        answer.put_count(b"waiting", queue.len())?;
+        Ok(answer)
+    }
+}
+
+/// A keymap with the keys that wait, and the answers so far.
+struct Table {
+    alloc: Global,
+    menu: Menu,
+    keymap: Keymap,
+    queue: KeyQueue,
+    answer: Answer,
+    presses: usize,
+    last: &'static [u8],
+}
+
+impl Table {
+    // Does what a line says.
+    fn run(&mut self, entry: &Entry) -> Result<(), CaseFault> {
+        let value = entry.value.as_slice();
+        match entry.role() {
+            b"menu" => self.menu = menu_named(value)?,
+            b"bind" => self.bind(entry.about(), value)?,
+            b"macro" => self.macro_key(entry.about(), value)?,
+            b"typed" => self.typed(value)?,
+            b"put" => self.put(value)?,
+            _ => {}
+        }
+        Ok(())
+    }
+
+    fn bind(&mut self, about: &[u8], word: &[u8]) -> Result<(), CaseFault> {
+        let (menu, name) = two_words(about)?;
+        let keys = read_keys(self.alloc, word, false)?;
+        if !is_sequence(&keys) {
+            return Err(CaseFault::BadInput);
+        }
+        self.keymap.bind(menu_named(menu)?, &keys, need_function(name)?)?;
+        Ok(())
+    }
+
+    fn macro_key(&mut self, about: &[u8], text: &[u8]) -> Result<(), CaseFault> {
+        let (menu, word) = two_words(about)?;
+        let keys = read_keys(self.alloc, word, false)?;
+        if !is_sequence(&keys) {
+            return Err(CaseFault::BadInput);
+        }
+        let text = read_keys(self.alloc, text, true)?;
+        self.keymap.macro_key(menu_named(menu)?, &keys, &text)?;
+        Ok(())
+    }
+
+    fn typed(&mut self, word: &[u8]) -> Result<(), CaseFault> {
+        let keys = read_keys(self.alloc, word, false)?;
+        for key in keys.as_slice() {
+            self.queue.typed(*key)?;
+            self.press_all()?;
+        }
+        Ok(())
+    }
+
+    fn put(&mut self, word: &[u8]) -> Result<(), CaseFault> {
+        let keys = read_keys(self.alloc, word, true)?;
+        self.queue.put_before(&keys)?;
+        self.press_all()
+    }
+
+    // Presses the keys that wait; each press takes at least one of them.
+    fn press_all(&mut self) -> Result<(), CaseFault> {
+        if self.menu == Menu::Generic {
+            return Err(CaseFault::BadInput);
+        }
+        for _turn in 0..10_000 {
+            if self.queue.len() == 0 {
+                break;
+            }
+            let press = self.keymap.press(self.menu, &mut self.queue)?;
+            self.last = shown_press(press);
+            self.presses = self.presses.saturating_add(1);
+            self.answer.put(b"press", self.last)?;
+        }
+        Ok(())
+    }
+}
+
+fn shown_press(press: Press) -> &'static [u8] {
+    match press {
+        Press::Wait => b"wait",
+        Press::Unbound => b"unbound",
+        Press::Loop => b"loop",
+        Press::Function(function) => function.name(),
+    }
+}
+
+fn two_words(text: &[u8]) -> Result<(&[u8], &[u8]), CaseFault> {
+    match text.iter().position(|byte| *byte == b' ') {
+        Some(blank) => {
+            let (first, rest) = text.split_at(blank);
+            Ok((first, rest.get(1..).unwrap_or(b"")))
+        }
+        None => Err(CaseFault::BadInput),
+    }
+}
