@@ -1,6 +1,6 @@
 -- How bindings are found in their tables, and how they grow.
 use Rattle.std.proofs.Common.{◌≡◌, ℕ, ◌+◌, ◌<◌, ◌≤◌, Bool, true, false, cond, ◌&&◌, ◌||◌, List, [], ◌∷◌, ◌++◌}
-use Rattle.std.proofs.Common.{Some, None, map, refl, sym, ap, ◌∙◌, subst, ⊎_elim, arith, find, option_map, length, take, nat_lt, Vec}
+use Rattle.std.proofs.Common.{Some, map, refl, sym, ap, ◌∙◌, ⊎_elim, arith, find, option_map, length, take, nat_lt, Vec}
 use Rattle.std.specs.Prelude.{if◌then◌else◌, Result, Ok, Err, IsOk, OnOk}
 use Rattle.std.specs.List.{list_any}
 use Rattle.std.specs.Map.{lookup}
@@ -19,7 +19,7 @@ use Rattle.keymap.specs.Keys.{same_keys}
 use Rattle.keymap.specs.declared.bindings.Action.{Action}
 use Rattle.keymap.specs.declared.key.Key.{Key}
 use Rattle.keymap.specs.contracts.key.KeyPartialEq.TheImpl as keys_equal
-use Rattle.keymap.proofs.KeyLemmas.{keys_eq, same_keys_is, same_keys_own}
+use Rattle.keymap.proofs.KeyLemmas.{keys_eq, same_keys_is}
 
 pub or_assoc : (a b c : Bool) → (a || b) || c ≡ a || (b || c)
 or_assoc true b c = refl
@@ -147,8 +147,11 @@ front_more n s keys within = ⊎_elim
     let now : nat_lt (length s) (n + 1) ≡ true = grind (arith, nat_tests) in
     let before : nat_lt (length s) n ≡ true = grind (arith, nat_tests) in
     let apart : same_keys s (take n keys) ≡ false =
-    false_from_ne_true (same_keys s (take n keys)) (λ same. absurd (omega (arith, same_length s (take n keys) same,
-    length-take-le n keys (omega arith)))) in
+    false_from_ne_true (same_keys s (take n keys)) (λ same. absurd (omega (
+      arith,
+      same_length s (take n keys) same,
+      length-take-le n keys (omega arith),
+    ))) in
     ap (λ b. b && same_keys s (take (length s) keys)) (now ∙ sym before)
     ∙ sym (or-false (is_front_below n s keys)) ∙ ap (λ b. is_front_below n s keys || b) (sym apart))
     (λ rest. ⊎_elim
@@ -162,8 +165,11 @@ front_more n s keys within = ⊎_elim
     let now : nat_lt (length s) (n + 1) ≡ false = grind (arith, nat_tests) in
     let before : nat_lt (length s) n ≡ false = grind (arith, nat_tests) in
     let apart : same_keys s (take n keys) ≡ false =
-    false_from_ne_true (same_keys s (take n keys)) (λ same. absurd (omega (arith, same_length s (take n keys) same,
-    length-take-le n keys (omega arith)))) in
+    false_from_ne_true (same_keys s (take n keys)) (λ same. absurd (omega (
+      arith,
+      same_length s (take n keys) same,
+      length-take-le n keys (omega arith),
+    ))) in
     ap (λ b. b && same_keys s (take (length s) keys)) now ∙ sym apart
     ∙ ap (λ b. (b && same_keys s (take (length s) keys)) || same_keys s (take n keys)) (sym before))
     (at_or_above n (length s) rest))

@@ -1,31 +1,25 @@
 -- The laws of keys, names and bindings.
-use Rattle.std.proofs.Common.{◌≡◌, ◌≢◌, ℕ, ◌<◌, ◌≤◌, ◌+◌, ◌-◌, Bool, true, false, cond, ◌&&◌, ◌==◌, List, [], ◌∷◌, ◌++◌}
-use Rattle.std.proofs.Common.{Some, None, map, refl, sym, ap, ◌∙◌, subst, ⊎_elim, arith, find, length, drop, take, nat_lt}
+use Rattle.std.proofs.Common.{◌≡◌, ◌≢◌, ℕ, ◌<◌, ◌-◌, Bool, true, false, cond, ◌==◌, List, [], ◌∷◌}
+use Rattle.std.proofs.Common.{Some, None, refl, sym, ap, ◌∙◌, subst, ⊎_elim, arith, find, length, drop}
 use Rattle.std.specs.Prelude.{encode_utf8, if◌then◌else◌, option_map, slice_index}
 use Rattle.std.specs.List.{list_all}
-use Rattle.std.specs.Str.{bytes_eq}
 use Rattle.std.proofs.Math.Seq.{drop-length}
 use Rattle.std.proofs.Math.Bool.{and-false}
 use Rattle.std.proofs.lemmas.Bool.{and_left, and_parts, cases_Bool, eqb-true, false_from_ne_true, false≢true}
-use Rattle.std.proofs.lemmas.Bool.Decides.{nat_tests}
 use Rattle.std.proofs.lemmas.List.{append-nil}
 use Rattle.std.proofs.lemmas.Str.{length-encode, len_utf8_bounds}
-use lib.Utf8.{scalar}
 use Rattle.bstr.specs.Utf8.{Decoded, decoded, good, or_replacement}
 use Rattle.bstr.proofs.lemmas.EncodeLemmas.{decoded-encode}
 use Rattle.bstr.proofs.lemmas.PieceLemmas.{value-1}
-use Rattle.keymap.specs.Bindings.{Binding, PlainAction, action_of, binding, bound}
-use Rattle.keymap.specs.Functions.{row_of}
+use Rattle.keymap.specs.Bindings.{action_of, binding, bound}
 use Rattle.keymap.specs.Keys.{same_keys}
-use Rattle.keymap.specs.KeyWords.{word_keys}
 use Rattle.keymap.specs.Laws.{BoundCounts, CallIsRead, CharsAreRead, ClosedTells, FormsAreRead, NamesAreRead}
 use Rattle.keymap.specs.Laws.{FunctionIsFound, OthersStay, TextIsFirst}
-use Rattle.keymap.specs.Pieces.{Piece, char_key, one_char, pieces}
+use Rattle.keymap.specs.Pieces.{Piece, char_key, one_char}
 use Rattle.keymap.specs.Stream.{Sent, begins, first_key, form_at, form_or, forms, keys_of}
-use Rattle.keymap.specs.declared.function.Function.{Function}
 use Rattle.keymap.specs.declared.function.Function.TheVariants.{NextUndeleted}
 use Rattle.keymap.specs.declared.key.Key.{Key}
-use Rattle.keymap.specs.declared.key.Key.TheVariants.{Char, Call}
+use Rattle.keymap.specs.declared.key.Key.TheVariants.{Char}
 use Rattle.keymap.proofs.FunctionLemmas.{own_name}
 use Rattle.keymap.proofs.KeyLemmas.{same_keys_is, same_keys_own}
 use Rattle.keymap.proofs.PiecesLemmas.{pieces_step}

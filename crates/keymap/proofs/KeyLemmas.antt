@@ -1,5 +1,5 @@
 -- What `==` says of keys.
-use Rattle.std.proofs.Common.{rules, ◌≡◌, ℕ, ◌==◌, Bool, true, ◌&&◌, List, [], ◌∷◌, Some, refl, sym, ap, ◌∙◌, subst}
+use Rattle.std.proofs.Common.{rules, ◌≡◌, ◌==◌, true, ◌&&◌, List, [], ◌∷◌, refl, sym, ap, ◌∙◌, subst}
 use Rattle.std.specs.Prelude.{slice_get}
 use Rattle.std.specs.Bool.{one_answer}
 use Rattle.std.specs.Cmp.Lexicographic.{pointwise, pointwise_decides}
@@ -26,9 +26,10 @@ same_place f g same =
 function_eq : (f g : Function) → functions_equal.eq-value.it f g ≡ (place_of f == place_of g)
 function_eq f g =
     one_answer (functions_equal.eq-value.it f g) (place_of f == place_of g)
-    ((λ yes. same_true the_type (search rules) f g yes), (λ is. true_same the_type f g is))
-    ((λ yes. same_place f g (eqb-true (place_of f) (place_of g) yes)),
-    (λ is. eq-eqb (place_of f) (place_of g) (ap place_of is)))
+    ((λ yes. same_true the_type (search rules) f g yes), (λ is. true_same the_type f g is)) (
+      (λ yes. same_place f g (eqb-true (place_of f) (place_of g) yes)),
+      (λ is. eq-eqb (place_of f) (place_of g) (ap place_of is)),
+    )
 
 key_eq : (k l : Key) → keys_equal.eq-value.it k l ≡ same_key k l
 key_eq (Call f) (Call g) = function_eq f g

@@ -1,26 +1,28 @@
 -- How a reader takes bytes and gives keys.
-use Rattle.std.proofs.Common.{◌≡◌, ℕ, ◌+◌, ◌<◌, ◌≤◌, Bool, true, false, List, [], ◌∷◌, ◌++◌, drop, length}
+use Rattle.std.proofs.Common.{◌≡◌, ℕ, ◌+◌, ◌<◌, ◌≤◌, true, false, List, [], ◌∷◌, ◌++◌, drop, length}
 use Rattle.std.proofs.Common.{Option, Some, None, refl, sym, ap, ◌∙◌, ⊎_elim, arith, append_assoc, length-append}
-use Rattle.std.proofs.Common.{Result, Ok, Err, subst}
+use Rattle.std.proofs.Common.{subst}
 use Rattle.std.specs.Prelude.{option_to_list}
 use Rattle.std.specs.Io.KnownBytes.{Consumes, IsAtEnd, Keeps}
 use Rattle.std.proofs.lemmas.Bool.{cases_Bool}
 use Rattle.std.proofs.lemmas.List.{append-nil, drop-append-le}
-use Rattle.keymap.specs.Reader.{AreNeeded, Begins, Ends, Filled, Gives, IsCause, IsFirst, PlainReader, Stops, Takes}
+use Rattle.keymap.specs.Reader.{AreNeeded, Begins, Filled, Gives, IsCause, IsFirst, PlainReader, Stops}
 use Rattle.keymap.specs.Reader.{most_bytes}
 use Rattle.keymap.specs.Stream.{first_key, is_open, keys_of}
 use Rattle.keymap.specs.declared.key.Key.{Key}
 use Rattle.keymap.specs.declared.key_reader.KeyFault.{KeyFault}
 use Rattle.keymap.specs.declared.key_reader.KeyFault.TheVariants as fault
-use Rattle.keymap.proofs.PiecesLemmas.{pieces_none, pieces_step}
+use Rattle.keymap.proofs.PiecesLemmas.{pieces_step}
 use Rattle.keymap.proofs.StreamLemmas.{first_told, first_within, open_short}
 
 one_more : (before more : List ℕ) (b : ℕ) → AreNeeded before more → is_open (before ++ more) ≡ true
     → AreNeeded before (more ++ b ∷ [])
 one_more before [] b needed open_is = (ap is_open (sym (append-nil before)) ∙ open_is, tt)
-one_more before (x ∷ more) b needed open_is =
-    (needed.0, one_more (before ++ x ∷ []) more b needed.1
-    (ap is_open (append_assoc before (x ∷ []) more) ∙ open_is))
+one_more before (x ∷ more) b needed open_is = (
+  needed.0,
+  one_more (before ++ x ∷ []) more b needed.1
+      (ap is_open (append_assoc before (x ∷ []) more) ∙ open_is),
+)
 
 consumed_more : (a b c : Option (List ℕ)) (xs ys : List ℕ) → Consumes a b xs → Consumes b c ys
     → Consumes a c (xs ++ ys)

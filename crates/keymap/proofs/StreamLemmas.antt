@@ -1,15 +1,14 @@
 -- What the first bytes of a stream tell of its first key.
-use Rattle.std.proofs.Common.{◌≡◌, ℕ, ◌+◌, ◌-◌, ◌<◌, ◌≤◌, Bool, true, false, cond, ◌&&◌, ◌||◌, ◌==◌, not}
-use Rattle.std.proofs.Common.{List, [], ◌∷◌, ◌++◌, take, drop, length, Option, Some, None, refl, sym, ap}
+use Rattle.std.proofs.Common.{◌≡◌, ℕ, ◌-◌, ◌<◌, ◌≤◌, Bool, true, false, cond, ◌&&◌, ◌==◌}
+use Rattle.std.proofs.Common.{List, [], ◌∷◌, ◌++◌, length, Option, Some, None, refl, sym, ap}
 use Rattle.std.proofs.Common.{subst, ◌∙◌, ⊎_elim, arith, find, length-append, nat_lt, eq-eqb}
 use Rattle.std.specs.Prelude.{nat_le, is_none, slice_index}
 use Rattle.std.specs.List.{list_all, list_any}
-use Rattle.std.specs.Str.{bytes_eq}
-use Rattle.std.proofs.lemmas.Bool.{and_cases, and_from, and_parts, cases_Bool}
+use Rattle.std.proofs.lemmas.Bool.{and_from, and_parts, cases_Bool}
 use Rattle.std.proofs.lemmas.Bool.{false≢true, or_parts, or_cases}
 use Rattle.std.proofs.lemmas.Bool.Decides.{nat_tests}
 use Rattle.std.proofs.lemmas.List.{get_or_append_left}
-use Rattle.bstr.specs.Utf8.{Decoded, bad, good, decoded, decoded_by, second, continues, code_of_2, code_of_3}
+use Rattle.bstr.specs.Utf8.{Decoded, good, decoded, decoded_by, second, continues, code_of_2, code_of_3}
 use Rattle.bstr.specs.Utf8.{or_replacement}
 use Rattle.bstr.specs.Utf8.{code_of_4}
 use Rattle.bstr.proofs.lemmas.PieceLemmas.{by-shape, piece-bounds, value-1, value-2, value-3, value-5}
@@ -150,14 +149,26 @@ char_told n m b c d e c' d' e' some longer second_c third_d fourth_e told = by-s
     let c_is = second_c (omega arith) in
     let d_is = third_d (omega arith) in
     let e_is = fourth_e (omega arith) in
-    value-11 m b c' d' e' (omega arith, h.1, h.2, ap (second b) c_is ∙ h.3, ap continues d_is ∙ h.4,
-    ap continues e_is ∙ h.5) ∙ sym h.6)
+    value-11 m b c' d' e' (
+      omega arith,
+      h.1,
+      h.2,
+      ap (second b) c_is ∙ h.3,
+      ap continues d_is ∙ h.4,
+      ap continues e_is ∙ h.5,
+    ) ∙ sym h.6)
     (λ h.
     let c_is = second_c (omega arith) in
     let d_is = third_d (omega arith) in
     let e_is = fourth_e (omega arith) in
-    value-12 m b c' d' e' (omega arith, h.1, h.2, ap (second b) c_is ∙ h.3, ap continues d_is ∙ h.4,
-    ap continues e_is ∙ h.5)
+    value-12 m b c' d' e' (
+      omega arith,
+      h.1,
+      h.2,
+      ap (second b) c_is ∙ h.3,
+      ap continues d_is ∙ h.4,
+      ap continues e_is ∙ h.5,
+    )
     ∙ ap (λ x. good (code_of_4 b x d' e') 4) c_is ∙ ap (λ x. good (code_of_4 b c x e') 4) d_is
     ∙ ap (λ x. good (code_of_4 b c d x) 4) e_is ∙ sym h.6)
 

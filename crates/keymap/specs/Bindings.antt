@@ -1,6 +1,6 @@
 -- Sequences of keys and what they are bound to.
 use Rattle.std.specs.Prelude.{◌&&◌, ℕ, Bool, true, false, List, [], ◌∷◌, Option, Some, None, length, take}
-use Rattle.std.specs.Prelude.{find, map, nat_lt, option_map, if◌then◌else◌, Vec}
+use Rattle.std.specs.Prelude.{find, nat_lt, option_map, if◌then◌else◌, Vec}
 use Rattle.std.specs.declared.alloc.Global.{Global}
 use Rattle.std.specs.List.{list_any}
 use Rattle.keymap.specs.Keys.{same_keys}

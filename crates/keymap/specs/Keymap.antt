@@ -1,5 +1,5 @@
 -- The bindings of all menus, and which a function has without muttrc.
-use Rattle.std.specs.Prelude.{◌≤◌, ℕ, List, [], ◌∷◌, Some, None, false, fold, length}
+use Rattle.std.specs.Prelude.{◌≤◌, ℕ, List, [], Some, None, false, fold, length}
 use Rattle.mail_base.specs.Words.{first_word}
 use Rattle.keymap.specs.Bindings.{Binding, Found, PlainAction, Run, Unbound, bound, found}
 use Rattle.keymap.specs.Functions.{MenuKeys, TableRow, rows}

@@ -1,5 +1,5 @@
 -- Laws of the definitions, in the words of one who presses keys.
-use Rattle.std.specs.Prelude.{◌≡◌, ◌≢◌, ◌<◌, ℕ, true, false, List, [], ◌∷◌, ◌++◌, Some, encode_utf8, map}
+use Rattle.std.specs.Prelude.{◌≡◌, ◌≢◌, ℕ, true, false, List, [], ◌∷◌, ◌++◌, Some, encode_utf8, map}
 use Rattle.keymap.specs.Bindings.{Binding, PlainAction, action_of, bound}
 use Rattle.keymap.specs.Functions.{function_named, row_of}
 use Rattle.keymap.specs.Keys.{same_keys}

@@ -1,5 +1,5 @@
 -- What waiting keys do in a menu.
-use Rattle.std.specs.Prelude.{◌+◌, ◌-◌, ◌≤◌, ◌≡◌, ℕ, zero, suc, List, [], ◌∷◌, ◌++◌, Option, Some, None, drop, length}
+use Rattle.std.specs.Prelude.{◌+◌, ◌-◌, ◌≡◌, ℕ, zero, suc, List, [], ◌∷◌, ◌++◌, Option, Some, None}
 use Rattle.keymap.specs.Bindings.{Begun, Bound, Found, Replace, Run, Unbound}
 use Rattle.keymap.specs.Keymap.{PlainKeymap, found_in}
 use Rattle.keymap.specs.Queue.{PlainQueue, most_replacements}

@@ -21,20 +21,20 @@ sent text key = record { text = text; key = key }
 -- the escape forms
 abbrev pub forms : List Sent
 forms =
-    sent (codes "\x1b[A") Up ∷
-    sent (codes "\x1b[B") Down ∷
-    sent (codes "\x1b[C") Right ∷
-    sent (codes "\x1b[D") Left ∷
-    sent (codes "\x1b[H") Home ∷
-    sent (codes "\x1b[F") End ∷
-    sent (codes "\x1b[2~") Insert ∷
-    sent (codes "\x1b[3~") Delete ∷
-    sent (codes "\x1b[5~") PageUp ∷
-    sent (codes "\x1b[6~") PageDown ∷
-    sent (codes "\x1bOP") F1 ∷
-    sent (codes "\x1bOQ") F2 ∷
-    sent (codes "\x1bOR") F3 ∷
-    sent (codes "\x1bOS") F4 ∷ []
+    sent (codes "\u{1b}[A") Up ∷
+    sent (codes "\u{1b}[B") Down ∷
+    sent (codes "\u{1b}[C") Right ∷
+    sent (codes "\u{1b}[D") Left ∷
+    sent (codes "\u{1b}[H") Home ∷
+    sent (codes "\u{1b}[F") End ∷
+    sent (codes "\u{1b}[2~") Insert ∷
+    sent (codes "\u{1b}[3~") Delete ∷
+    sent (codes "\u{1b}[5~") PageUp ∷
+    sent (codes "\u{1b}[6~") PageDown ∷
+    sent (codes "\u{1b}OP") F1 ∷
+    sent (codes "\u{1b}OQ") F2 ∷
+    sent (codes "\u{1b}OR") F3 ∷
+    sent (codes "\u{1b}OS") F4 ∷ []
 
 abbrev pub plain_form : Form → Sent
 plain_form f = sent f.0.now f.1

@@ -85,11 +85,7 @@ impl Bindings {
 }
 
 // Adds each beginning of the keys that is shorter.
-fn add_fronts(
-    alloc: Global,
-    fronts: &mut IndexSet<Vec<Key>>,
-    keys: &[Key],
-) -> Result<(), NoMemory>
+fn add_fronts(alloc: Global, fronts: &mut IndexSet<Vec<Key>>, keys: &[Key]) -> Result<(), NoMemory>
     ensures ok { OnOk result ((s : List key.Key) → spec.is_among fronts.new.keys s
         ≡ spec.is_among fronts.old.keys s || spec.is_front s keys.now) }
     ensures err { OnErr result (fronts.new.keys ≡ fronts.old.keys) }
@@ -102,11 +98,7 @@ fn add_fronts(
     added
 }
 
-fn add_each(
-    alloc: Global,
-    fronts: &mut IndexSet<Vec<Key>>,
-    keys: &[Key],
-) -> Result<(), NoMemory>
+fn add_each(alloc: Global, fronts: &mut IndexSet<Vec<Key>>, keys: &[Key]) -> Result<(), NoMemory>
     ensures ok { OnOk result ((s : List key.Key) → spec.is_among fronts.new.keys s
         ≡ spec.is_among fronts.old.keys s || spec.is_front s keys.now) }
     ensures grown { (more : List (Vec key.Key global.Global))

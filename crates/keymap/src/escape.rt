@@ -4,7 +4,7 @@ ghost use Rattle.std.specs.Prelude.{◌≡◌, ◌<◌, ◌&&◌, find, length, 
 ghost use Rattle.std.specs.List.{list_any};
 ghost use Rattle.keymap.specs.Stream as spec;
 
-use crate::key::{Key};
+use crate::key::Key;
 
 /// The bytes of an escape form, and its key.
 #[derive(Clone, Copy, Debug)]

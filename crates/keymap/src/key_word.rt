@@ -57,7 +57,10 @@ fn begins_alike(text: &[u8], name: &[u8]) -> bool
 fn name_in(names: &[KeyName], text: &[u8]) -> Option<KeyName>
     ensures { result ≡ find (λ n. spec.begins_alike text.now n.0.now) names.now }
 {
-    names.iter().copied().find(|name| begins_alike(text, name.0))
+    names
+        .iter()
+        .copied()
+        .find(|name| begins_alike(text, name.0))
 }
 
 fn name_at(text: &[u8]) -> Option<KeyName>

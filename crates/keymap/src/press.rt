@@ -52,12 +52,7 @@ impl Keymap {
     }
 
     // Goes on along a queue up to an answer or a replacement.
-    fn reach(
-        &self,
-        menu: Menu,
-        queue: &KeyQueue,
-        walk: &mut Walk,
-    ) -> Result<Reached<'_>, NoMemory>
+    fn reach(&self, menu: Menu, queue: &KeyQueue, walk: &mut Walk) -> Result<Reached<'_>, NoMemory>
         requires { walk.old.taken ≤ length queue.now.items }
         ensures reached { IfOk result (λ r. spec.plain_reached r walk.new queue.now
             ≡ spec.reached self.now menu walk.old.begun.items
@@ -114,7 +109,11 @@ impl Keymap {
     {
         let mut walk = Walk::start(self.alloc, self.begun.as_slice(), queue)?;
         let press = self.walk_on(menu, queue, &mut walk)?;
-        let Walk { begun, ahead, taken } = walk;
+        let Walk {
+            begun,
+            ahead,
+            taken,
+        } = walk;
         queue.replace_first(taken, ahead)?;
         self.begun = begun;
         Ok(press)

@@ -45,6 +45,7 @@ impl Subject for Presses {
 }
 
 /// A keymap with the keys that wait, and the answers so far.
+#[derive(Drop)]
 struct Table {
     alloc: Global,
     menu: Menu,

@@ -1,8 +1,6 @@
-use Rattle.std.proofs.Common.{◌≡◌, ◌∙◌, ◌||◌, ◌++◌, List, Vec, sym, ap, append_assoc}
-use Rattle.std.specs.declared.alloc.Global.{Global}
+use Rattle.std.proofs.Common.{◌∙◌, ◌||◌, ◌++◌, sym, ap, append_assoc}
 use Rattle.keymap.specs.Bindings.{is_among, is_front_below}
 use Rattle.keymap.specs.Keys.{same_keys}
-use Rattle.keymap.specs.declared.key.Key.{Key}
 use Rattle.keymap.proofs.BindingsLemmas.{front_more, or_assoc, put_among, put_grown}
 use Rattle.keymap.proofs.bindings.add_each.Goals as goal
 
@@ -23,7 +21,9 @@ loop-size-preserved c =
           ∙ ap (λ l. is_among first s || (is_front_below n s keys || same_keys s l))
           (c.in_ok-from_slice.ensures.items ∙ c.split_at.ensures.front)
           ∙ ap (λ b. is_among first s || b) (sym (front_more n s keys c.loop-size-test.true));
-      grown = (more.0 ++ one.0,
-          c.in_ok-insert.ensures.keys ∙ one.1 ∙ ap (λ l. l ++ one.0) more.1
-          ∙ append_assoc first more.0 one.0);
+      grown = (
+        more.0 ++ one.0,
+        c.in_ok-insert.ensures.keys ∙ one.1 ∙ ap (λ l. l ++ one.0) more.1
+            ∙ append_assoc first more.0 one.0,
+      );
     }

@@ -1,7 +1,6 @@
-use Rattle.std.proofs.Common.{◌≡◌, ◌∙◌, List, sym, ap, map, subst}
+use Rattle.std.proofs.Common.{◌≡◌, ◌∙◌, sym, ap, map}
 use Rattle.indexmap.specs.IndexMap.{insert_entry}
-use Rattle.keymap.specs.Bindings.{bound, is_among, is_begun, plain_action, plain_binding}
-use Rattle.keymap.specs.declared.key.Key.{Key}
+use Rattle.keymap.specs.Bindings.{bound, is_begun, plain_action, plain_binding}
 use Rattle.keymap.proofs.BindingsLemmas.{bound_entries, equal_keys, kept_bound, on_ok}
 use Rattle.keymap.proofs.bindings.Bindings.bind.Goals as goal
 

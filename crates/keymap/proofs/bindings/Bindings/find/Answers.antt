@@ -1,4 +1,4 @@
-use Rattle.std.proofs.Common.{◌∙◌, sym, ap, option_map, None, true, false}
+use Rattle.std.proofs.Common.{◌∙◌, sym, ap, option_map, true, false}
 use Rattle.std.specs.List.{list_any}
 use Rattle.std.specs.Map.{lookup}
 use Rattle.keymap.specs.Bindings.{found_by, plain_action}

@@ -1,4 +1,4 @@
-use Rattle.std.proofs.Common.{◌∙◌, sym, ap, arith}
+use Rattle.std.proofs.Common.{◌∙◌, ap, arith}
 use Rattle.std.specs.Prelude.{slice_get}
 use Rattle.keymap.specs.Functions.{plain_row, rows}
 use Rattle.keymap.proofs.FunctionLemmas.{own_row}

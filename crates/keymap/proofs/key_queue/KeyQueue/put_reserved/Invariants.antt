@@ -1,6 +1,5 @@
 use Rattle.std.proofs.Common.{◌≡◌, ◌≤◌, ◌+◌, ◌++◌, length}
 use Rattle.std.specs.VecDeque.{deque_len, deque_capacity}
-use Rattle.keymap.specs.Queue.{most_replacements}
 use Rattle.keymap.proofs.key_queue.KeyQueue.put_reserved.Given as goal
 
 abbrev pub invariant-loop-last : goal.invariant-loop-last

@@ -1,4 +1,4 @@
-use Rattle.std.proofs.Common.{◌∙◌, ap, drop, arith}
+use Rattle.std.proofs.Common.{◌∙◌, ap, drop}
 use Rattle.std.proofs.lemmas.List.{drop-drop}
 use Rattle.keymap.proofs.key_queue.KeyQueue.replace_first.Goals as goal
 

@@ -1,5 +1,4 @@
-use Rattle.std.proofs.Common.{◌≡◌, ◌∙◌, ap, true, sym, arith}
-use Rattle.std.specs.Io.KnownBytes.{Consumes}
+use Rattle.std.proofs.Common.{◌≡◌, true, arith}
 use Rattle.keymap.specs.Stream.{is_open}
 use Rattle.keymap.proofs.ReaderLemmas.{filled_more}
 use Rattle.keymap.proofs.key_reader.KeyReader.fill.Goals as goal

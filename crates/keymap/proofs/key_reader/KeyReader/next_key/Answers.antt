@@ -1,5 +1,4 @@
-use Rattle.std.proofs.Common.{arith, rules}
-use Rattle.keymap.proofs.ReaderLemmas.{cause_open, gives, stops}
+use Rattle.keymap.proofs.ReaderLemmas.{cause_open, gives}
 use Rattle.keymap.proofs.key_reader.KeyReader.next_key.Goals as goal
 
 pub returns-in_err-fill-clause-ahead : goal.returns-in_err-fill-clause-ahead

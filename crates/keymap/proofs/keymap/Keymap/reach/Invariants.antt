@@ -1,4 +1,4 @@
-use Rattle.std.proofs.Common.{◌≡◌, ◌≤◌, length}
+use Rattle.std.proofs.Common.{◌≡◌, length}
 use Rattle.keymap.specs.Press.{reached}
 use Rattle.keymap.specs.Walk.{IsWithin, waiting_on}
 use Rattle.keymap.proofs.keymap.Keymap.reach.Given as goal
