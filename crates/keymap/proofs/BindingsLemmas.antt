@@ -1,6 +1,8 @@
 -- How bindings are found in their tables, and how they grow.
-use Rattle.std.proofs.Common.{◌≡◌, ℕ, ◌+◌, ◌<◌, ◌≤◌, Bool, true, false, cond, ◌&&◌, ◌||◌, List, [], ◌∷◌, ◌++◌}
-use Rattle.std.proofs.Common.{Some, map, refl, sym, ap, ◌∙◌, ⊎_elim, arith, find, option_map, length, take, nat_lt, Vec}
+use Rattle.std.proofs.Common.{◌≡◌, ℕ, ◌+◌, ◌<◌, ◌≤◌, Bool, true, false, cond, ◌&&◌, ◌||◌, List}
+use Rattle.std.proofs.Common.{[], ◌∷◌, ◌++◌}
+use Rattle.std.proofs.Common.{Some, map, refl, sym, ap, ◌∙◌, ⊎_elim, arith, find, option_map}
+use Rattle.std.proofs.Common.{length, take, nat_lt, Vec}
 use Rattle.std.specs.Prelude.{if◌then◌else◌, Result, Ok, Err, IsOk, OnOk}
 use Rattle.std.specs.List.{list_any}
 use Rattle.std.specs.Map.{lookup}
@@ -13,7 +15,8 @@ use Rattle.std.proofs.lemmas.Bool.Decides.{nat_tests}
 use Rattle.std.proofs.lemmas.List.{append-nil}
 use Rattle.indexmap.specs.IndexMap.{insert_entry}
 use Rattle.indexmap.specs.IndexSet.{insert_key}
-use Rattle.keymap.specs.Bindings.{Binding, PlainAction, action_of, binding, bound, is_among, is_begun, is_front}
+use Rattle.keymap.specs.Bindings.{Binding, PlainAction, action_of, binding, bound, is_among}
+use Rattle.keymap.specs.Bindings.{is_begun, is_front}
 use Rattle.keymap.specs.Bindings.{found, found_by, is_front_below, plain_action, plain_binding}
 use Rattle.keymap.specs.Keys.{same_keys}
 use Rattle.keymap.specs.declared.bindings.Action.{Action}
@@ -38,7 +41,8 @@ pub looked_up : (entries : List (Vec Key Global × Action)) (keys : List Key)
     ≡ action_of (map plain_binding entries) keys
 looked_up [] keys = refl
 looked_up (e ∷ entries) keys =
-    ap (λ b. option_map plain_action (cond b (Some e.1) (lookup (λ k. equals keys k.items) entries)))
+    ap (λ b. option_map plain_action (cond b (Some e.1) (lookup
+    (λ k. equals keys k.items) entries)))
     (keys_eq keys e.0.items)
     ∙ elim (same_keys keys e.0.items) as (λ b. option_map plain_action (cond b (Some e.1)
     (lookup (λ k. equals keys k.items) entries))
@@ -68,7 +72,8 @@ told_found entries fronts bindings keys seen kept =
 any_append : {X : Type 0} (p : X → Bool) (xs ys : List X)
     → list_any p (xs ++ ys) ≡ list_any p xs || list_any p ys
 any_append p [] ys = refl
-any_append p (x ∷ xs) ys = ap (λ b. p x || b) (any_append p xs ys) ∙ sym (or_assoc (p x) (list_any p xs) (list_any p ys))
+any_append p (x ∷ xs) ys = ap (λ b. p x || b) (any_append p xs ys)
+    ∙ sym (or_assoc (p x) (list_any p xs) (list_any p ys))
 
 -- how a table tells its keys apart
 abbrev pub equal_keys : Vec Key Global → Vec Key Global → Bool
@@ -112,7 +117,8 @@ pub bound_entries : (entries : List (Vec Key Global × Action)) (k : Vec Key Glo
     ≡ bound (map plain_binding entries) k.items (plain_action a)
 bound_entries [] k a = refl
 bound_entries (e ∷ entries) k a =
-    ap (λ b. map plain_binding (if b then (e.0, a) ∷ entries else e ∷ insert_entry equal_keys entries k a))
+    ap (λ b. map plain_binding (if b then (e.0,
+    a) ∷ entries else e ∷ insert_entry equal_keys entries k a))
     (keys_eq k.items e.0.items)
     ∙ elim (same_keys k.items e.0.items) as (λ b. map plain_binding
     (if b then (e.0, a) ∷ entries else e ∷ insert_entry equal_keys entries k a)
@@ -131,7 +137,8 @@ bound_begun (b ∷ bindings) keys a s = ⊎_elim
     ∙ sym (or_again (is_front s b.keys) (is_begun bindings s))
     ∙ ap (λ k. (is_front s b.keys || is_begun bindings s) || is_front s k) own)
     (λ apart.
-    ap (λ t. is_begun (if t then binding b.keys a ∷ bindings else b ∷ bound bindings keys a) s) apart
+    ap (λ t. is_begun (if t then binding b.keys a ∷ bindings else b ∷ bound bindings keys a) s)
+    apart
     ∙ ap (λ t. is_front s b.keys || t) (bound_begun bindings keys a s)
     ∙ sym (or_assoc (is_front s b.keys) (is_begun bindings s) (is_front s keys)))
     (cases_Bool (same_keys keys b.keys))

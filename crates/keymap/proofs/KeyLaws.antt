@@ -1,11 +1,13 @@
 -- The laws of keys, names and bindings.
 use Rattle.std.proofs.Common.{◌≡◌, ◌≢◌, ℕ, ◌<◌, ◌-◌, Bool, true, false, cond, ◌==◌, List, [], ◌∷◌}
-use Rattle.std.proofs.Common.{Some, None, refl, sym, ap, ◌∙◌, subst, ⊎_elim, arith, find, length, drop}
+use Rattle.std.proofs.Common.{Some, None, refl, sym, ap, ◌∙◌, subst, ⊎_elim, arith, find, length}
+use Rattle.std.proofs.Common.{drop}
 use Rattle.std.specs.Prelude.{encode_utf8, if◌then◌else◌, option_map, slice_index}
 use Rattle.std.specs.List.{list_all}
 use Rattle.std.proofs.Math.Seq.{drop-length}
 use Rattle.std.proofs.Math.Bool.{and-false}
-use Rattle.std.proofs.lemmas.Bool.{and_left, and_parts, cases_Bool, eqb-true, false_from_ne_true, false≢true}
+use Rattle.std.proofs.lemmas.Bool.{and_left, and_parts, cases_Bool, eqb-true, false_from_ne_true}
+use Rattle.std.proofs.lemmas.Bool.{false≢true}
 use Rattle.std.proofs.lemmas.List.{append-nil}
 use Rattle.std.proofs.lemmas.Str.{length-encode, len_utf8_bounds}
 use Rattle.bstr.specs.Utf8.{Decoded, decoded, good, or_replacement}
@@ -13,7 +15,8 @@ use Rattle.bstr.proofs.lemmas.EncodeLemmas.{decoded-encode}
 use Rattle.bstr.proofs.lemmas.PieceLemmas.{value-1}
 use Rattle.keymap.specs.Bindings.{action_of, binding, bound}
 use Rattle.keymap.specs.Keys.{same_keys}
-use Rattle.keymap.specs.Laws.{BoundCounts, CallIsRead, CharsAreRead, ClosedTells, FormsAreRead, NamesAreRead}
+use Rattle.keymap.specs.Laws.{BoundCounts, CallIsRead, CharsAreRead, ClosedTells, FormsAreRead}
+use Rattle.keymap.specs.Laws.{NamesAreRead}
 use Rattle.keymap.specs.Laws.{FunctionIsFound, OthersStay, TextIsFirst}
 use Rattle.keymap.specs.Pieces.{Piece, char_key, one_char}
 use Rattle.keymap.specs.Stream.{Sent, begins, first_key, form_at, form_or, forms, keys_of}
@@ -46,21 +49,25 @@ text_is_first key text waiting = refl
 
 pub bound_counts : BoundCounts
 bound_counts [] keys action =
-    ap (λ b. option_map (λ c. c.action) (cond b (Some (binding keys action)) None)) (same_keys_own keys)
+    ap (λ b. option_map (λ c. c.action) (cond b (Some (binding keys action)) None))
+    (same_keys_own keys)
 bound_counts (b ∷ bindings) keys action = ⊎_elim
     (λ is.
-    ap (λ t. action_of (if t then binding b.keys action ∷ bindings else b ∷ bound bindings keys action) keys) is
+    ap (λ t. action_of (if t then binding b.keys action ∷ bindings else b ∷ bound bindings keys
+    action) keys) is
     ∙ ap (λ t. option_map (λ c. c.action) (cond t (Some (binding b.keys action))
     (find (λ c. same_keys keys c.keys) bindings))) is)
     (λ apart.
-    ap (λ t. action_of (if t then binding b.keys action ∷ bindings else b ∷ bound bindings keys action) keys) apart
+    ap (λ t. action_of (if t then binding b.keys action ∷ bindings else b ∷ bound bindings keys
+    action) keys) apart
     ∙ ap (λ t. option_map (λ c. c.action) (cond t (Some b)
     (find (λ c. same_keys keys c.keys) (bound bindings keys action)))) apart
     ∙ bound_counts bindings keys action)
     (cases_Bool (same_keys keys b.keys))
 
 -- other keys are not those of an equal sequence
-other_keys : (keys others own : List Key) → same_keys keys others ≡ false → same_keys keys own ≡ true
+other_keys : (keys others own : List Key) → same_keys keys others ≡ false → same_keys keys own
+    ≡ true
     → same_keys others own ≡ false
 other_keys keys others own apart is = false_from_ne_true (same_keys others own) (λ same.
     let both : keys ≡ others = same_keys_is keys own is ∙ sym (same_keys_is others own same) in
@@ -73,13 +80,15 @@ others_stay [] keys others action apart =
 others_stay (b ∷ bindings) keys others action apart = ⊎_elim
     (λ is.
     let no = other_keys keys others b.keys apart is in
-    ap (λ t. action_of (if t then binding b.keys action ∷ bindings else b ∷ bound bindings keys action) others) is
+    ap (λ t. action_of (if t then binding b.keys action ∷ bindings else b ∷ bound bindings keys
+    action) others) is
     ∙ ap (λ t. option_map (λ c. c.action) (cond t (Some (binding b.keys action))
     (find (λ c. same_keys others c.keys) bindings))) no
     ∙ sym (ap (λ t. option_map (λ c. c.action) (cond t (Some b)
     (find (λ c. same_keys others c.keys) bindings))) no))
     (λ other.
-    ap (λ t. action_of (if t then binding b.keys action ∷ bindings else b ∷ bound bindings keys action) others) other
+    ap (λ t. action_of (if t then binding b.keys action ∷ bindings else b ∷ bound bindings keys
+    action) others) other
     ∙ elim (same_keys others b.keys) as (λ t. option_map (λ c. c.action) (cond t (Some b)
     (find (λ c. same_keys others c.keys) (bound bindings keys action)))
     ≡ option_map (λ c. c.action) (cond t (Some b) (find (λ c. same_keys others c.keys) bindings)))
@@ -151,7 +160,8 @@ char_read [] c some is plain = absurd (omega arith)
 char_read (b ∷ rest) c some is plain =
     let first : first_key (b ∷ rest) ≡ record { value = char_key c; more = length (b ∷ rest) - 1 } =
     ap (λ f. form_or f (one_char (b ∷ rest))) (char_alone b rest c is) ∙ ap piece_of is in
-    let other : c == 10 ≡ false = false_from_ne_true (c == 10) (λ same. plain (eqb-true c 10 same)) in
+    let other : c == 10 ≡ false = false_from_ne_true (c == 10) (λ same. plain
+    (eqb-true c 10 same)) in
     let own : char_key c ≡ Char c = ap (λ t. if t then Char 13 else Char c) other in
     let all : length (b ∷ rest) - 1 ≡ length rest = omega arith in
     pieces_step first_key (b ∷ rest) some

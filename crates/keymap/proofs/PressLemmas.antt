@@ -1,5 +1,6 @@
 -- How keys are taken along a queue.
-use Rattle.std.proofs.Common.{◌≡◌, ℕ, zero, suc, ◌+◌, ◌<◌, ◌≤◌, ◌++◌, List, [], ◌∷◌, Some, drop, length, sym, ap, ◌∙◌}
+use Rattle.std.proofs.Common.{◌≡◌, ℕ, zero, suc, ◌+◌, ◌<◌, ◌≤◌, ◌++◌, List, [], ◌∷◌, Some, drop}
+use Rattle.std.proofs.Common.{length, sym, ap, ◌∙◌}
 use Rattle.std.proofs.Common.{arith}
 use Rattle.std.specs.Prelude.{slice_get}
 use Rattle.std.proofs.lemmas.Option.{none-some}
@@ -32,9 +33,11 @@ pub ended : {X : Type 0} (xs : List X) (n : ℕ) → length xs ≤ n → drop n 
 ended xs n far = drop_all n xs far
 
 -- a macro's text is replaced, where a replacement is left
-pub replaced_once : (map : PlainKeymap) (menu : Menu) (left further turn : ℕ) (begun waiting text rest : List Key)
+pub replaced_once : (map : PlainKeymap) (menu : Menu) (left further turn : ℕ)
+    (begun waiting text rest : List Key)
     → left ≡ suc further → Replaced text rest ≡ reached map menu begun waiting
-    → pressed map menu left turn begun waiting ≡ pressed map menu further (turn + 1) [] (text ++ rest)
+    → pressed map menu left turn begun waiting
+    ≡ pressed map menu further (turn + 1) [] (text ++ rest)
 replaced_once map menu left further turn begun waiting text rest some comes =
     ap (λ n. pressed map menu n turn begun waiting) some
     ∙ ap (λ r. next_answer turn r (λ keys. pressed map menu further (turn + 1) [] keys)) (sym comes)

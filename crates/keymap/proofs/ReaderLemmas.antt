@@ -1,12 +1,14 @@
 -- How a reader takes bytes and gives keys.
 use Rattle.std.proofs.Common.{◌≡◌, ℕ, ◌+◌, ◌<◌, ◌≤◌, true, false, List, [], ◌∷◌, ◌++◌, drop, length}
-use Rattle.std.proofs.Common.{Option, Some, None, refl, sym, ap, ◌∙◌, ⊎_elim, arith, append_assoc, length-append}
+use Rattle.std.proofs.Common.{Option, Some, None, refl, sym, ap, ◌∙◌, ⊎_elim, arith, append_assoc}
+use Rattle.std.proofs.Common.{length-append}
 use Rattle.std.proofs.Common.{subst}
 use Rattle.std.specs.Prelude.{option_to_list}
 use Rattle.std.specs.Io.KnownBytes.{Consumes, IsAtEnd, Keeps}
 use Rattle.std.proofs.lemmas.Bool.{cases_Bool}
 use Rattle.std.proofs.lemmas.List.{append-nil, drop-append-le}
-use Rattle.keymap.specs.Reader.{AreNeeded, Begins, Filled, Gives, IsCause, IsFirst, PlainReader, Stops}
+use Rattle.keymap.specs.Reader.{AreNeeded, Begins, Filled, Gives, IsCause, IsFirst, PlainReader}
+use Rattle.keymap.specs.Reader.{Stops}
 use Rattle.keymap.specs.Reader.{most_bytes}
 use Rattle.keymap.specs.Stream.{first_key, is_open, keys_of}
 use Rattle.keymap.specs.declared.key.Key.{Key}
@@ -32,7 +34,8 @@ consumed_more (Some a) (Some b) None xs ys h k = absurd k
 consumed_more (Some a) (Some b) (Some c) xs ys h k =
     h ∙ ap (λ l. xs ++ l) k ∙ sym (append_assoc xs ys c)
 
-consumed_kept : (a b c : Option (List ℕ)) (xs : List ℕ) → Consumes a b xs → Keeps b c → Consumes a c xs
+consumed_kept : (a b c : Option (List ℕ)) (xs : List ℕ) → Consumes a b xs → Keeps b c
+    → Consumes a c xs
 consumed_kept None b c xs h k = tt
 consumed_kept (Some a) None c xs h k = absurd h
 consumed_kept (Some a) (Some b) None xs h k = absurd k
@@ -43,7 +46,8 @@ nothing_consumed None = tt
 nothing_consumed (Some a) = refl
 
 -- no byte was taken yet
-pub filled_nothing : (r : PlainReader) (left : Option (List ℕ)) → r.taken ≤ most_bytes → Filled r r left left
+pub filled_nothing : (r : PlainReader) (left : Option (List ℕ)) → r.taken ≤ most_bytes
+    → Filled r r left left
 filled_nothing r left within = record {
   more = [];
   takes = record {
@@ -129,11 +133,13 @@ given_begins key pending more rest (Some left) (Some left') taken first ended =
 
 -- a key is given of what was filled
 pub gives : (key : Option Key) (old mid new : PlainReader) (left left' : Option (List ℕ))
-    → Filled old mid left left' → (is_open mid.pending ≡ true → IsAtEnd left' × (mid.taken < most_bytes))
+    → Filled old mid left left' → (is_open mid.pending ≡ true
+    → IsAtEnd left' × (mid.taken < most_bytes))
     → IsFirst key mid.pending new.pending → new.taken ≡ mid.taken → Gives key old new left left'
 gives key old mid new left left' filled ended first taken =
     let bytes = sym filled.pending in
-    let at_end : is_open (old.pending ++ filled.more) ≡ true → IsAtEnd left' × (mid.taken < most_bytes) =
+    let at_end : is_open (old.pending ++ filled.more) ≡ true
+    → IsAtEnd left' × (mid.taken < most_bytes) =
     λ open_is. ended (ap is_open filled.pending ∙ open_is) in
     let is_first : IsFirst key (old.pending ++ filled.more) new.pending =
     subst (λ l. IsFirst key l new.pending) filled.pending first in
@@ -147,7 +153,8 @@ gives key old mid new left left' filled ended first taken =
       };
       first = is_first;
       ended = λ open_is. let is = at_end open_is in (is.0, omega (arith, is.1));
-      begins = given_begins key old.pending filled.more new.pending left left' filled.takes.taken is_first
+      begins = given_begins key old.pending filled.more new.pending left left' filled.takes.taken
+      is_first
           (λ open_is. (at_end open_is).0);
     }
 

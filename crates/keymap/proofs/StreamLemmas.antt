@@ -8,14 +8,17 @@ use Rattle.std.proofs.lemmas.Bool.{and_from, and_parts, cases_Bool}
 use Rattle.std.proofs.lemmas.Bool.{false≢true, or_parts, or_cases}
 use Rattle.std.proofs.lemmas.Bool.Decides.{nat_tests}
 use Rattle.std.proofs.lemmas.List.{get_or_append_left}
-use Rattle.bstr.specs.Utf8.{Decoded, good, decoded, decoded_by, second, continues, code_of_2, code_of_3}
+use Rattle.bstr.specs.Utf8.{Decoded, good, decoded, decoded_by, second, continues, code_of_2}
+use Rattle.bstr.specs.Utf8.{code_of_3}
 use Rattle.bstr.specs.Utf8.{or_replacement}
 use Rattle.bstr.specs.Utf8.{code_of_4}
-use Rattle.bstr.proofs.lemmas.PieceLemmas.{by-shape, piece-bounds, value-1, value-2, value-3, value-5}
+use Rattle.bstr.proofs.lemmas.PieceLemmas.{by-shape, piece-bounds, value-1, value-2, value-3}
+use Rattle.bstr.proofs.lemmas.PieceLemmas.{value-5}
 use Rattle.bstr.proofs.lemmas.PieceLemmas.{value-6, value-8, value-9, value-11, value-12}
 use Rattle.keymap.specs.declared.key.Key.{Key}
 use Rattle.keymap.specs.Pieces.{Piece, char_key, one_char}
-use Rattle.keymap.specs.Stream.{Sent, begins, first_key, form_at, form_or, forms, is_in_char, is_in_form}
+use Rattle.keymap.specs.Stream.{Sent, begins, first_key, form_at, form_or, forms, is_in_char}
+use Rattle.keymap.specs.Stream.{is_in_form}
 use Rattle.keymap.specs.Stream.{is_lead, is_open}
 use Rattle.std.proofs.lemmas.Option.{none-some}
 use Rattle.keymap.proofs.TableLemmas.{some_same}
@@ -51,8 +54,10 @@ form_told (x ∷ bytes) t (y ∷ f) told = ⊎_elim
     let longer : nat_lt (length (x ∷ bytes)) (length (y ∷ f)) ≡ nat_lt (length bytes) (length f) =
     grind (arith, nat_tests) in
     ap (λ b. (x == y) && b) (form_told bytes t f (sym (ap (λ b. b && begins f bytes) longer)
-    ∙ sym (ap (λ b. nat_lt (length (x ∷ bytes)) (length (y ∷ f)) && (b && begins f bytes)) back) ∙ told)))
-    (λ apart. ap (λ b. b && begins (bytes ++ t) f) apart ∙ sym (ap (λ b. b && begins bytes f) apart))
+    ∙ sym (ap (λ b. nat_lt (length (x ∷ bytes)) (length (y ∷ f)) &&
+    (b && begins f bytes)) back) ∙ told)))
+    (λ apart. ap (λ b. b && begins (bytes ++ t) f) apart
+    ∙ sym (ap (λ b. b && begins bytes f) apart))
     (cases_Bool (x == y))
 
 form_same : (bytes t : List ℕ) → is_in_form bytes ≡ false → form_at (bytes ++ t) ≡ form_at bytes
@@ -70,7 +75,8 @@ form_short bytes inside = any_short forms refl inside
         → length bytes ≤ 3
     any_short [] all some = absurd (false≢true some)
     any_short (f ∷ fs) all some =
-        let parts = and_parts (nat_le (length f.text) 4) (list_all (λ g. nat_le (length g.text) 4) fs) all in
+        let parts = and_parts (nat_le (length f.text) 4) (list_all (λ g. nat_le
+        (length g.text) 4) fs) all in
         ⊎_elim
         (λ here.
         let tests = and_parts (nat_lt (length bytes) (length f.text)) (begins f.text bytes) here in
@@ -112,7 +118,8 @@ first_within bytes some = by (form_at bytes) refl
 lead_is : (b : ℕ) (rest : List ℕ) → 0xC2 ≤ b → b ≤ 0xF4 → is_lead (b ∷ rest) ≡ true
 lead_is b rest low high = grind (arith, nat_tests)
 
--- what an incomplete character tells: without one the bytes are not of it alone, or do not begin one
+-- what an incomplete character tells: without one the bytes are not of it alone, or do not begin
+-- one
 abbrev IsTold : ℕ → ℕ → Decoded → Type 0
 IsTold n b d = d.char ≡ None → d.size ≡ n → 0xC2 ≤ b → b ≤ 0xF4 → ⊥
 
@@ -133,7 +140,8 @@ char_told n m b c d e c' d' e' some longer second_c third_d fourth_e told = by-s
     let c_is = second_c (omega arith) in
     value-6 m b c' d' e' (omega arith, h.1, h.2, ap (second b) c_is ∙ h.3)
     ∙ ap (λ x. good (code_of_2 b x) 2) c_is ∙ sym h.4)
-    (λ h. absurd (told (ap (λ p. p.char) h.5) (ap (λ p. p.size) h.5 ∙ omega arith) (omega arith) h.2))
+    (λ h. absurd (told (ap (λ p. p.char) h.5) (ap (λ p. p.size) h.5
+    ∙ omega arith) (omega arith) h.2))
     (λ h.
     let c_is = second_c (omega arith) in
     let d_is = third_d (omega arith) in
@@ -144,7 +152,8 @@ char_told n m b c d e c' d' e' some longer second_c third_d fourth_e told = by-s
     let d_is = third_d (omega arith) in
     value-9 m b c' d' e' (omega arith, h.1, h.2, ap (second b) c_is ∙ h.3, ap continues d_is ∙ h.4)
     ∙ ap (λ x. good (code_of_3 b x d') 3) c_is ∙ ap (λ x. good (code_of_3 b c x) 3) d_is ∙ sym h.5)
-    (λ h. absurd (told (ap (λ p. p.char) h.6) (ap (λ p. p.size) h.6 ∙ omega arith) (omega arith) h.2))
+    (λ h. absurd (told (ap (λ p. p.char) h.6) (ap (λ p. p.size) h.6
+    ∙ omega arith) (omega arith) h.2))
     (λ h.
     let c_is = second_c (omega arith) in
     let d_is = third_d (omega arith) in
@@ -195,7 +204,8 @@ char_same b rest t outside =
     (told_by b rest outside)
 
 -- bytes that are not open tell their first key
-pub first_told : (bytes t : List ℕ) → is_open bytes ≡ false → first_key (bytes ++ t) ≡ first_key bytes
+pub first_told : (bytes t : List ℕ) → is_open bytes ≡ false → first_key (bytes ++ t)
+    ≡ first_key bytes
 first_told [] t told = absurd (false≢true (sym told))
 first_told (b ∷ rest) t told =
     let parts = or_parts (is_in_form (b ∷ rest)) (is_in_char (b ∷ rest)) told in
@@ -213,7 +223,8 @@ char_short b rest inside =
     ((decoded bytes).size == length bytes) inside in
     let none = (and_parts (is_lead bytes) (is_none (decoded bytes).char) parts.0).1 in
     let whole : (decoded bytes).size ≡ length bytes = grind (arith, nat_tests, parts.1) in
-    short_bad (length bytes) b (slice_index bytes 1) (slice_index bytes 2) (slice_index bytes 3) none whole
+    short_bad (length bytes) b (slice_index bytes 1) (slice_index bytes 2)
+    (slice_index bytes 3) none whole
   where
     short_bad : (n b c d e : ℕ) → is_none (decoded_by n b c d e).char ≡ true
         → (decoded_by n b c d e).size ≡ n → n ≤ 3

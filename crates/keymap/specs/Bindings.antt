@@ -1,5 +1,6 @@
 -- Sequences of keys and what they are bound to.
-use Rattle.std.specs.Prelude.{◌&&◌, ℕ, Bool, true, false, List, [], ◌∷◌, Option, Some, None, length, take}
+use Rattle.std.specs.Prelude.{◌&&◌, ℕ, Bool, true, false, List, [], ◌∷◌, Option, Some, None}
+use Rattle.std.specs.Prelude.{length, take}
 use Rattle.std.specs.Prelude.{find, nat_lt, option_map, if◌then◌else◌, Vec}
 use Rattle.std.specs.declared.alloc.Global.{Global}
 use Rattle.std.specs.List.{list_any}
@@ -32,7 +33,8 @@ binding keys action = record { keys = keys; action = action }
 abbrev pub bound : List Binding → List Key → PlainAction → List Binding
 bound [] keys action = binding keys action ∷ []
 bound (b ∷ bindings) keys action =
-    if same_keys keys b.keys then binding b.keys action ∷ bindings else b ∷ bound bindings keys action
+    if same_keys keys b.keys then binding b.keys action ∷ bindings else b ∷ bound bindings keys
+    action
 
 -- what the keys are bound to
 abbrev pub action_of : List Binding → List Key → Option PlainAction
@@ -40,7 +42,8 @@ action_of bindings keys = option_map (λ b. b.action) (find (λ b. same_keys key
 
 -- the whole begins with the keys and goes on
 abbrev pub is_front : List Key → List Key → Bool
-is_front keys whole = nat_lt (length keys) (length whole) && same_keys keys (take (length keys) whole)
+is_front keys whole = nat_lt (length keys) (length whole) && same_keys keys (take
+    (length keys) whole)
 
 -- some bound sequence begins with the keys and goes on
 abbrev pub is_begun : List Binding → List Key → Bool

@@ -1,5 +1,6 @@
 -- The keys that a key word names.
-use Rattle.std.specs.Prelude.{◌-◌, ◌+◌, ℕ, Bool, List, [], ◌∷◌, Option, Some, None, codes, find, length}
+use Rattle.std.specs.Prelude.{◌-◌, ◌+◌, ℕ, Bool, List, [], ◌∷◌, Option, Some, None, codes, find}
+use Rattle.std.specs.Prelude.{length}
 use Rattle.std.specs.Prelude.{take, is_some, option_map, if◌then◌else◌}
 use Rattle.std.specs.Str.{str_eq_ignore_ascii_case}
 use Rattle.mail_base.specs.Fronts.{◌>>=◌, behind, behind_text}

@@ -48,7 +48,8 @@ or_generic menu own generic = own
 
 -- what keys are in a menu
 abbrev pub found_in : PlainKeymap → Menu → List Key → Found
-found_in map menu keys = or_generic menu (found (bindings_of map menu) keys) (found map.generic keys)
+found_in map menu keys = or_generic menu (found (bindings_of map menu) keys)
+    (found map.generic keys)
 
 -- the first word of a text, with the blank behind it
 abbrev pub one_word : List ℕ → Piece (List ℕ)
@@ -60,7 +61,8 @@ bound_word function bindings word = bound bindings (word_keys false word) (Run f
 -- the bindings with a function's default keys
 abbrev pub bound_keys : Function → List Binding → MenuKeys → List Binding
 bound_keys function bindings None = bindings
-bound_keys function bindings (Some text) = fold (bound_word function) bindings (pieces one_word text)
+bound_keys function bindings (Some text) = fold (bound_word function) bindings
+    (pieces one_word text)
 
 abbrev pub with_row : PlainKeymap → TableRow → PlainKeymap
 with_row map r = record map {

@@ -19,7 +19,8 @@ abbrev pub called : Key → Option Function
 called (Call function) = Some function
 called _ = None
 
--- what waiting keys come to: an answer, with the begun sequence and the keys that still wait then, or the text of a
+-- what waiting keys come to: an answer, with the begun sequence and the keys that still wait then,
+-- or the text of a
 -- macro in place of the keys that were taken
 pub data Reached : Type 0 where
   Answered : Press → List Key → List Key → Reached
@@ -89,15 +90,18 @@ pressed_queue map menu queue =
     pressed map menu (most_replacements - queue.replaced) queue.replaced map.begun queue.items
 
 -- what a press answers and leaves
-pub record Presses (press : Press) (menu : Menu) (map map' : PlainKeymap) (queue queue' : PlainQueue) : Type 0 where
-  pub outcome : record { press = press; begun = map'.begun; waiting = queue'.items; replaced = queue'.replaced }
+pub record Presses (press : Press) (menu : Menu) (map map' : PlainKeymap)
+    (queue queue' : PlainQueue) : Type 0 where
+  pub outcome : record { press = press; begun = map'.begun; waiting = queue'.items; replaced =
+    queue'.replaced }
       ≡ pressed_queue map menu queue
   pub bindings : map' ≡ record map { begun = map'.begun }
 
 -- For the code alone.
 
 abbrev pub plain_reached : ReachedKeys → Walk → PlainQueue → Reached
-plain_reached (reached_keys.Answer press) walk queue = Answered press walk.begun.items (waiting_on walk queue)
+plain_reached (reached_keys.Answer press) walk queue = Answered press walk.begun.items
+    (waiting_on walk queue)
 plain_reached (reached_keys.Text text) walk queue = Replaced text.now.items (waiting_on walk queue)
 
 abbrev pub pressed_on : Press → Walk → PlainQueue → Pressed

@@ -6,7 +6,8 @@ use Rattle.keymap.specs.declared.key.Key.{Key}
 abbrev pub most_replacements : ℕ
 most_replacements = 1024
 
--- the keys in the order in which they will be pressed, how many more can be put without taking memory, and how many
+-- the keys in the order in which they will be pressed, how many more can be put without taking
+-- memory, and how many
 -- replacements were made since the last typed key
 pub record PlainQueue : Type 0 where
   pub items : List Key

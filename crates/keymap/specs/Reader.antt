@@ -1,5 +1,6 @@
 -- What a reader of keys takes and gives.
-use Rattle.std.specs.Prelude.{◌≡◌, ◌≤◌, ◌<◌, ◌+◌, ℕ, true, List, [], ◌∷◌, ◌++◌, drop, length, Option}
+use Rattle.std.specs.Prelude.{◌≡◌, ◌≤◌, ◌<◌, ◌+◌, ℕ, true, List, [], ◌∷◌, ◌++◌, drop, length}
+use Rattle.std.specs.Prelude.{Option}
 use Rattle.std.specs.Prelude.{Some, None, Result, Ok, Err, option_to_list}
 use Rattle.std.specs.Io.KnownBytes.{Consumes, IsAtEnd}
 use Rattle.keymap.specs.Stream.{first_key, is_open, keys_of}
@@ -22,7 +23,8 @@ AreNeeded before [] = Unit {0}
 AreNeeded before (b ∷ more) = (is_open before ≡ true) × AreNeeded (before ++ b ∷ []) more
 
 -- these bytes were taken, and none that was not needed
-pub record Takes (old new : PlainReader) (left left' : Option (List ℕ)) (more : List ℕ) : Type 0 where
+pub record Takes (old new : PlainReader) (left left' : Option (List ℕ))
+    (more : List ℕ) : Type 0 where
   pub taken : Consumes left left' more
   pub counted : new.taken ≡ old.taken + length more
   pub needed : AreNeeded old.pending more
@@ -35,7 +37,8 @@ IsFirst (Some key) bytes rest =
     (0 < length bytes) × (key ≡ (first_key bytes).value)
     × (rest ≡ drop (first_key bytes).more (drop 1 bytes))
 
--- what the stream holds from here on, where the source tells it: the key, and then what it holds after
+-- what the stream holds from here on, where the source tells it: the key, and then what it holds
+-- after
 abbrev pub Begins : Option Key → List ℕ → Option (List ℕ) → List ℕ → Option (List ℕ) → Type 0
 Begins key pending None pending' left' = Unit {0}
 Begins key pending (Some left) pending' None = ⊥
@@ -43,7 +46,8 @@ Begins key pending (Some left) pending' (Some left') =
     keys_of (pending ++ left) ≡ option_to_list key ++ keys_of (pending' ++ left')
 
 -- a key was given, or none at the end of the stream
-pub record Gives (key : Option Key) (old new : PlainReader) (left left' : Option (List ℕ)) : Type 0 where
+pub record Gives (key : Option Key) (old new : PlainReader) (left left' : Option
+    (List ℕ)) : Type 0 where
   pub more : List ℕ
   pub takes : Takes old new left left' more
   pub first : IsFirst key (old.pending ++ more) new.pending
@@ -56,7 +60,8 @@ IsCause ReadFault reader = (is_open reader.pending ≡ true) × (reader.taken < 
 IsCause TooManyKeys reader = (is_open reader.pending ≡ true) × (reader.taken ≡ most_bytes)
 
 -- no key was given: what was taken waits
-pub record Stops (fault : KeyFault) (old new : PlainReader) (left left' : Option (List ℕ)) : Type 0 where
+pub record Stops (fault : KeyFault) (old new : PlainReader) (left left' : Option
+    (List ℕ)) : Type 0 where
   pub more : List ℕ
   pub takes : Takes old new left left' more
   pub pending : new.pending ≡ old.pending ++ more

@@ -1,5 +1,6 @@
 -- The keys of a stream of bytes.
-use Rattle.std.specs.Prelude.{◌==◌, ◌-◌, ◌&&◌, ◌||◌, ℕ, Bool, true, false, List, [], ◌∷◌, Option, Some, None}
+use Rattle.std.specs.Prelude.{◌==◌, ◌-◌, ◌&&◌, ◌||◌, ℕ, Bool, true, false, List, [], ◌∷◌, Option}
+use Rattle.std.specs.Prelude.{Some, None}
 use Rattle.std.specs.Prelude.{codes, find, length, take, nat_lt, nat_le, is_none}
 use Rattle.std.specs.List.{list_any}
 use Rattle.std.specs.Str.{bytes_eq}
@@ -62,7 +63,8 @@ keys_of bytes = pieces first_key bytes
 
 -- some escape form begins with these bytes and goes on
 abbrev pub is_in_form : List ℕ → Bool
-is_in_form bytes = list_any (λ f. nat_lt (length bytes) (length f.text) && begins f.text bytes) forms
+is_in_form bytes = list_any (λ f. nat_lt (length bytes)
+    (length f.text) && begins f.text bytes) forms
 
 -- the byte begins a character of several bytes
 abbrev pub is_lead : List ℕ → Bool

@@ -4,7 +4,8 @@ use Rattle.keymap.specs.Queue.{PlainQueue}
 use Rattle.keymap.specs.declared.key.Key.{Key}
 use Rattle.keymap.specs.declared.walk.Walk.{Walk}
 
--- the keys that wait on a walk through a queue: those put ahead, and those of the queue that were not taken
+-- the keys that wait on a walk through a queue: those put ahead, and those of the queue that were
+-- not taken
 abbrev pub waiting_on : Walk → PlainQueue → List Key
 waiting_on walk queue = walk.ahead.items ++ drop walk.taken queue.items
 

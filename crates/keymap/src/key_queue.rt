@@ -1,6 +1,7 @@
 //! Keys that wait to be pressed.
 
-ghost use Rattle.std.specs.Prelude.{◌≡◌, ◌↔◌, ◌+◌, ◌-◌, ◌<◌, ◌≤◌, ◌++◌, ◌∷◌, [], drop, length, option_copied, slice_get};
+ghost use Rattle.std.specs.Prelude.{◌≡◌, ◌↔◌, ◌+◌, ◌-◌, ◌<◌, ◌≤◌, ◌++◌, ◌∷◌, [], drop, length};
+ghost use Rattle.std.specs.Prelude.{option_copied, slice_get};
 ghost use Rattle.std.specs.Prelude.{IsOk, OnOk, OnErr, false, if◌then◌else◌};
 ghost use Rattle.keymap.specs.Queue as spec;
 
@@ -181,7 +182,8 @@ impl KeyQueue {
     pub fn count_one(&mut self) -> bool
         ensures items { self.new.items ≡ self.old.items }
         ensures full { result ≡ false ↔ (self.old.replaced ≡ spec.most_replacements) }
-        ensures counted { self.new.replaced ≡ (if result then self.old.replaced + 1 else self.old.replaced) }
+        ensures counted { self.new.replaced
+            ≡ (if result then self.old.replaced + 1 else self.old.replaced) }
     {
         if self.replaced >= MOST_REPLACEMENTS {
             return false;

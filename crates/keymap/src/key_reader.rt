@@ -1,6 +1,7 @@
 //! A reader of keys.
 
-ghost use Rattle.std.specs.Prelude.{◌≡◌, ◌<◌, ◌≤◌, ◌+◌, ◌++◌, ◌∷◌, [], drop, length, Err, IfOk, IfErr};
+ghost use Rattle.std.specs.Prelude.{◌≡◌, ◌<◌, ◌≤◌, ◌+◌, ◌++◌, ◌∷◌, [], drop, length, Err, IfOk};
+ghost use Rattle.std.specs.Prelude.{IfErr};
 ghost use Rattle.mail_base.specs.Faults.{Rose};
 ghost use Rattle.keymap.specs.Reader as spec;
 

@@ -1,6 +1,7 @@
 //! What waiting keys do.
 
-ghost use Rattle.std.specs.Prelude.{◌≡◌, ◌≢◌, ◌<◌, ◌≤◌, ◌+◌, ◌-◌, ◌++◌, [], length, option_map, IfOk, OnOk, OnErr};
+ghost use Rattle.std.specs.Prelude.{◌≡◌, ◌≢◌, ◌<◌, ◌≤◌, ◌+◌, ◌-◌, ◌++◌, [], length, option_map};
+ghost use Rattle.std.specs.Prelude.{IfOk, OnOk, OnErr};
 ghost use Rattle.keymap.specs.Keymap.{found_in};
 ghost use Rattle.keymap.specs.Press as spec;
 ghost use Rattle.keymap.specs.Queue.{IsAsBefore, TakesFirst, most_replacements};

@@ -53,7 +53,8 @@ impl Walk {
     pub fn replace(&mut self, text: &Keys) -> Result<(), NoMemory>
         requires { self.old.ahead.replaced < most_replacements }
         ensures begun { OnOk result (self.new.begun.items ≡ []) }
-        ensures ahead { OnOk result (self.new.ahead.items ≡ text.now.items ++ self.old.ahead.items) }
+        ensures ahead { OnOk result (self.new.ahead.items
+            ≡ text.now.items ++ self.old.ahead.items) }
         ensures replaced { self.new.ahead.replaced ≡ self.old.ahead.replaced + 1 }
         ensures taken { self.new.taken ≡ self.old.taken }
     {

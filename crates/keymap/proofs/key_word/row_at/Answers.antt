@@ -7,5 +7,6 @@ use Rattle.keymap.proofs.key_word.row_at.Goals as goal
 pub returns : goal.returns
 returns c =
     ap (option_map plain_row) c.row_in.ensures
-    ∙ same_found (λ r. is_some (behind_name r.name c.args.text.now)) plain_row c.rows.result.now rows
+    ∙ same_found (λ r. is_some (behind_name r.name c.args.text.now)) plain_row c.rows.result.now
+    rows
     c.rows.ensures.table

@@ -18,5 +18,6 @@ loop-left-preserved c =
     ∙ ap (λ w. w ∷ pieces one_word (drop (length w) (drop 1 left))) c.first_word-word.ensures.value
     ∙ sym step in
     ap (λ b. fold (bound_word function) b (pieces one_word rest))
-    (c.in_ok-bind.ensures.ok ∙ ap (λ keys. bound before keys (Run function)) (c.as_slice.ensures ∙ c.in_ok-keys.ensures))
+    (c.in_ok-bind.ensures.ok ∙ ap (λ keys. bound before keys (Run function))
+    (c.as_slice.ensures ∙ c.in_ok-keys.ensures))
     ∙ ap (fold (bound_word function) before) first ∙ c.loop-left.invariant

@@ -9,7 +9,8 @@ loop-turn-preserved g c =
     let open_is : is_open before.pending ≡ true = grind arith in
     record {
       filled = filled_more c.args.self.now before c.add.new.self (g.K.Source.left c.args.keys.now)
-          (g.K.Source.left c.loop-turn.keys) (g.K.Source.left c.next_byte.new.self) c.in-Ok-Some.byte
+          (g.K.Source.left c.loop-turn.keys) (g.K.Source.left c.next_byte.new.self)
+          c.in-Ok-Some.byte
           c.loop-turn.invariant.filled open_is (omega arith)
           (rw c.in-Ok-Some.field-0-is at c.in-Ok-Some.ensures.byte) c.add.ensures.pending
           c.add.ensures.taken;

@@ -12,5 +12,6 @@ returns-clause-key c =
 
 pub returns-clause-kept : goal.returns-clause-kept
 returns-clause-kept c =
-    let there = got c.args.queue.now.items c.args.self.now.taken c.in_ok-key.key.now (sym c.in_ok-key.ensures) in
+    let there = got c.args.queue.now.items c.args.self.now.taken c.in_ok-key.key.now
+    (sym c.in_ok-key.ensures) in
     record { taken = omega (arith, there.within); replaced = c.take_first.ensures.replaced }
