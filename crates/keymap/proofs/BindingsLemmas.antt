@@ -117,8 +117,10 @@ pub bound_entries : (entries : List (Vec Key Global × Action)) (k : Vec Key Glo
     ≡ bound (map plain_binding entries) k.items (plain_action a)
 bound_entries [] k a = refl
 bound_entries (e ∷ entries) k a =
-    ap (λ b. map plain_binding (if b then (e.0,
-    a) ∷ entries else e ∷ insert_entry equal_keys entries k a))
+    ap (λ b. map plain_binding (if b then (
+      e.0,
+      a,
+    ) ∷ entries else e ∷ insert_entry equal_keys entries k a))
     (keys_eq k.items e.0.items)
     ∙ elim (same_keys k.items e.0.items) as (λ b. map plain_binding
     (if b then (e.0, a) ∷ entries else e ∷ insert_entry equal_keys entries k a)

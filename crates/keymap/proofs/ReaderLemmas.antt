@@ -154,7 +154,7 @@ gives key old mid new left left' filled ended first taken =
       first = is_first;
       ended = λ open_is. let is = at_end open_is in (is.0, omega (arith, is.1));
       begins = given_begins key old.pending filled.more new.pending left left' filled.takes.taken
-      is_first
+          is_first
           (λ open_is. (at_end open_is).0);
     }
 

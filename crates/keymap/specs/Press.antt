@@ -92,8 +92,12 @@ pressed_queue map menu queue =
 -- what a press answers and leaves
 pub record Presses (press : Press) (menu : Menu) (map map' : PlainKeymap)
     (queue queue' : PlainQueue) : Type 0 where
-  pub outcome : record { press = press; begun = map'.begun; waiting = queue'.items; replaced =
-    queue'.replaced }
+  pub outcome : record {
+    press = press;
+    begun = map'.begun;
+    waiting = queue'.items;
+    replaced = queue'.replaced;
+  }
       ≡ pressed_queue map menu queue
   pub bindings : map' ≡ record map { begun = map'.begun }
 

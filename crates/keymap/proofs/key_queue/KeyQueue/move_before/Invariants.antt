@@ -7,7 +7,7 @@ invariant-loop-key l = record {
   items : l.ahead-inside.keys.items ++ l.self-inside.keys.items
       ≡ l.initial.ahead-inside.keys.items ++ l.initial.self-inside.keys.items;
   room : deque_len l.self-inside.keys + deque_len l.ahead-inside.keys ≤ deque_capacity
-    l.self-inside.keys;
+      l.self-inside.keys;
   replaced : l.self-inside.replaced ≡ l.initial.self-inside.replaced;
 }
 

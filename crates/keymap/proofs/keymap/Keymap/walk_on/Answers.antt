@@ -31,8 +31,12 @@ loop-turn-preserved c =
           ∙ sym (replaced_once map menu (most_replacements - turn) further turn first.begun.items
           (waiting_on first queue) text (waiting_on before queue) some comes)
           ∙ c.loop-turn.invariant.pressed;
-      turn = omega (arith, done.replaced, c.in_ok-press.ensures.kept.replaced,
-      c.loop-turn.invariant.turn);
+      turn = omega (
+        arith,
+        done.replaced,
+        c.in_ok-press.ensures.kept.replaced,
+        c.loop-turn.invariant.turn,
+      );
       within = omega arith;
       taken = omega (arith, done.taken, c.in_ok-press.ensures.kept.taken);
     }
