@@ -16,13 +16,25 @@ use Rattle.folder_core.specs.declared.listing.Listed.{Listed}
 use Rattle.folder_core.specs.Known.{KnownFolder}
 use Rattle.folder_core.specs.Letters.{Mail}
 use Rattle.folder_core.specs.Mbox.{begins_mailbox, raw_messages}
-use Rattle.folder_core.specs.Reads.{bytes_refusal, count_refusal, letters_from, listed_from, most_letters}
-use Rattle.folder_core.specs.Reads.{most_messages}
+use Rattle.folder_core.specs.Reads.{bytes_refusal, count_refusal, letters_from, listed_from, messages_of}
+use Rattle.folder_core.specs.Reads.{most_letters, most_messages}
 use Rattle.folder_core.specs.Scanned.{IsScanned, ListsNew, Saw, ids_from}
 use Rattle.mbox_folder.specs.FileSeen.{FileSeen, IsRead}
 use Rattle.mbox_folder.specs.ListedFile.{IsListedFile, IsUnlisted, ListsFile, known_file}
 
 -- A listed file was seen.
+
+-- a file that is not refused is a mailbox
+messages_listed : (letters : ℕ) (bytes : List ℕ) → bytes_refusal letters bytes ≡ None
+    → messages_of bytes ≡ Some (raw_messages bytes)
+messages_listed letters bytes taken = begun (begins_mailbox bytes) refl
+  where
+    begun : (t : Bool) → begins_mailbox bytes ≡ t → messages_of bytes ≡ Some (raw_messages bytes)
+    begun true begins = ap (λ (b : Bool). if b then Some (raw_messages bytes) else None) begins
+    begun false begins =
+        let no : Some (NotMailbox 0) ≡ None =
+        sym (ap (λ (b : Bool). if b then count_refusal letters (length (raw_messages bytes)) else Some (NotMailbox 0))
+        begins) ∙ taken in absurd (cc)
 
 saw_listed : (file : FileRead) (found : Found) (archive new_archive : List Mail) (known : KnownFolder)
     (old new : Option Past)
@@ -36,11 +48,13 @@ saw_listed file found archive new_archive known (Some past) (Some next) listed s
   from = seen.from;
   to = seen.to;
   seen = record {
-    taken = seen.is.2 (length archive) ∙ listed.taken;
-    letters = listed.letters ∙ ap (λ b. archive ++ letters_from (length archive) (raw_messages b)) (sym seen.is.0);
-    listed = listed.listed ∙ ap (λ b. listed_from (length archive) (raw_messages b)) (sym seen.is.0);
-    bytes = sym seen.is.0;
-    stamps = sym seen.is.1;
+    taken = seen.is.refused (length archive) ∙ listed.taken;
+    messages = raw_messages file.bytes.items;
+    read = seen.is.messages ∙ messages_listed (length archive) file.bytes.items listed.taken;
+    letters = listed.letters;
+    listed = listed.listed;
+    bytes = sym seen.is.bytes;
+    stamps = sym seen.is.stamps;
   };
   alone = seen.alone;
 }
@@ -83,12 +97,12 @@ list_tells : (why : ScanError) (file : FileRead) (tree : List TreeNode) (archive
     (known : KnownFolder)
     → IsUnlisted file.bytes.items (length archive) why → IsRead (Ok file) (node_at tree known.path)
     → IsScanned Mbox tree archive new_archive known (Err why)
-list_tells Missing file tree archive new_archive known told is = is.2 (length archive) ∙ told
-list_tells (NotMailbox place) file tree archive new_archive known told is = is.2 (length archive) ∙ told
-list_tells (TooMany count) file tree archive new_archive known told is = is.2 (length archive) ∙ told
-list_tells (TooLarge size) file tree archive new_archive known told is = is.2 (length archive) ∙ told
-list_tells Unfinished file tree archive new_archive known told is = is.2 (length archive) ∙ told
-list_tells ArchiveFull file tree archive new_archive known told is = is.2 (length archive) ∙ told
+list_tells Missing file tree archive new_archive known told is = is.refused (length archive) ∙ told
+list_tells (NotMailbox place) file tree archive new_archive known told is = is.refused (length archive) ∙ told
+list_tells (TooMany count) file tree archive new_archive known told is = is.refused (length archive) ∙ told
+list_tells (TooLarge size) file tree archive new_archive known told is = is.refused (length archive) ∙ told
+list_tells Unfinished file tree archive new_archive known told is = is.refused (length archive) ∙ told
+list_tells ArchiveFull file tree archive new_archive known told is = is.refused (length archive) ∙ told
 list_tells Fault file tree archive new_archive known told is = tt
 list_tells NoMemory file tree archive new_archive known told is = tt
 

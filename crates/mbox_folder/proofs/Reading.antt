@@ -12,7 +12,7 @@ use Rattle.disk_model.specs.declared.answers.DiskError.{DiskError}
 use Rattle.disk_model.specs.declared.answers.DiskError.TheVariants.{Missing, WrongNode, Long, Fault, NoMemory}
 use Rattle.disk_model.proofs.Looking.{looked_longer}
 use Rattle.disk_model.proofs.Marks.{length_longer, met_at, tree_at-length, tree_at-looked, tree_after-looked}
-use Rattle.folder_core.specs.Reads.{bytes_refusal, file_refusal, most_bytes}
+use Rattle.folder_core.specs.Reads.{bytes_refusal, file_refusal, messages_of, most_bytes}
 use Rattle.folder_core.specs.declared.error.ScanError.{ScanError}
 use Rattle.folder_core.specs.declared.error.ScanError.TheVariants.{Missing as NoFolder, NotMailbox, TooLarge}
 use Rattle.folder_core.specs.declared.error.ScanError.TheVariants.{Fault as FolderFault, NoMemory as WantOfMemory}
@@ -48,12 +48,14 @@ file_ok file path bytes stamp is = by_length (nat_lt most_bytes (length bytes)) 
     by_length false long is =
         let same : ◌≡◌ {A = ReadPair} (file.stat, file.bytes.items) (stat_node (Some bytes) stamp, bytes) = ok_pair _ _
         is in
-        let content : file.bytes.items ≡ bytes = pair_bytes _ _ same in (
-          sym content,
-          ap (λ (s : Stat). s.stamp ∷ []) (sym (pair_stat _ _ same)),
-          λ letters. ap (λ (b : Bool). if b then Some (TooLarge (length bytes)) else bytes_refusal letters bytes) long
-              ∙ ap (bytes_refusal letters) (sym content),
-        )
+        let content : file.bytes.items ≡ bytes = pair_bytes _ _ same in record {
+          bytes = sym content;
+          stamps = ap (λ (s : Stat). s.stamp ∷ []) (sym (pair_stat _ _ same));
+          messages = ap messages_of (sym content);
+          refused = λ letters.
+              ap (λ (b : Bool). if b then Some (TooLarge (length bytes)) else bytes_refusal letters bytes) long
+              ∙ ap (bytes_refusal letters) (sym content);
+        }
 
 -- a fact of a node by its bytes
 by_bytes : (P : TreeNode → Type 0) (node : TreeNode)

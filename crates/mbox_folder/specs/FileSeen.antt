@@ -7,13 +7,18 @@ use Rattle.disk_model.specs.declared.answers.FileRead.{FileRead}
 use Rattle.folder_core.specs.declared.error.ScanError.{ScanError}
 use Rattle.folder_core.specs.declared.error.ScanError.TheVariants.{Missing, NotMailbox, TooMany, TooLarge, Unfinished}
 use Rattle.folder_core.specs.declared.error.ScanError.TheVariants.{ArchiveFull, Fault, NoMemory}
-use Rattle.folder_core.specs.Reads.{bytes_of, bytes_refusal, mbox_refusal, stamps_of}
+use Rattle.folder_core.specs.Reads.{bytes_of, bytes_refusal, mbox_refusal, messages_of, node_reads, stamps_of}
 
--- the file is what stands there, of a length that is allowed, or the refusal is that of what stands there
+-- the file is what stands there, of a length that is allowed
+pub record IsFile (file : FileRead) (there : Option TreeNode) : Type 0 where
+  pub bytes : bytes_of there ≡ file.bytes.items
+  pub stamps : stamps_of there ≡ file.stat.stamp ∷ []
+  pub messages : node_reads there ≡ messages_of file.bytes.items
+  pub refused : (letters : ℕ) → mbox_refusal letters there ≡ bytes_refusal letters file.bytes.items
+
+-- the file is what stands there, or the refusal is that of what stands there
 abbrev pub IsRead : Result FileRead ScanError → Option TreeNode → Type 0
-IsRead (Ok file) there =
-    (bytes_of there ≡ file.bytes.items) × (stamps_of there ≡ file.stat.stamp ∷ [])
-    × ((letters : ℕ) → mbox_refusal letters there ≡ bytes_refusal letters file.bytes.items)
+IsRead (Ok file) there = IsFile file there
 IsRead (Err Fault) there = Unit {0}
 IsRead (Err NoMemory) there = Unit {0}
 IsRead (Err why) there = (letters : ℕ) → mbox_refusal letters there ≡ Some why

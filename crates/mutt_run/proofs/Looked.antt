@@ -70,9 +70,10 @@ found_past kind path archive known found old mid new at seen first then saw = re
   to = saw.to;
   kind_is = ap (λ (tree : List TreeNode). kind_at tree path) (tree_stays mid new seen.mark then seen.to) ∙ sym seen.is;
   taken = subst (λ (p : List ℕ). refusal kind 0 (tree_at new saw.mark) p ≡ None) at saw.seen.taken;
-  letters = subst (λ (p : List ℕ). archive ≡ letters_from 0 (reads kind (tree_at new saw.mark) p)) at saw.seen.letters;
-  listed = subst (λ (p : List ℕ). found.came.items ≡ listed_from 0 (reads kind (tree_at new saw.mark) p)) at
-      saw.seen.listed;
+  messages = saw.seen.messages;
+  read = subst (λ (p : List ℕ). reads kind (tree_at new saw.mark) p ≡ Some saw.seen.messages) at saw.seen.read;
+  letters = saw.seen.letters;
+  listed = saw.seen.listed;
   alone = λ none. saw.alone (alone_later old mid new first then none);
 }
 

@@ -28,8 +28,10 @@ pub record WasOpened (archive : List Mail) (path : List ℕ) (kind : Kind) (came
   pub to : seen ≤ after
   pub kind_is : kind_at (tree_at new look) path ≡ Ok kind
   pub taken : refusal kind 0 (tree_at new seen) path ≡ None
-  pub letters : archive ≡ letters_from 0 (reads kind (tree_at new seen) path)
-  pub listed : came ≡ listed_from 0 (reads kind (tree_at new seen) path)
+  pub messages : List (List ℕ)
+  pub read : reads kind (tree_at new seen) path ≡ Some messages
+  pub letters : archive ≡ letters_from 0 messages
+  pub listed : came ≡ listed_from 0 messages
   pub alone : NoForeign old new → tree_at new seen ≡ tree_after new
 
 -- the path was looked at between two marks, and this was its kind
