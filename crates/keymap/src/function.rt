@@ -1,5 +1,4 @@
-//! The functions that keys run: names, menus and default keys (Mutt's manual, "Configuration and
-//! Functions").
+//! The functions that keys run: names, menus and default keys (Mutt's manual, "Functions").
 
 ghost use Rattle.std.specs.Prelude.{◌≡◌, ◌<◌, Some, find, length, map, option_map};
 ghost use Rattle.std.specs.Str.{bytes_eq};
