@@ -25,7 +25,7 @@ use Rattle.rc_lang_words.proofs.QuotingLemmas.{quoted_sign, quoted_signs}
 use Rattle.rc_lang_words.proofs.ReadBack.{all_signs, is_no_blank, is_no_end, is_no_start}
 use Rattle.rc_lang_words.proofs.ReadBack.{one_command, one_quote, one_word, quote, quote_utf8}
 use Rattle.rc_lang_words.proofs.ReadBack.{text_of_bytes, text_word}
-use Rattle.rc_lang_words.proofs.ShownTextLemmas.{shown_utf8}
+use Rattle.mail_base.proofs.ShownLemmas.{shown_utf8}
 
 signs_where : (p : Sign → Bool) (f : ℕ → Sign) (q : ℕ → Bool) → ((b : ℕ) → q b ≡ true
     → p (f b) ≡ true) → (s : List ℕ)

@@ -5,7 +5,7 @@ use Rattle.rc_lang.specs.declared.quad.Quad.{Quad as FourWay}
 use Rattle.rc_lang.specs.declared.value.Value.{Value}
 use Rattle.rc_lang.specs.declared.value.Value.TheVariants as value
 use Rattle.rc_lang.specs.Quads.{quad_text}
-use Rattle.rc_lang_words.specs.ShownText.{shown_text}
+use Rattle.mail_base.specs.Shown.{utf8_text}
 
 pub data PlainValue : Type 0 where
   Flag : Bool → PlainValue
@@ -41,4 +41,4 @@ printed_line name value = (((name ++ 61 ∷ []) ++ quote_of value) ++ value_text
 
 -- the line that a query of the variable prints
 abbrev pub shown_line : List ℕ → PlainValue → List ℕ
-shown_line name value = shown_text (printed_line name value)
+shown_line name value = utf8_text (printed_line name value)

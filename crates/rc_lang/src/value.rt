@@ -4,8 +4,7 @@ ghost use Rattle.std.specs.Prelude.{◌≡◌, IfOk};
 ghost use Rattle.rc_lang.specs.Values as spec;
 
 use crate::quad::Quad;
-use mail_base::{Bytes, Line, NoMemory};
-use rc_lang_words::shown_text;
+use mail_base::{Bytes, Line, NoMemory, append_utf8};
 use std::alloc::Global;
 
 /// The value of a variable.
@@ -54,7 +53,9 @@ impl Value {
         line.append(quote)?;
         line.append(self.text(alloc)?.as_slice())?;
         line.append(quote)?;
-        shown_text(alloc, line.as_slice())
+        let mut shown = Line::new(alloc);
+        append_utf8(&mut shown, line.as_slice())?;
+        Ok(shown)
     }
 
     // What stands on both sides of the value where it is printed.
