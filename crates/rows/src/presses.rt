@@ -77,7 +77,8 @@ impl Table {
         if !is_sequence(&keys) {
             return Err(CaseFault::BadInput);
         }
-        self.keymap.bind(menu_named(menu)?, &keys, need_function(name)?)?;
+        self.keymap
+            .bind(menu_named(menu)?, &keys, need_function(name)?)?;
         Ok(())
     }
 
