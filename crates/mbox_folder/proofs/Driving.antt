@@ -1,5 +1,5 @@
 -- What a scan has seen, by what its read has seen.
-use Rattle.std.proofs.Common.{◌≡◌, ◌+◌, ◌<◌, ◌++◌, ℕ, Bool, true, false, List, [], ◌∷◌, Option, Some, None, Ok}
+use Rattle.std.proofs.Common.{◌≡◌, ◌+◌, ◌<◌, ℕ, Bool, true, false, List, [], ◌∷◌, Option, Some, None, Ok}
 use Rattle.std.proofs.Common.{Err, length, map, nat_lt, if◌then◌else◌, refl, sym, ◌∙◌, ap, subst, arith}
 use Rattle.std.proofs.lemmas.Bool.{ltb-false, ltb-true}
 use Rattle.mail_base.specs.declared.kind.Kind.TheVariants.{Mbox}
@@ -12,7 +12,6 @@ use Rattle.folder_core.specs.declared.error.ScanError.{ScanError}
 use Rattle.folder_core.specs.declared.error.ScanError.TheVariants.{Missing, NotMailbox, TooMany, TooLarge, Unfinished}
 use Rattle.folder_core.specs.declared.error.ScanError.TheVariants.{ArchiveFull, Fault, NoMemory}
 use Rattle.folder_core.specs.declared.listing.Found.{Found}
-use Rattle.folder_core.specs.declared.listing.Listed.{Listed}
 use Rattle.folder_core.specs.Known.{KnownFolder}
 use Rattle.folder_core.specs.Letters.{Mail}
 use Rattle.folder_core.specs.Mbox.{begins_mailbox, raw_messages}

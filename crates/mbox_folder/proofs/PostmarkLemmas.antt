@@ -1,6 +1,6 @@
 -- The stamp that stands behind a blank of a text.
 use Rattle.std.proofs.Common.{◌≡◌, ◌+◌, ◌<◌, ◌≤◌, ℕ, zero, suc, Bool, true, false, cond, List, [], ◌∷◌, Some, None}
-use Rattle.std.proofs.Common.{length, take, drop, position, refl, sym, ap, ◌∙◌, arith, take_all}
+use Rattle.std.proofs.Common.{length, drop, position, refl, ap, ◌∙◌, arith}
 use Rattle.std.specs.List.{position_or_len, prefix_len}
 use Rattle.std.specs.Prelude.{if◌then◌else◌, not, slice_index}
 use Rattle.std.proofs.lemmas.List.Quantifiers.{position-Some}

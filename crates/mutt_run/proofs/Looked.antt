@@ -12,7 +12,7 @@ use Rattle.disk_model.proofs.Marks.{tree_at-longer}
 use Rattle.folder_core.specs.Kinds.{KindSeen, kind_at}
 use Rattle.folder_core.specs.Known.{KnownFolder}
 use Rattle.folder_core.specs.Letters.{Mail}
-use Rattle.folder_core.specs.Reads.{letters_from, listed_from, reads, refusal}
+use Rattle.folder_core.specs.Reads.{reads, refusal}
 use Rattle.folder_core.specs.Scanned.{IsScanned, Saw}
 use Rattle.folder_core.specs.declared.error.ScanError.{ScanError}
 use Rattle.folder_core.specs.declared.error.ScanError.TheVariants.{Missing, NotMailbox, TooMany, TooLarge, Unfinished}
