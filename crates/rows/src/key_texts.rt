@@ -1,7 +1,7 @@
 //! Keys, menus and functions as the cases of keys name them.
 
 use case_files::CaseFault;
-use keymap::{Function, Key, Keys, Menu, function_named};
+use keymap::{Function, Key, Menu, function_named};
 use mail_base::Bytes;
 use std::alloc::Global;
 
@@ -62,9 +62,4 @@ pub fn menu_named(name: &[u8]) -> Result<Menu, CaseFault> {
 
 pub fn need_function(name: &[u8]) -> Result<Function, CaseFault> {
     function_named(name).ok_or(CaseFault::BadInput)
-}
-
-/// Keys that can be bound: one to eight.
-pub fn is_sequence(keys: &Keys) -> bool {
-    1 <= keys.len() && keys.len() <= 8
 }

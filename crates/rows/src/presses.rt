@@ -1,6 +1,6 @@
 //! Cases of keys that are pressed in a menu.
 
-use crate::key_texts::{is_sequence, menu_named, need_function};
+use crate::key_texts::{menu_named, need_function};
 use case_files::{Answer, Case, CaseFault, Entry, Subject};
 use keymap::{KeyQueue, Keymap, Menu, Press, read_keys};
 use std::alloc::Global;
@@ -74,7 +74,8 @@ impl Table {
     fn bind(&mut self, about: &[u8], word: &[u8]) -> Result<(), CaseFault> {
         let (menu, name) = two_words(about)?;
         let keys = read_keys(self.alloc, word, false)?;
-        if !is_sequence(&keys) {
+        let count = keys.len();
+        if count == 0 || count > 8 {
             return Err(CaseFault::BadInput);
         }
         self.keymap
@@ -85,7 +86,8 @@ impl Table {
     fn macro_key(&mut self, about: &[u8], text: &[u8]) -> Result<(), CaseFault> {
         let (menu, word) = two_words(about)?;
         let keys = read_keys(self.alloc, word, false)?;
-        if !is_sequence(&keys) {
+        let count = keys.len();
+        if count == 0 || count > 8 {
             return Err(CaseFault::BadInput);
         }
         let text = read_keys(self.alloc, text, true)?;
@@ -110,14 +112,15 @@ impl Table {
 
     // Presses the keys that wait; each press takes at least one of them.
     fn press_all(&mut self) -> Result<(), CaseFault> {
-        if self.menu == Menu::Generic {
+        let menu = self.menu;
+        if menu == Menu::Generic {
             return Err(CaseFault::BadInput);
         }
         for _turn in 0..10_000 {
             if self.queue.len() == 0 {
                 break;
             }
-            let press = self.keymap.press(self.menu, &mut self.queue)?;
+            let press = self.keymap.press(menu, &mut self.queue)?;
             self.last = shown_press(press);
             self.presses = self.presses.saturating_add(1);
             self.answer.put(b"press", self.last)?;
