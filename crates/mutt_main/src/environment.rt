@@ -1,3 +1,5 @@
+//! The words of the command line.
+
 use mail_base::{Bytes, NoMemory, Words};
 use std::alloc::Global;
 use std::env::{Env, FillError};
