@@ -1,0 +1,2 @@
+pub mod MaildirName
+pub mod BaseOrder

@@ -1,0 +1,112 @@
+-- Names of the files of a folder (maildir(5)): a base, and behind the last `:2,` the letters.
+use Rattle.std.specs.Prelude.{◌==◌, ◌-◌, ◌&&◌, ◌||◌, ℕ, zero, suc, Bool, false, not, nat_le, nat_lt}
+use Rattle.std.specs.Prelude.{List, [], ◌∷◌, ◌++◌, length, take, codes, Option, Some, None}
+use Rattle.std.specs.Prelude.{is_none, if◌then◌else◌}
+use Rattle.std.specs.List.{filter, list_any}
+use Rattle.std.specs.Option.{option_or}
+use Rattle.std.specs.Str.{byte}
+use Rattle.mail_base.specs.Fronts.{behind_text}
+use Rattle.mail_base.specs.declared.flags.Flags.{Flags}
+use Rattle.maildir_folder.specs.declared.maildir_name.MaildirName.{MaildirName}
+
+-- what a name tells: the letters that stand for no flag are the others
+pub record PlainName : Type 0 where
+  pub base : List ℕ
+  pub flags : Flags
+  pub others : List ℕ
+
+abbrev pub plain_name : MaildirName → PlainName
+plain_name n = record { base = n.base.items; flags = n.flags; others = n.others.items }
+
+-- what parts the base from the letters
+abbrev pub mark : List ℕ
+mark = codes ":2,"
+
+-- what stands behind the last mark
+abbrev pub last_letters : List ℕ → Option (List ℕ)
+last_letters [] = None
+last_letters (b ∷ rest) = option_or (last_letters rest) (behind_text mark (b ∷ rest))
+
+-- the base, and the letters behind its mark
+abbrev pub split_at_mark : List ℕ → Option (List ℕ) → List ℕ × List ℕ
+split_at_mark name None = (name, [])
+split_at_mark name (Some letters) = (take (length name - length letters - 3) name, letters)
+
+-- the base is what stands before the last mark, or the whole name
+abbrev pub split_name : List ℕ → List ℕ × List ℕ
+split_name name = split_at_mark name (last_letters name)
+
+abbrev pub has_letter : List ℕ → ℕ → Bool
+has_letter letters letter = list_any (λ b. b == letter) letters
+
+-- draft, flagged, passed, replied, seen and trashed by their letters; a name in `cur` is aged
+abbrev pub flags_of : Bool → List ℕ → Flags
+flags_of in_cur letters = record {
+  seen = has_letter letters (byte "S");
+  aged = in_cur || has_letter letters (byte "S");
+  replied = has_letter letters (byte "R");
+  flagged = has_letter letters (byte "F");
+  passed = has_letter letters (byte "P");
+  draft = has_letter letters (byte "D");
+  trashed = has_letter letters (byte "T");
+}
+
+-- a letter that stands for no flag
+abbrev pub is_other : ℕ → Bool
+is_other letter = not (has_letter (codes "DFPRST") letter)
+
+abbrev pub parts_read : Bool → List ℕ × List ℕ → PlainName
+parts_read in_cur parts =
+    record { base = parts.0; flags = flags_of in_cur parts.1; others = filter is_other parts.1 }
+
+abbrev pub begins_dot : List ℕ → Bool
+begins_dot [] = false
+begins_dot (b ∷ rest) = b == byte "."
+
+-- what a name tells, if it does not begin with a dot
+abbrev pub name_read : Bool → List ℕ → Option PlainName
+name_read in_cur name =
+    if begins_dot name then None else Some (parts_read in_cur (split_name name))
+
+abbrev pub letter_if : Bool → ℕ → List ℕ
+letter_if is_set letter = if is_set then letter ∷ [] else []
+
+-- the letters of flags, and the others
+abbrev pub all_letters : Flags → List ℕ → List ℕ
+all_letters flags others =
+    letter_if flags.draft (byte "D") ++ letter_if flags.flagged (byte "F")
+    ++ letter_if flags.passed (byte "P") ++ letter_if flags.replied (byte "R")
+    ++ letter_if flags.seen (byte "S") ++ letter_if flags.trashed (byte "T") ++ others
+
+-- those of the letters that are below a number, in their order, each once
+unfoldable pub letters_below : ℕ → List ℕ → List ℕ
+letters_below zero letters = []
+letters_below (suc n) letters = letters_below n letters ++ letter_if (has_letter letters n) n
+
+-- not ASCII
+abbrev pub is_beyond : ℕ → Bool
+is_beyond b = nat_le 128 b
+
+-- the ASCII letters in their order, each once, and then what is not ASCII, as it stands
+abbrev pub in_order : List ℕ → List ℕ
+in_order letters = letters_below 128 letters ++ filter is_beyond letters
+
+-- the base alone is read as itself, and is the name of a file
+abbrev pub is_whole_name : List ℕ → Bool
+is_whole_name base = nat_lt 0 (length base) && is_none (last_letters base)
+
+-- messages that are neither seen nor aged stand in `new`
+abbrev pub is_new : Flags → Bool
+is_new flags = not flags.seen && not flags.aged
+
+abbrev pub no_letters : List ℕ → Bool
+no_letters letters = length letters == 0
+
+abbrev pub name_with : List ℕ → Flags → List ℕ → List ℕ
+name_with base flags letters =
+    if is_new flags && no_letters letters && is_whole_name base then base
+    else base ++ mark ++ in_order letters
+
+-- the name: the base, the mark and all letters; in `new` without letters the base alone
+abbrev pub name_of : PlainName → List ℕ
+name_of n = name_with n.base n.flags (all_letters n.flags n.others)

@@ -1,0 +1,35 @@
+//! Cases of the names of files in a Maildir (maildir(5)).
+
+use crate::flags::put_flags;
+use case_files::{Answer, Case, CaseFault, Subject};
+use maildir_folder::{make_name, order_of, read_name};
+use std::alloc::Global;
+
+/// `name` is the name of a file, `in` its folder, `cur` or `new`; `base` is `none` where the name
+/// is of no message. `made` is the name that is made of what was read.
+pub struct MaildirNames;
+
+impl Subject for MaildirNames {
+    fn inputs(&self) -> &[&[u8]] {
+        &[b"name", b"in"]
+    }
+
+    fn answer(&self, alloc: Global, case: &Case) -> Result<Answer, CaseFault> {
+        let mut answer = Answer::new(alloc);
+        let Ok(name) = str::from_utf8(case.need(b"name")?) else {
+            return Err(CaseFault::BadInput);
+        };
+        let in_cur = case.need(b"in")? == b"cur".as_slice();
+        let Some(read) = read_name(alloc, name, in_cur)? else {
+            answer.put(b"base", b"none")?;
+            return Ok(answer);
+        };
+        answer.put(b"base", read.base.as_slice())?;
+        put_flags(&mut answer, b"flags", read.flags)?;
+        answer.put(b"others", read.others.as_slice())?;
+        answer.put(b"made", make_name(alloc, &read)?.as_slice())?;
+        let order = order_of(read.base.as_slice());
+        answer.put(b"order", format!(in alloc; "{order}")?.as_bytes())?;
+        Ok(answer)
+    }
+}
