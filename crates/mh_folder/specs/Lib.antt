@@ -1,0 +1,4 @@
+pub mod Number
+pub mod Ranges
+pub mod SequenceLine
+pub mod Sequences
