@@ -1,2 +1,4 @@
 pub mod NumberLemmas
 pub mod RangesLemmas
+pub mod HoldingLemmas
+pub mod ChangeLemmas

@@ -1,6 +1,6 @@
 -- Numbers of decimal digits.
-use Rattle.std.proofs.Common.{◌≡◌, ◌<◌, ◌^◌, if◌then◌else◌, ℕ, Bool, true, List, length}
-use Rattle.std.proofs.Common.{None, Result, Err, sym, arith, subst, refl, false}
+use Rattle.std.proofs.Common.{◌≡◌, ◌<◌, ◌^◌, if◌then◌else◌, ℕ, true, List, length}
+use Rattle.std.proofs.Common.{None, Result, Err, arith, subst, refl, false}
 use Rattle.std.specs.Result.{OkIff}
 use Rattle.std.specs.Str.{all_ascii_digits, IsUtf8}
 use Rattle.std.specs.Str.Parse.{ParsesUnsigned, digits_value}

@@ -1,6 +1,5 @@
 -- Ranges in rising order.
-use Rattle.std.proofs.Common.{◌≡◌, ◌+◌, ◌<◌, ◌++◌, true, false, Bool, List, [], ◌∷◌, length, refl, ap, ◌∙◌, arith}
-use Rattle.std.proofs.Common.{if◌then◌else◌}
+use Rattle.std.proofs.Common.{◌≡◌, ◌<◌, ◌++◌, true, List, [], ◌∷◌, length, refl, ap, ◌∙◌, arith}
 use Rattle.std.proofs.lemmas.Bool.{and_parts}
 use Rattle.mh_folder.specs.declared.range.Range.{Range}
 use Rattle.mh_folder.specs.Ranges.{added_to, in_order, is_before, is_rising, with_range}

@@ -2,3 +2,4 @@ pub mod Number
 pub mod Ranges
 pub mod SequenceLine
 pub mod Sequences
+pub mod Laws

@@ -1,5 +1,5 @@
 -- The file of sequences (mh-sequence(5)), line by line, and what a change makes of it.
-use Rattle.std.specs.Prelude.{◌==◌, ℕ, Bool, true, false, List, [], ◌∷◌, ◌++◌, map, eqb, codes}
+use Rattle.std.specs.Prelude.{◌==◌, ℕ, Bool, true, false, List, [], ◌∷◌, ◌++◌, map, codes}
 use Rattle.std.specs.Prelude.{if◌then◌else◌}
 use Rattle.std.specs.List.{flat_map, list_any}
 use Rattle.mh_folder.specs.declared.sequence_line.SequenceLine.{SequenceLine}

@@ -3,11 +3,13 @@
 //! which numbers a sequence holds, changes that, and writes the file.
 #![tactic(auto)]
 
+mod laws;
 mod number;
 mod range;
 mod sequence_line;
 mod sequences;
 
+pub use laws::{drop_takes_one, put_changes_one};
 pub use number::read_number;
 pub use range::{Range, Ranges};
 pub use sequences::Sequences;

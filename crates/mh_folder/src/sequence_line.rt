@@ -111,10 +111,7 @@ impl SequenceLine {
     pub fn empty(alloc: Global, name: &[u8]) -> Result<SequenceLine, NoMemory>
         ensures { IfOk result (λ l. spec.plain_line l ≡ spec.empty_line name.now) }
     {
-        Ok(SequenceLine::Named(
-            Bytes::copy_of(alloc, name)?,
-            Ranges::new(alloc),
-        ))
+        Ok(SequenceLine::Named(Bytes::copy_of(alloc, name)?, Ranges::new(alloc)))
     }
 
     pub fn has_name(&self, name: &[u8]) -> bool

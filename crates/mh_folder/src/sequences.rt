@@ -72,11 +72,7 @@ fn read_lines(alloc: Global, bytes: &[u8]) -> Result<Series<SequenceLine>, NoMem
 }
 
 // Adds a line without a line end, if it is not empty.
-fn push_last(
-    alloc: Global,
-    lines: &mut Series<SequenceLine>,
-    line: &[u8],
-) -> Result<(), NoMemory>
+fn push_last(alloc: Global, lines: &mut Series<SequenceLine>, line: &[u8]) -> Result<(), NoMemory>
     ensures { OnOk result (spec.plain_lines lines.new.items
         ≡ spec.plain_lines lines.old.items ++ spec.last_line line.now) }
 {
@@ -141,7 +137,11 @@ fn without_member(
     Ok(made)
 }
 
-fn append_copies(lines: &mut Series<SequenceLine>, alloc: Global, more: &[SequenceLine]) -> Result<(), NoMemory>
+fn append_copies(
+    lines: &mut Series<SequenceLine>,
+    alloc: Global,
+    more: &[SequenceLine],
+) -> Result<(), NoMemory>
     ensures { OnOk result (spec.plain_lines lines.new.items
         ≡ spec.plain_lines lines.old.items ++ spec.plain_lines more.now) }
 {
@@ -234,11 +234,7 @@ impl Sequences {
     }
 }
 
-fn append_lines(
-    alloc: Global,
-    text: &mut Bytes,
-    lines: &[SequenceLine],
-) -> Result<(), NoMemory>
+fn append_lines(alloc: Global, text: &mut Bytes, lines: &[SequenceLine]) -> Result<(), NoMemory>
     ensures { OnOk result (text.new.items
         ≡ text.old.items ++ spec.file_of (spec.plain_lines lines.now)) }
 {

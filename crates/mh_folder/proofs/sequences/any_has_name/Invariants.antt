@@ -1,4 +1,4 @@
-use Rattle.std.proofs.Common.{◌≡◌, ◌++◌, [], length}
+use Rattle.std.proofs.Common.{◌≡◌, length}
 use Rattle.mh_folder.specs.Sequences.{plain_lines}
 use Rattle.mh_folder.specs.Sequences as spec
 use Rattle.mh_folder.proofs.sequences.any_has_name.Given as goal

@@ -1,6 +1,5 @@
-use Rattle.std.proofs.Common.{◌≡◌, ◌++◌, [], length}
+use Rattle.std.proofs.Common.{◌≡◌, ◌++◌, length}
 use Rattle.mh_folder.specs.Sequences.{plain_lines}
-use Rattle.mh_folder.specs.Sequences as spec
 use Rattle.mh_folder.proofs.sequences.append_copies.Given as goal
 
 abbrev pub invariant-loop-left : goal.invariant-loop-left

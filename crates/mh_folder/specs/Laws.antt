@@ -1,0 +1,34 @@
+-- Laws of sequences.
+use Rattle.std.specs.Prelude.{◌≡◌, ◌==◌, ◌&&◌, ℕ, Bool, true, not, nat_le, List}
+use Rattle.std.specs.Prelude.{if◌then◌else◌}
+use Rattle.std.specs.List.{list_all}
+use Rattle.std.specs.Str.{bytes_eq}
+use Rattle.mh_folder.specs.declared.range.Range.{Range}
+use Rattle.mh_folder.specs.SequenceLine.{PlainLine, Kept, Named}
+use Rattle.mh_folder.specs.Sequences.{holds, put, without_number}
+
+-- it is not upside down
+abbrev pub is_upright : Range → Bool
+is_upright r = nat_le r.first r.last
+
+abbrev pub has_upright : PlainLine → Bool
+has_upright (Named name ranges) = list_all is_upright ranges
+has_upright (Kept text) = true
+
+-- no range of the lines is upside down
+abbrev pub are_upright : List PlainLine → Bool
+are_upright lines = list_all has_upright lines
+
+-- what is put changes that number of that sequence, and no other
+abbrev pub PutChangesOne : Type 0
+PutChangesOne =
+    (lines : List PlainLine) (name other : List ℕ) (n m : ℕ) (member : Bool)
+    → are_upright lines ≡ true
+    → holds other m (put name n member lines)
+    ≡ (if bytes_eq name other && m == n then member else holds other m lines)
+
+-- a number that goes is in no sequence, and no other changes
+abbrev pub DropTakesOne : Type 0
+DropTakesOne =
+    (lines : List PlainLine) (other : List ℕ) (n m : ℕ)
+    → holds other m (without_number n lines) ≡ (not (m == n) && holds other m lines)

@@ -1,0 +1,13 @@
+//! Laws of the definitions, each the contract of a function that does nothing.
+
+ghost use Rattle.mh_folder.specs.Laws as spec;
+
+/// A number that is put into a sequence or taken out changes there alone.
+pub fn put_changes_one()
+    ensures { spec.PutChangesOne }
+{}
+
+/// A number that is dropped goes from all sequences, and no other does.
+pub fn drop_takes_one()
+    ensures { spec.DropTakesOne }
+{}
