@@ -2,3 +2,4 @@ pub mod NumberLemmas
 pub mod RangesLemmas
 pub mod HoldingLemmas
 pub mod ChangeLemmas
+pub mod UprightLemmas

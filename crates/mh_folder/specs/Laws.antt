@@ -5,7 +5,7 @@ use Rattle.std.specs.List.{list_all}
 use Rattle.std.specs.Str.{bytes_eq}
 use Rattle.mh_folder.specs.declared.range.Range.{Range}
 use Rattle.mh_folder.specs.SequenceLine.{PlainLine, Kept, Named}
-use Rattle.mh_folder.specs.Sequences.{holds, put, without_number}
+use Rattle.mh_folder.specs.Sequences.{holds, put, sequences_of, without_number}
 
 -- it is not upside down
 abbrev pub is_upright : Range → Bool
@@ -32,3 +32,12 @@ abbrev pub DropTakesOne : Type 0
 DropTakesOne =
     (lines : List PlainLine) (other : List ℕ) (n m : ℕ)
     → holds other m (without_number n lines) ≡ (not (m == n) && holds other m lines)
+
+-- no range that is read is upside down, and no change makes one so
+abbrev pub StaysUpright : Type 0
+StaysUpright =
+    ((bytes : List ℕ) → are_upright (sequences_of bytes) ≡ true)
+    × ((lines : List PlainLine) (name : List ℕ) (n : ℕ) (member : Bool)
+    → are_upright lines ≡ true → are_upright (put name n member lines) ≡ true)
+    × ((lines : List PlainLine) (n : ℕ)
+    → are_upright lines ≡ true → are_upright (without_number n lines) ≡ true)

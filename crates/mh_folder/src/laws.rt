@@ -11,3 +11,8 @@ pub fn put_changes_one()
 pub fn drop_takes_one()
     ensures { spec.DropTakesOne }
 {}
+
+/// No range that is read is upside down, and no change makes one so.
+pub fn ranges_stay_upright()
+    ensures { spec.StaysUpright }
+{}

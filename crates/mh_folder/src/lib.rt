@@ -9,7 +9,7 @@ mod range;
 mod sequence_line;
 mod sequences;
 
-pub use laws::{drop_takes_one, put_changes_one};
+pub use laws::{drop_takes_one, put_changes_one, ranges_stay_upright};
 pub use number::read_number;
 pub use range::{Range, Ranges};
 pub use sequences::Sequences;
