@@ -1,2 +1,3 @@
 pub mod MaildirName
 pub mod BaseOrder
+pub mod Laws

@@ -4,7 +4,9 @@
 #![tactic(auto)]
 
 mod base_order;
+mod laws;
 mod maildir_name;
 
 pub use base_order::order_of;
+pub use laws::made_names_are_split;
 pub use maildir_name::{MaildirName, make_name, read_name};
