@@ -29,7 +29,8 @@ line_gains : (name other : List ℕ) (n m : ℕ) (line : PlainLine) → has_name
 line_gains name other n m (Kept text) named up = cc
 line_gains name other n m (Named own ranges) named up =
     ap (λ x. bytes_eq own other && x)
-    (holds_with m (one n) ranges (one_upright n) up ∙ ap (λ x. x || any_holds m ranges) (one_holds m n))
+    (holds_with m (one n) ranges (one_upright n) up
+        ∙ ap (λ x. x || any_holds m ranges) (one_holds m n))
     ∙ and_or (bytes_eq own other) (m == n) (any_holds m ranges)
     ∙ ap (λ s. (bytes_eq s other && m == n) || (bytes_eq own other && any_holds m ranges))
     (same_bytes own name named)
@@ -91,7 +92,8 @@ line_loses name other n m (Named own ranges) = by_name (bytes_eq own name) refl
     by_name false named = of_other (bytes_eq name other) refl named
 
 holds_lost : (name other : List ℕ) (n m : ℕ) (lines : List PlainLine)
-    → holds other m (without_member name n lines) ≡ (not (is_it name other n m) && holds other m lines)
+    → holds other m (without_member name n lines)
+    ≡ (not (is_it name other n m) && holds other m lines)
 holds_lost name other n m [] = sym (not_and_false (is_it name other n m))
 holds_lost name other n m (line ∷ lines) =
     ap₂ (λ x y. x || y) (line_loses name other n m line) (holds_lost name other n m lines)

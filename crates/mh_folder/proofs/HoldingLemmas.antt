@@ -29,7 +29,8 @@ joined_holds m r s up_r up_s meet_1 meet_2 =
     joined_bounds m r.first r.last s.first s.last (upright_bounds r up_r) (upright_bounds s up_s)
     (not_before r s meet_1) (not_before s r meet_2)
 
-pub joined_upright : (r s : Range) → is_upright r ≡ true → is_upright s ≡ true → is_upright (joined r s) ≡ true
+pub joined_upright : (r s : Range) → is_upright r ≡ true → is_upright s ≡ true
+    → is_upright (joined r s) ≡ true
 joined_upright r s up_r up_s = grind (arith, nat_tests)
 
 pub or_swapped : (a b c : Bool) → (a || (b || c)) ≡ (b || (a || c))

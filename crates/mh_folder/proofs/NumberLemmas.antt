@@ -31,10 +31,12 @@ pub number_refused : {E : Type 0} (text : List ℕ) (r : Result ℕ E) (e : E)
     → is_digits text ≡ true → r ≡ Err e → ParsesUnsigned 32 10 text r
     → None ≡ in_limit (digits_value 10 text)
 number_refused text r e digits refused parses =
-    let parsed : OkIff r ((0 < length text) × (digits_value 10 text < 2 ^ 32)) (digits_value 10 text) =
+    let parsed : OkIff r ((0 < length text) × (digits_value 10 text < 2 ^ 32))
+    (digits_value 10 text) =
     parse_digits own 32 text r parses (all_digits text digits) in
     let beyond : (0 < length text) × (digits_value 10 text < 2 ^ 32) → ⊥ =
-    subst (λ (x : Result ℕ _). OkIff x ((0 < length text) × (digits_value 10 text < 2 ^ 32)) (digits_value 10 text))
+    subst (λ (x : Result ℕ _). OkIff x ((0 < length text) × (digits_value 10 text < 2 ^ 32))
+    (digits_value 10 text))
     refused parsed in
     past_limit (digits_value 10 text) (λ fits. beyond (some_digit text digits, fits))
 
@@ -43,5 +45,6 @@ pub none_past : {E : Type 0} (text : List ℕ) (r : Result ℕ E) (e : E)
     → is_digits text ≡ true → r ≡ Err e → ParsesUnsigned 32 10 text r → None ≡ number_of text
 none_past text r e digits refused parses =
     elim (begins_zero text)
-    as (λ t. None ≡ (if t then None else (if is_digits text then in_limit (digits_value 10 text) else None)))
+    as (λ t. None ≡ (if t then None
+    else (if is_digits text then in_limit (digits_value 10 text) else None)))
     [ true ↦ refl | false ↦ rw digits (number_refused text r e digits refused parses) ]

@@ -12,9 +12,11 @@ use Rattle.mail_base.specs.Places.{split_once}
 use Rattle.mh_folder.specs.declared.range.Range.{Range}
 use Rattle.mh_folder.specs.Laws.{are_upright, has_upright, is_upright, StaysUpright}
 use Rattle.mh_folder.specs.Number.{number_of}
-use Rattle.mh_folder.specs.Ranges.{added_to, between, in_order, is_before, joined, one, parts, range_by, range_of}
+use Rattle.mh_folder.specs.Ranges.{added_to, between, in_order, is_before, joined}
+use Rattle.mh_folder.specs.Ranges.{one, parts, range_by, range_of}
 use Rattle.mh_folder.specs.Ranges.{with_range, without}
-use Rattle.mh_folder.specs.SequenceLine.{PlainLine, Kept, Named, empty_line, has_name, is_name, line_of, named_by}
+use Rattle.mh_folder.specs.SequenceLine.{PlainLine, Kept, Named, empty_line, has_name}
+use Rattle.mh_folder.specs.SequenceLine.{is_name, line_of, named_by}
 use Rattle.mh_folder.specs.SequenceLine.{named_line, ranges_from, with_word}
 use Rattle.mh_folder.specs.SequenceLine.{with_number as line_with, without_number as line_without}
 use Rattle.mh_folder.specs.Sequences.{any_has_name, holds, line_without_member, lines_from, put}
@@ -24,7 +26,8 @@ use Rattle.mh_folder.proofs.HoldingLemmas.{joined_upright, one_upright}
 abbrev pub all_upright : List Range → Bool
 all_upright ranges = list_all is_upright ranges
 
-with_upright : (new : Range) (ranges : List Range) → is_upright new ≡ true → all_upright ranges ≡ true
+with_upright : (new : Range) (ranges : List Range) → is_upright new ≡ true
+    → all_upright ranges ≡ true
     → all_upright (with_range new ranges) ≡ true
 with_upright new [] up all = and_from (is_upright new) true up refl
 with_upright new (r ∷ ranges) up all =
@@ -36,7 +39,8 @@ with_upright new (r ∷ ranges) up all =
         → ((x : Range) → is_upright x ≡ true → all_upright (with_range x ranges) ≡ true)
         → all_upright (if s then new ∷ r ∷ ranges
         else (if t then r ∷ with_range new ranges else with_range (joined new r) ranges)) ≡ true
-    by_place true t up_r up_all more = and_from (is_upright new) _ up (and_from (is_upright r) _ up_r up_all)
+    by_place true t up_r up_all more = and_from (is_upright new) _ up
+        (and_from (is_upright r) _ up_r up_all)
     by_place false true up_r up_all more = and_from (is_upright r) _ up_r (more new up)
     by_place false false up_r up_all more = more (joined new r) (joined_upright new r up up_r)
 
@@ -49,9 +53,11 @@ without_upright n [] all = refl
 without_upright n (r ∷ ranges) all =
     let both = and_parts (is_upright r) (all_upright ranges) all in
     list_all-append is_upright (parts n r) (without n ranges)
-    ∙ and_from (all_upright (parts n r)) _ (parts_upright n r both.0) (without_upright n ranges both.1)
+    ∙ and_from (all_upright (parts n r)) _ (parts_upright n r both.0)
+    (without_upright n ranges both.1)
 
-ordered_upright : (ranges : List Range) → all_upright ranges ≡ true → all_upright (added_to [] ranges) ≡ true
+ordered_upright : (ranges : List Range) → all_upright ranges ≡ true
+    → all_upright (added_to [] ranges) ≡ true
 ordered_upright [] all = refl
 ordered_upright (r ∷ ranges) all =
     let both = and_parts (is_upright r) (all_upright ranges) all in
@@ -70,7 +76,8 @@ between_upright first last = by_test (nat_le first last) refl
     by_test true e = e
     by_test false e = refl
 
-read_between : (a b : Option ℕ) → upright_or_none (a >>= λ first. b >>= λ last. between first last) ≡ true
+read_between : (a b : Option ℕ)
+    → upright_or_none (a >>= λ first. b >>= λ last. between first last) ≡ true
 read_between None b = refl
 read_between (Some first) None = refl
 read_between (Some first) (Some last) = between_upright first last
@@ -79,7 +86,8 @@ read_one : (a : Option ℕ) → upright_or_none (a >>= λ n. Some (one n)) ≡ t
 read_one None = refl
 read_one (Some n) = one_upright n
 
-range_upright : (word : List ℕ) (o : Option (List ℕ × List ℕ)) → upright_or_none (range_by word o) ≡ true
+range_upright : (word : List ℕ) (o : Option (List ℕ × List ℕ))
+    → upright_or_none (range_by word o) ≡ true
 range_upright word None = read_one (number_of word)
 range_upright word (Some p) = read_between (number_of p.0) (number_of p.1)
 
@@ -107,10 +115,12 @@ read_upright : (ranges : List Range) (word text : List ℕ) → all_upright rang
 read_upright ranges word [] all = word_upright ranges word all
 read_upright ranges word (b ∷ rest) all =
     by_blank (is_blank b) (with_word ranges word) (word_upright ranges word all)
-    (λ more all_more. read_upright more [] rest all_more) (read_upright ranges (word ++ b ∷ []) rest all)
+    (λ more all_more. read_upright more [] rest all_more)
+    (read_upright ranges (word ++ b ∷ []) rest all)
   where
     by_blank : (t : Bool) (o : Option (List Range)) → uprights_or_none o ≡ true
-        → ((more : List Range) → all_upright more ≡ true → uprights_or_none (ranges_from more [] rest) ≡ true)
+        → ((more : List Range) → all_upright more ≡ true
+        → uprights_or_none (ranges_from more [] rest) ≡ true)
         → uprights_or_none (ranges_from ranges (word ++ b ∷ []) rest) ≡ true
         → uprights_or_none (if t then o >>= (λ more. ranges_from more [] rest)
         else ranges_from ranges (word ++ b ∷ []) rest) ≡ true
@@ -132,14 +142,16 @@ named_upright None = refl
 named_upright (Some p) = by_name (is_name p.0)
   where
     by_name : (t : Bool) → line_or_none (if t
-        then ranges_from [] [] p.1 >>= (λ ranges. Some (Named p.0 (in_order ranges))) else None) ≡ true
+        then ranges_from [] [] p.1 >>=
+            (λ ranges. Some (Named p.0 (in_order ranges))) else None) ≡ true
     by_name true = by_ranges p.0 (ranges_from [] [] p.1) (read_upright [] [] p.1 refl)
     by_name false = refl
 
 line_upright : (text : List ℕ) → has_upright (line_of text) ≡ true
 line_upright text = by_line (named_line text) (named_upright (split_once (byte ":") text))
   where
-    by_line : (o : Option PlainLine) → line_or_none o ≡ true → has_upright (unwrap_or o (Kept text)) ≡ true
+    by_line : (o : Option PlainLine) → line_or_none o ≡ true
+        → has_upright (unwrap_or o (Kept text)) ≡ true
     by_line None up = refl
     by_line (Some line) up = up
 
@@ -162,9 +174,11 @@ named_lines_upright name lines all = by_name (any_has_name name lines)
   where
     by_name : (t : Bool) → are_upright (if t then lines else lines ++ empty_line name ∷ []) ≡ true
     by_name true = all
-    by_name false = list_all-append has_upright lines (empty_line name ∷ []) ∙ and_from _ true all refl
+    by_name false = list_all-append has_upright lines (empty_line name ∷ [])
+        ∙ and_from _ true all refl
 
-line_with_upright : (n : ℕ) (line : PlainLine) → has_upright line ≡ true → has_upright (line_with n line) ≡ true
+line_with_upright : (n : ℕ) (line : PlainLine) → has_upright line ≡ true
+    → has_upright (line_with n line) ≡ true
 line_with_upright n (Named name ranges) up = with_upright (one n) ranges (one_upright n) up
 line_with_upright n (Kept text) up = refl
 
@@ -182,7 +196,8 @@ member_upright name n (line ∷ lines) all =
   where
     by_name : (t : Bool) → has_upright line ≡ true → are_upright lines ≡ true
         → are_upright (with_member name n lines) ≡ true
-        → are_upright (if t then line_with n line ∷ lines else line ∷ with_member name n lines) ≡ true
+        → are_upright (if t then line_with n line ∷ lines else line ∷ with_member name n lines)
+        ≡ true
     by_name true up more rest = and_from _ _ (line_with_upright n line up) more
     by_name false up more rest = and_from _ _ up rest
 

@@ -14,11 +14,13 @@ one n = record { first = n; last = n }
 
 -- upside down it is none
 abbrev pub between : ℕ → ℕ → Option Range
-between first last = if nat_le first last then Some (record { first = first; last = last }) else None
+between first last =
+    if nat_le first last then Some (record { first = first; last = last }) else None
 
 abbrev pub range_by : List ℕ → Option (List ℕ × List ℕ) → Option Range
 range_by word None = number_of word >>= λ n. Some (one n)
-range_by word (Some parts) = number_of parts.0 >>= λ first. number_of parts.1 >>= λ last. between first last
+range_by word (Some parts) =
+    number_of parts.0 >>= λ first. number_of parts.1 >>= λ last. between first last
 
 -- a word of the form `n` or `n-m`
 abbrev pub range_of : List ℕ → Option Range

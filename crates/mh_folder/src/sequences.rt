@@ -1,6 +1,6 @@
 //! The sequences of a folder (mh-sequence(5)).
 
-ghost use Rattle.std.specs.Prelude.{◌≡◌, ◌++◌, [], map, IfOk, OnOk, OnErr};
+ghost use Rattle.std.specs.Prelude.{◌≡◌, ◌++◌, [], IfOk, OnOk, OnErr};
 ghost use Rattle.mh_folder.specs.Sequences as spec;
 
 use crate::sequence_line::SequenceLine;
