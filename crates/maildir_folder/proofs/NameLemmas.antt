@@ -1,6 +1,7 @@
 -- A name that is made is read as its base and its letters.
 use Rattle.std.proofs.Common.{◌≡◌, ◌==◌, ◌+◌, ◌-◌, ◌&&◌, ℕ, zero, suc, Bool, true, false}
-use Rattle.std.proofs.Common.{List, [], ◌∷◌, ◌++◌, length, take, drop, Option, Some, None, refl, sym, ap, ◌∙◌, arith}
+use Rattle.std.proofs.Common.{List, [], ◌∷◌, ◌++◌, length, take, drop, Option}
+use Rattle.std.proofs.Common.{Some, None, refl, sym, ap, ◌∙◌, arith}
 use Rattle.std.proofs.Common.{if◌then◌else◌, nat_lt, nat_le, append_assoc, is_none}
 use Rattle.std.specs.List.{filter, list_all}
 use Rattle.std.specs.Option.{option_or}
@@ -11,7 +12,8 @@ use Rattle.std.proofs.lemmas.List.{take_at}
 use Rattle.mail_base.specs.Fronts.{behind_text}
 use Rattle.maildir_folder.specs.Laws.{MadeIsSplit}
 use Rattle.maildir_folder.specs.MaildirName.{all_letters, has_letter, in_order, is_beyond}
-use Rattle.maildir_folder.specs.MaildirName.{is_new, is_whole_name, last_letters, letter_if, letters_below}
+use Rattle.maildir_folder.specs.MaildirName.{is_new, is_whole_name, last_letters}
+use Rattle.maildir_folder.specs.MaildirName.{letter_if, letters_below}
 use Rattle.maildir_folder.specs.MaildirName.{mark, no_letters, split_at_mark, split_name}
 
 -- a text with this first byte begins with no mark
@@ -43,7 +45,8 @@ and_false true = refl
 and_false false = refl
 
 -- a letter before greater ones begins no mark
-letter_none : (n : ℕ) (tail : List ℕ) → all_from (suc n) tail ≡ true → behind_text mark (n ∷ tail) ≡ None
+letter_none : (n : ℕ) (tail : List ℕ) → all_from (suc n) tail ≡ true
+    → behind_text mark (n ∷ tail) ≡ None
 letter_none n [] all =
     ap (λ t. if t then Some (drop 3 (n ∷ [])) else None) (and_false (n == 58))
 letter_none n (c ∷ tail) all =
@@ -82,7 +85,8 @@ below_none zero letters tail all none = none
 below_none (suc n) letters tail all none =
     let h = has_letter letters n in
     ap last_letters (append_assoc (letters_below n letters) (letter_if h n) tail)
-    ∙ below_none n letters (letter_if h n ++ tail) (letter_from h n tail all) (letter_last h n tail all none)
+    ∙ below_none n letters (letter_if h n ++ tail) (letter_from h n tail all)
+    (letter_last h n tail all none)
 
 filtered : (s : List ℕ) → list_all is_beyond (filter is_beyond s) ≡ true
 filtered [] = refl
@@ -99,14 +103,16 @@ ordered_none letters =
     below_none 128 letters tail (filtered letters) (beyond_none tail (filtered letters))
 
 -- behind a mark and letters without one stand these letters
-mark_last : (letters : List ℕ) → last_letters letters ≡ None → last_letters (mark ++ letters) ≡ Some letters
+mark_last : (letters : List ℕ) → last_letters letters ≡ None
+    → last_letters (mark ++ letters) ≡ Some letters
 mark_last letters none = rw none refl
 
 base_last : (base letters : List ℕ) → last_letters letters ≡ None
     → last_letters (base ++ mark ++ letters) ≡ Some letters
 base_last [] letters none = mark_last letters none
 base_last (b ∷ base) letters none =
-    ap (λ o. option_or o (behind_text mark (b ∷ base ++ mark ++ letters))) (base_last base letters none)
+    ap (λ o. option_or o (behind_text mark (b ∷ base ++ mark ++ letters)))
+    (base_last base letters none)
 
 length_append : (s t : List ℕ) → length (s ++ t) ≡ length s + length t
 length_append [] t = omega arith

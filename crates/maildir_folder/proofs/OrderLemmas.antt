@@ -1,6 +1,8 @@
 -- Numbers of digits, brought below the greatest order.
-use Rattle.std.proofs.Common.{◌≡◌, ◌+◌, ◌-◌, ◌*◌, ◌<◌, ◌≤◌, ℕ, true, false, min, List, [], ◌∷◌, arith}
-use Rattle.std.proofs.Common.{if◌then◌else◌, ⊎_elim, ap, refl, length, take, drop, slice_index_or, ◌∙◌}
+use Rattle.std.proofs.Common.{◌≡◌, ◌+◌, ◌-◌, ◌*◌, ◌<◌, ◌≤◌, ℕ, true}
+use Rattle.std.proofs.Common.{false, min, List, [], ◌∷◌, arith}
+use Rattle.std.proofs.Common.{if◌then◌else◌, ⊎_elim, ap, refl, length}
+use Rattle.std.proofs.Common.{take, drop, slice_index_or, ◌∙◌}
 use Rattle.std.proofs.lemmas.List.{take_all}
 use Rattle.std.proofs.lemmas.Bool.{cases_lt}
 use Rattle.std.specs.Char.{is_ascii_digit}
@@ -33,7 +35,8 @@ capped a b rest same =
 pub digit_capped : (n b : ℕ) (rest : List ℕ) → is_ascii_digit b ≡ true
     → min (number_behind (with_digit n b) rest) last_order
     ≡ min (number_behind n (b ∷ rest)) last_order
-digit_capped n b rest digit = rw digit (capped (with_digit n b) (n * 10 + (b - 48)) rest (omega arith))
+digit_capped n b rest digit =
+    rw digit (capped (with_digit n b) (n * 10 + (b - 48)) rest (omega arith))
 
 -- at another byte the number ends
 pub number_ends : (n b : ℕ) (rest : List ℕ) → is_ascii_digit b ≡ false
@@ -41,10 +44,13 @@ pub number_ends : (n b : ℕ) (rest : List ℕ) → is_ascii_digit b ≡ false
 number_ends n b rest other = rw other refl
 
 -- a step at a digit, as a slice is read
-pub digit_step : (n : ℕ) (text : List ℕ) → 1 ≤ length text → is_ascii_digit (slice_index_or text 0 0) ≡ true
-    → min (number_behind (with_digit n (slice_index_or text 0 0)) (take (length text - 1) (drop 1 text))) last_order
+pub digit_step : (n : ℕ) (text : List ℕ) → 1 ≤ length text
+    → is_ascii_digit (slice_index_or text 0 0) ≡ true
+    → min (number_behind (with_digit n (slice_index_or text 0 0)) (take (length text - 1)
+    (drop 1 text))) last_order
     ≡ min (number_behind n text) last_order
 digit_step n [] some digit = absurd (omega arith)
 digit_step n (b ∷ rest) some digit =
-    ap (λ t. min (number_behind (with_digit n b) t) last_order) (take_all (length (b ∷ rest) - 1) rest (omega arith))
+    ap (λ t. min (number_behind (with_digit n b) t) last_order)
+    (take_all (length (b ∷ rest) - 1) rest (omega arith))
     ∙ digit_capped n b rest digit

@@ -1,7 +1,7 @@
 //! Names of the files of a folder (maildir(5), "Technical details").
 
-ghost use Rattle.std.specs.Prelude.{◌≡◌, ◌+◌, ◌≤◌, ◌++◌, IfOk, IfSome, OnOk, length, option_map, is_none};
-ghost use Rattle.std.specs.List.{list_any, filter};
+ghost use Rattle.std.specs.Prelude.{◌≡◌, ◌+◌, ◌≤◌, ◌++◌, IfOk, IfSome, OnOk, length, option_map};
+ghost use Rattle.std.specs.List.{filter};
 ghost use Rattle.maildir_folder.specs.MaildirName as spec;
 
 use mail_base::{Bytes, Flags, NoMemory, behind_text};
