@@ -6,21 +6,13 @@ mod bodies;
 mod cores;
 mod encoded_words;
 mod flags;
-mod key_functions;
-mod key_queues;
-mod key_streams;
-mod key_texts;
-mod key_words;
 mod lines;
 mod maildir_names;
 mod mh_numbers;
 mod mh_sequences;
-mod muttrc;
 mod parts;
 mod postmarks;
-mod presses;
 mod regions;
-mod settings;
 mod status;
 mod whole_headers;
 
@@ -29,20 +21,13 @@ use crate::bodies::Bodies;
 use crate::cores::Cores;
 use crate::encoded_words::EncodedWords;
 use crate::flags::FlagChanges;
-use crate::key_functions::KeyFunctions;
-use crate::key_queues::KeyQueues;
-use crate::key_streams::KeyStreams;
-use crate::key_words::KeyWords;
 use crate::lines::LineForms;
 use crate::maildir_names::MaildirNames;
 use crate::mh_numbers::MhNumbers;
 use crate::mh_sequences::MhSequences;
-use crate::muttrc::MuttrcLines;
 use crate::parts::MessageParts;
 use crate::postmarks::Postmarks;
-use crate::presses::Presses;
 use crate::regions::FileRegions;
-use crate::settings::SettingCommands;
 use crate::status::StatusFields;
 use crate::whole_headers::Headers;
 use case_files::{Report, play_file, print_report};
@@ -73,12 +58,5 @@ fn play_all(rt: &HostRuntime, report: &mut Report) -> Result<(), NoMemory> {
     play_file(rt, &People, "people", report)?;
     play_file(rt, &Headers, "headers", report)?;
     play_file(rt, &MessageParts, "parts", report)?;
-    play_file(rt, &Bodies, "bodies", report)?;
-    play_file(rt, &MuttrcLines, "muttrc", report)?;
-    play_file(rt, &SettingCommands, "settings", report)?;
-    play_file(rt, &KeyFunctions, "key_functions", report)?;
-    play_file(rt, &KeyWords, "key_words", report)?;
-    play_file(rt, &KeyStreams, "key_streams", report)?;
-    play_file(rt, &KeyQueues, "key_queues", report)?;
-    play_file(rt, &Presses, "presses", report)
+    play_file(rt, &Bodies, "bodies", report)
 }
