@@ -30,7 +30,7 @@ line_gains name other n m (Kept text) named up = cc
 line_gains name other n m (Named own ranges) named up =
     ap (λ x. bytes_eq own other && x)
     (holds_with m (one n) ranges (one_upright n) up
-        ∙ ap (λ x. x || any_holds m ranges) (one_holds m n))
+    ∙ ap (λ x. x || any_holds m ranges) (one_holds m n))
     ∙ and_or (bytes_eq own other) (m == n) (any_holds m ranges)
     ∙ ap (λ s. (bytes_eq s other && m == n) || (bytes_eq own other && any_holds m ranges))
     (same_bytes own name named)

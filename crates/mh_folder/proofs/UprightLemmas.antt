@@ -143,7 +143,7 @@ named_upright (Some p) = by_name (is_name p.0)
   where
     by_name : (t : Bool) → line_or_none (if t
         then ranges_from [] [] p.1 >>=
-            (λ ranges. Some (Named p.0 (in_order ranges))) else None) ≡ true
+        (λ ranges. Some (Named p.0 (in_order ranges))) else None) ≡ true
     by_name true = by_ranges p.0 (ranges_from [] [] p.1) (read_upright [] [] p.1 refl)
     by_name false = refl
 

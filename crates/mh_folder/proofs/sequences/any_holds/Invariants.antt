@@ -6,7 +6,7 @@ use Rattle.mh_folder.proofs.sequences.any_holds.Given as goal
 abbrev pub invariant-loop-left : goal.invariant-loop-left
 invariant-loop-left l =
     spec.holds l.name l.number (plain_lines l.left)
-        ≡ spec.holds l.name l.number (plain_lines l.lines)
+    ≡ spec.holds l.name l.number (plain_lines l.lines)
 
 abbrev pub decreases-loop-left : goal.decreases-loop-left
 decreases-loop-left l = length l.left
