@@ -75,5 +75,5 @@ abbrev pub no_bindings : PlainKeymap
 no_bindings = record { index = []; pager = []; attach = []; generic = []; begun = [] }
 
 -- the default keys of all functions
-abbrev pub default_keymap : PlainKeymap
+unfoldable pub default_keymap : PlainKeymap
 default_keymap = fold with_row no_bindings rows

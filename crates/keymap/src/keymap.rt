@@ -43,6 +43,7 @@ impl Model for Keymap {
 
 impl Keymap {
     /// The default keys of all functions.
+    #[tactic(auto, unfolding(crate::specs::Keymap::default_keymap))]
     pub fn new(alloc: Global) -> Result<Keymap, NoMemory>
         ensures { IfOk result (λ k. k ≡ spec.default_keymap) }
     {

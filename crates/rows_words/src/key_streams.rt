@@ -1,6 +1,6 @@
 //! Cases of streams of key bytes.
 
-use crate::key_texts::append_key;
+use crate::key_texts::shown_keys;
 use case_files::{Answer, Case, CaseFault, Subject, read_number};
 use keymap::{KeyFault, KeyReader};
 use mail_base::{Bytes, MemorySource, Numbers};
@@ -18,26 +18,62 @@ impl Subject for KeyStreams {
     fn answer(&self, alloc: Global, case: &Case) -> Result<Answer, CaseFault> {
         let mut answer = Answer::new(alloc);
         let bytes = case.need(b"bytes")?;
-        let mut fails = Numbers::new(alloc);
-        for entry in case.entries.as_slice() {
-            if entry.role() == b"fails".as_slice() {
-                fails.push(read_number(entry.value.as_slice())?)?;
-            }
-        }
+        let fails = fails_of(alloc, case)?;
         let most = bytes.len().saturating_add(fails.len());
         let mut source = MemorySource::new(Bytes::copy_of(alloc, bytes)?, fails);
         let mut reader = KeyReader::new();
-        for _turn in 0..most {
-            let mut shown = Bytes::new(alloc);
-            match reader.next_key(&mut source) {
-                Ok(Some(key)) => append_key(&mut shown, key)?,
-                Ok(None) => return Ok(answer),
-                Err(KeyFault::ReadFault) => shown.append(b"fault")?,
-                Err(KeyFault::TooManyKeys) => shown.append(b"too many")?,
-            }
-            answer.put(b"key", shown.as_slice())?;
+        let ended = put_keys(alloc, &mut answer, &mut reader, &mut source, most)?;
+        if !ended {
+            answer.put_flag(b"ended", is_at_end(&mut reader, &mut source))?;
         }
-        answer.put_flag(b"ended", reader.next_key(&mut source) == Ok(None))?;
         Ok(answer)
+    }
+}
+
+fn fails_of(alloc: Global, case: &Case) -> Result<Numbers, CaseFault> {
+    let mut fails = Numbers::new(alloc);
+    for entry in case.entries.as_slice() {
+        if entry.role() == b"fails".as_slice() {
+            fails.push(read_number(entry.value.as_slice())?)?;
+        }
+    }
+    Ok(fails)
+}
+
+/// Puts at most so many keys, and says whether they came to their end.
+fn put_keys(
+    alloc: Global,
+    answer: &mut Answer,
+    reader: &mut KeyReader,
+    source: &mut MemorySource,
+    most: usize,
+) -> Result<bool, CaseFault> {
+    for _turn in 0..most {
+        match shown_next(alloc, reader, source)? {
+            Some(shown) => answer.put(b"key", shown.as_slice())?,
+            None => return Ok(true),
+        }
+    }
+    Ok(false)
+}
+
+/// The next key as text, or what failed; nothing at the end.
+fn shown_next(
+    alloc: Global,
+    reader: &mut KeyReader,
+    source: &mut MemorySource,
+) -> Result<Option<Bytes>, CaseFault> {
+    match reader.next_key(source) {
+        Ok(Some(key)) => Ok(Some(shown_keys(alloc, &[key])?)),
+        Ok(None) => Ok(None),
+        Err(KeyFault::ReadFault) => Ok(Some(Bytes::copy_of(alloc, b"fault")?)),
+        Err(KeyFault::TooManyKeys) => Ok(Some(Bytes::copy_of(alloc, b"too many")?)),
+    }
+}
+
+fn is_at_end(reader: &mut KeyReader, source: &mut MemorySource) -> bool {
+    match reader.next_key(source) {
+        Ok(None) => true,
+        _ => false,
     }
 }

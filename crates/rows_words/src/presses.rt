@@ -18,29 +18,9 @@ impl Subject for Presses {
     }
 
     fn answer(&self, alloc: Global, case: &Case) -> Result<Answer, CaseFault> {
-        let mut table = Table {
-            alloc,
-            menu: Menu::Index,
-            keymap: Keymap::new(alloc)?,
-            queue: KeyQueue::new(alloc),
-            answer: Answer::new(alloc),
-            presses: 0,
-            last: b"",
-        };
-        for entry in case.entries.as_slice() {
-            table.run(entry)?;
-        }
-        let Table {
-            mut answer,
-            queue,
-            presses,
-            last,
-            ..
-        } = table;
-        answer.put_count(b"presses", presses)?;
-        answer.put(b"last", last)?;
-        answer.put_count(b"waiting", queue.len())?;
-        Ok(answer)
+        let mut table = Table::new(alloc)?;
+        table.run_all(case)?;
+        Ok(table.answer)
     }
 }
 
@@ -57,6 +37,27 @@ struct Table {
 }
 
 impl Table {
+    // The index with the default keys.
+    fn new(alloc: Global) -> Result<Table, CaseFault> {
+        Ok(Table {
+            alloc,
+            menu: Menu::Index,
+            keymap: Keymap::new(alloc)?,
+            queue: KeyQueue::new(alloc),
+            answer: Answer::new(alloc),
+            presses: 0,
+            last: b"",
+        })
+    }
+
+    // Does what each line says, and puts how they ended.
+    fn run_all(&mut self, case: &Case) -> Result<(), CaseFault> {
+        for entry in case.entries.as_slice() {
+            self.run(entry)?;
+        }
+        self.put_end()
+    }
+
     // Does what a line says.
     fn run(&mut self, entry: &Entry) -> Result<(), CaseFault> {
         let value = entry.value.as_slice();
@@ -126,6 +127,13 @@ impl Table {
             self.answer.put(b"press", self.last)?;
         }
         Ok(())
+    }
+
+    // Puts how the lines ended.
+    fn put_end(&mut self) -> Result<(), CaseFault> {
+        self.answer.put_count(b"presses", self.presses)?;
+        self.answer.put(b"last", self.last)?;
+        self.answer.put_count(b"waiting", self.queue.len())
     }
 }
 
