@@ -68,6 +68,7 @@ fn put_longer_call(
             let limit = read_number(more.as_bytes())?;
             put_file(alloc, answer, dev.disk.read_all(alloc, path, limit), stamps)
         }
+        "agree" => put_agreement(alloc, answer, dev, path, read_number(more.as_bytes())?),
         "read_front" => put_front(alloc, answer, dev, path, read_number(more.as_bytes())?),
         "cut" => {
             let length = read_number(more.as_bytes())?;
@@ -82,6 +83,23 @@ fn put_longer_call(
         }
         _ => Err(CaseFault::BadInput),
     }
+}
+
+/// Puts whether a look at a file and a whole read of it tell the same of it, its stamp too.
+fn put_agreement(
+    alloc: Global,
+    answer: &mut Answer,
+    dev: &mut Device,
+    path: &str,
+    limit: u64,
+) -> Result<(), CaseFault> {
+    let looked = dev.disk.stat(path);
+    let read = dev.disk.read_all(alloc, path, limit);
+    let agrees = match (looked, read) {
+        (Ok(stat), Ok(read)) => stat == read.stat,
+        _ => false,
+    };
+    answer.put_flag(b"agree", agrees)
 }
 
 fn put_done(
