@@ -1,4 +1,3 @@
-pub mod NumberLemmas
 pub mod RangesLemmas
 pub mod HoldingLemmas
 pub mod ChangeLemmas

@@ -1,7 +1,6 @@
 pub mod Fitting
 pub mod Going
 pub mod Looked
-pub mod Numbers
 pub mod Printing
 pub mod Shape
 pub mod Whole

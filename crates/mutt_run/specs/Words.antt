@@ -1,10 +1,10 @@
 -- The command line: `-f FOLDER`, `--rows=N` and `--cols=N`. The last of a repeated word counts.
-use Rattle.std.specs.Prelude.{◌≡◌, ℕ, Bool, ◌&&◌, nat_eq, nat_le, nat_lt, List, [], ◌∷◌, Option, Some, None}
-use Rattle.std.specs.Prelude.{Result, Ok, Err, codes, drop, length, if◌then◌else◌}
+use Rattle.std.specs.Prelude.{◌≡◌, ℕ, nat_eq, List, [], ◌∷◌, Option, Some, None}
+use Rattle.std.specs.Prelude.{Result, Ok, Err, codes, drop, if◌then◌else◌}
 use Rattle.std.specs.List.{starts_with}
 use Rattle.std.specs.Result.{result_unwrap_or}
-use Rattle.std.specs.Str.{all_ascii_digits, bytes_eq, is_utf8, IsUtf8}
-use Rattle.std.specs.Str.Parse.{digits_value}
+use Rattle.std.specs.Str.{bytes_eq, is_utf8, IsUtf8}
+use Rattle.mail_base.specs.Decimal.{decimal_in}
 use Rattle.mail_base.specs.Series.{Held}
 use Rattle.mutt_run.specs.declared.options.Options.{Options}
 use Rattle.mutt_run.specs.declared.options.WordsError.{WordsError}
@@ -34,18 +34,6 @@ abbrev pub plain_words : List (Held ℕ) → List (List ℕ)
 plain_words [] = []
 plain_words (word ∷ words) = word.items ∷ plain_words words
 
--- decimal digits alone
-abbrev pub is_digits : List ℕ → Bool
-is_digits text = nat_lt 0 (length text) && all_ascii_digits text
-
--- the number, if it is in the range
-abbrev pub in_range : ℕ → ℕ → ℕ → Option ℕ
-in_range low high number = if nat_le low number && nat_le number high then Some number else None
-
--- a number of decimal digits alone, from the one to the other
-abbrev pub number_in : ℕ → ℕ → List ℕ → Option ℕ
-number_in low high text = if is_digits text then in_range low high (digits_value 10 text) else None
-
 abbrev pub with_folder : Choice → List ℕ → Option Choice
 with_folder choice folder = if is_utf8 folder then Some (record choice { folder = Some folder }) else None
 
@@ -61,8 +49,8 @@ with_cols choice (Some n) = Some (record choice { cols = n })
 abbrev pub after_word : Choice → List ℕ → Option Choice
 after_word choice word =
     if starts_with nat_eq word (codes "-f") then with_folder choice (drop 2 word)
-    else (if starts_with nat_eq word (codes "--rows=") then with_rows choice (number_in 6 200 (drop 7 word))
-    else (if starts_with nat_eq word (codes "--cols=") then with_cols choice (number_in 20 500 (drop 7 word)) else
+    else (if starts_with nat_eq word (codes "--rows=") then with_rows choice (decimal_in 6 200 (drop 7 word))
+    else (if starts_with nat_eq word (codes "--cols=") then with_cols choice (decimal_in 20 500 (drop 7 word)) else
     None))
 
 -- the choice after a word that holds its own value, or that word

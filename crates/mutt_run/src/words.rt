@@ -1,11 +1,11 @@
 //! The words of a command line.
 
-ghost use Rattle.std.specs.Prelude.{◌≡◌, ◌≤◌, true, false, IfSome, IfNone, IfOk};
-ghost use Rattle.std.specs.Str.{all_ascii_digits};
+ghost use Rattle.std.specs.Prelude.{◌≡◌, ◌≤◌, IfSome, IfOk};
+ghost use Rattle.mail_base.specs.Decimal.{decimal_in};
 ghost use Rattle.mutt_run.specs.Words as spec;
 
 use crate::options::{Options, WordsError};
-use mail_base::{Bytes, NoMemory, Words, is_utf8};
+use mail_base::{Bytes, NoMemory, Words, is_utf8, read_decimal};
 use std::alloc::Global;
 
 /// Reads `-f FOLDER`, `--rows=N` and `--cols=N`. A word need not be UTF-8, but is faulty then.
@@ -100,40 +100,9 @@ fn usage(alloc: Global, word: &[u8]) -> WordsError
 
 /// A number of decimal digits alone, from `low` to `high`.
 fn number(text: &[u8], low: u16, high: u16) -> Option<u16>
-    ensures number { result ≡ spec.number_in low high text.now }
+    ensures number { result ≡ decimal_in low high text.now }
     ensures low { IfSome result (λ number. low ≤ number) }
 {
-    let digits = digits(text)?;
-    match digits.parse::<u16>() {
-        Ok(number) if low <= number && number <= high => Some(number),
-        _ => None,
-    }
-}
-
-/// The text, if it is digits alone.
-fn digits(text: &[u8]) -> Option<&str>
-    ensures some { IfSome result (λ digits. (digits.now ≡ text.now) ×
-        (spec.is_digits text.now ≡ true)) }
-    ensures none { IfNone result (spec.is_digits text.now ≡ false) }
-{
-    if text.is_empty() || !are_digits(text) {
-        return None;
-    }
-    let Ok(digits) = str::from_utf8(text) else {
-        unreachable!()
-    };
-    Some(digits)
-}
-
-fn are_digits(text: &[u8]) -> bool
-    ensures { result ≡ all_ascii_digits text.now }
-{
-    let mut left = text;
-    while let [first, rest @ ..] = left {
-        if !first.is_ascii_digit() {
-            return false;
-        }
-        left = rest;
-    }
-    true
+    let number = read_decimal(text, u32::from(low), u32::from(high))?;
+    Some(number as u16)
 }

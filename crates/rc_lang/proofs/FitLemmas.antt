@@ -12,7 +12,8 @@ use Rattle.rc_lang_words.specs.declared.fault.RcFault.TheVariants.{BadValue, Wro
 use Rattle.rc_lang.specs.Changes.{changed_value, default_of, set_value, toggled_value, unset_value}
 use Rattle.rc_lang.specs.Changes.{value_named}
 use Rattle.rc_lang.specs.Fits.{all_fit, fits}
-use Rattle.rc_lang.specs.Numbers.{is_number}
+use Rattle.mail_base.specs.Decimal.{is_digits}
+use Rattle.rc_lang.specs.Numbers.{has_leading_zero, number_within}
 use Rattle.rc_lang.specs.Quads.{quad_of, opposite_quad}
 use Rattle.rc_lang.specs.Requests as change
 use Rattle.rc_lang.specs.Requests.{PlainChange}
@@ -124,15 +125,31 @@ toggled_fits (kind.Number d most) (Number n) w fit makes = cc
 toggled_fits (kind.Text rule d) (Text t) w fit makes = cc
 toggled_fits _ _ w fit makes = cc
 
-number_fits : (d most : ℕ) (t : List ℕ) (w : PlainValue) (b : Bool)
-    → (is_number t && leb (digits_value 10 t) most) ≡ b
-    → ok_or (option_map (λ n. Number (pos n)) (if b then Some
-    (digits_value 10 t) else None)) BadValue ≡ Ok w
+-- the number, if there is one, is at most this
+abbrev pub most_or_none : ℕ → Option ℕ → Bool
+most_or_none most None = true
+most_or_none most (Some n) = leb n most
+
+number_within_most : (most : ℕ) (t : List ℕ) → most_or_none most (number_within most t) ≡ true
+number_within_most most t =
+    let n : ℕ = digits_value 10 t in
+    by_tests n (has_leading_zero t) (is_digits t) (leb 0 n && leb n most) refl
+  where
+    by_tests : (n : ℕ) (zero digits b : Bool) → (leb 0 n && leb n most) ≡ b
+        → most_or_none most (if zero then None
+        else (if digits then (if b then Some n else None) else None)) ≡ true
+    by_tests n true digits b test = refl
+    by_tests n false false b test = refl
+    by_tests n false true true test = (and_parts (leb 0 n) (leb n most) test).1
+    by_tests n false true false test = refl
+
+number_fits : (d most : ℕ) (w : PlainValue) (o : Option ℕ) → most_or_none most o ≡ true
+    → ok_or (option_map (λ n. Number (pos n)) o) BadValue ≡ Ok w
     → fits (kind.Number d most) w ≡ true
-number_fits d most t w true test makes =
-    let is : Number (pos (digits_value 10 t)) ≡ w = cc in
-    subst (λ x. fits (kind.Number d most) x ≡ true) is (and_parts (is_number t) _ test).1
-number_fits d most t w false test makes = cc
+number_fits d most w (Some n) below makes =
+    let is : Number (pos n) ≡ w = cc in
+    subst (λ x. fits (kind.Number d most) x ≡ true) is below
+number_fits d most w None below makes = cc
 
 quad_fits : (d : FourWay) (w : PlainValue) (o : Option FourWay)
     → ok_or (option_map Quad o) BadValue ≡ Ok w
@@ -151,7 +168,7 @@ named_fits : (k : PlainKind) (t : List ℕ) (w : PlainValue) → value_named k t
     → fits k w ≡ true
 named_fits (kind.Flag d) t w makes = cc
 named_fits (kind.Number d most) t w makes =
-    number_fits d most t w (is_number t && leb (digits_value 10 t) most) refl makes
+    number_fits d most w (number_within most t) (number_within_most most t) makes
 named_fits (kind.Quad d) t w makes = quad_fits d w (quad_of t) makes
 named_fits (kind.Text rule d) t w makes = text_fits rule d t w (allows rule t) refl makes
 

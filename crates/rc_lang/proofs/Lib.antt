@@ -1,5 +1,4 @@
 pub mod TableLemmas
-pub mod NumberLemmas
 pub mod SettingsLemmas
 pub mod RunLemmas
 pub mod SettingLaws

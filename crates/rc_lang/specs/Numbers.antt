@@ -1,17 +1,14 @@
 -- Numbers as values of variables.
-use Rattle.std.specs.Prelude.{ℕ, Bool, false, not, ◌&&◌, ◌==◌, nat_le, List, [], ◌∷◌, Option, Some}
-use Rattle.std.specs.Prelude.{None, if◌then◌else◌}
-use Rattle.std.specs.Str.{all_ascii_digits}
-use Rattle.std.specs.Str.Parse.{digits_value}
+use Rattle.std.specs.Prelude.{ℕ, Bool, false, ◌==◌, List, [], ◌∷◌, Option, None, if◌then◌else◌}
+use Rattle.std.specs.Str.{byte}
+use Rattle.mail_base.specs.Decimal.{decimal_in}
 
--- decimal digits alone, without a leading zero
-abbrev pub is_number : List ℕ → Bool
-is_number [] = false
-is_number (b ∷ []) = all_ascii_digits (b ∷ [])
-is_number (b ∷ c ∷ rest) = not (b == 48) && all_ascii_digits (b ∷ c ∷ rest)
+-- a zero, with more behind it
+abbrev pub has_leading_zero : List ℕ → Bool
+has_leading_zero [] = false
+has_leading_zero (b ∷ []) = false
+has_leading_zero (b ∷ c ∷ rest) = b == byte "0"
 
--- a number of at most this size
+-- a number of at most this size, of decimal digits alone without a leading zero
 abbrev pub number_within : ℕ → List ℕ → Option ℕ
-number_within most text =
-    if is_number text && nat_le (digits_value 10 text) most then Some (digits_value 10 text)
-    else None
+number_within most text = if has_leading_zero text then None else decimal_in 0 most text

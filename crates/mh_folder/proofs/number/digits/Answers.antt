@@ -1,8 +1,0 @@
-use Rattle.std.proofs.Common.{sym}
-use Rattle.mh_folder.proofs.NumberLemmas.{digits_utf8}
-use Rattle.mh_folder.proofs.number.digits.Goals as goal
-
-pub unreachable-requires : goal.unreachable-requires
-unreachable-requires c =
-    c.in_default.ensures.cases.0
-    (digits_utf8 c.args.text.now (sym c.if-not-are_digits.ensures))
