@@ -14,7 +14,7 @@ use Rattle.mutt_run.specs.Complete.{IsReadable, IsReadableTold, IsPlainEnd, Name
 use Rattle.mutt_run.specs.Events.{Happening, KeyPressed, FolderOpened, FolderRefused}
 use Rattle.mutt_run.specs.Happened.{AllCounted, AllHappened, IsCause, WasNoKind, WasNotListed, WasRefused}
 use Rattle.mutt_run.specs.Printed.{EndsAs, IsNoUsage, IsRefused, IsStated}
-use Rattle.mutt_run.specs.Outside.{outside}
+use Rattle.mutt_run.specs.Outside.{Outside}
 use Rattle.mutt_run.specs.Reading.{Reads}
 use Rattle.mutt_run.specs.Runs.{IsRunFrom, Unopened}
 use Rattle.mutt_run.specs.Words.{Choice, folder_of}
@@ -109,16 +109,15 @@ module _ (Has : Kind → Type 0) (choice : Choice) (archive : List Mail) (old ne
   plain_end OutFault events readable run happened counted ends words disk keys out = out refl
 
 -- the same for a run from the opening of a folder that the words name
-pub read_plain : (choice : Choice) (start : ℤ) (Has : Kind → Type 0) (archive : List Mail) (status : Status)
-    (events : List Happening) (old new : Seen) (out out' keys keys' : Option (List ℕ)) (clock clock' : Option (List ℤ))
-    (words : Result Choice (List ℕ))
-    → Reads choice start Has archive status events (outside out keys clock old) (outside out' keys' clock' new)
-    → words ≡ Ok choice → NamesReadable Has words old new → IsNoUsage status
-    → (Rose old.faults new.faults → ⊥) → (status ≡ KeysFault → ⊥) → (status ≡ OutFault → ⊥) → IsPlainEnd status
-read_plain choice start Has archive status events old new out out' keys keys' clock clock' words reads named readable
+pub read_plain : {choice : Choice} {start : ℤ} {Has : Kind → Type 0} {archive : List Mail} {status : Status}
+    {events : List Happening} {old new : Outside} {words : Result Choice (List ℕ)}
+    → Reads choice start Has archive status events old new
+    → words ≡ Ok choice → NamesReadable Has words old.disk new.disk → IsNoUsage status
+    → (Rose old.disk.faults new.disk.faults → ⊥) → (status ≡ KeysFault → ⊥) → (status ≡ OutFault → ⊥) → IsPlainEnd status
+read_plain {choice} {start} {Has} {archive} {status} {events} {old} {new} {words} reads named readable
     plain disk no_keys no_out =
-    plain_end Has choice archive old new keys' status events
-    (subst (λ (r : Result Choice (List ℕ)). NamesReadable Has r old new) named readable)
+    plain_end Has choice archive old.disk new.disk new.streams.left status events
+    (subst (λ (r : Result Choice (List ℕ)). NamesReadable Has r old.disk new.disk) named readable)
     reads.run reads.happened reads.counted reads.ends plain disk no_keys no_out
 
 -- a status that a note follows, which may fail

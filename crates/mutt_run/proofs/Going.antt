@@ -217,11 +217,11 @@ pub record Gone (from : Shown) (stage : Stage) (events events' : List Happening)
   pub went : Went from stage events events' old new rest
   pub count : length went.bytes ≡ turns
 
-pub gone_none : (choice : Choice) (archive : List Mail) (view : View) (events : List Happening)
-    (out keys : Option (List ℕ)) (clock : Option (List ℤ))
+pub gone_none : {choice : Choice} {archive : List Mail} {view : View} {events : List Happening}
+    {out keys : Option (List ℕ)} {clock : Option (List ℤ)}
     → Gone (shown choice archive view) (Reading view) events events (streams out keys clock) (streams out keys clock) [] 0
 unfolding went_none
-gone_none choice archive view events out keys clock =
+gone_none {choice} {archive} {view} {events} {out} {keys} {clock} =
     record { went = went_none choice archive view events out keys clock; count = refl }
 
 -- nothing was taken
@@ -244,16 +244,16 @@ went_keeps choice archive view stage old new new2 out out' keys keys1 keys2 cloc
 }
 
 -- the run ends before a further key
-pub ends_between : (status : Status) (choice : Choice) (archive : List Mail) (view v : View)
-    (old new new2 : List Happening) (out out' keys keys1 keys2 : Option (List ℕ)) (clock clock' : Option (List ℤ))
-    (turns : ℕ)
+pub ends_between : {status : Status} {choice : Choice} {archive : List Mail} {view v : View}
+    {old new new2 : List Happening} {out out' keys keys1 keys2 : Option (List ℕ)} {clock clock' : Option (List ℤ)}
+    {turns : ℕ}
     → Gone (shown choice archive view) (Reading v) old new (streams out keys clock) (streams out' keys1 clock') [] turns → new2 ≡ new
     → Keeps keys1 keys2
     → EndsKeys status (Reading v) turns keys2 [] → turns ≤ most_keys
     → GoesToEnd (shown choice archive view) status old new2 (streams out keys clock) (streams out' keys2 clock')
 unfolding went_keeps
-ends_between status choice archive view v old new new2 out out' keys keys1 keys2 clock clock' turns gone same keeps ends
-    low = record {
+ends_between {status} {choice} {archive} {view} {v} {old} {new} {new2} {out} {out'} {keys} {keys1} {keys2} {clock} {clock'}
+    {turns} gone same keeps ends low = record {
       stage = Reading v;
       rest = [];
       went = went_keeps choice archive view (Reading v) old new new2 out out' keys keys1 keys2 clock clock' [] gone.went
@@ -268,60 +268,81 @@ ends_free : (status : Status) (stage : Stage) (count : ℕ) (left : Option (List
 ends_free status stage count left rest (inl e) = subst (λ (s : Status). EndsKeys s stage count left rest) (sym e) tt
 ends_free status stage count left rest (inr e) = subst (λ (s : Status). EndsKeys s stage count left rest) (sym e) tt
 
--- a key was taken from a place on
-module _ (choice : Choice) (archive archive1 : List Mail) (view v next : View) (old mid mid2 new : List Happening)
-    (out out1 out2 keys keys1 keys2 : Option (List ℕ)) (clock clock1 clock2 : Option (List ℤ)) (b turns : ℕ)
-    (gone : Gone (shown choice archive view) (Reading v) old mid (streams out keys clock) (streams out1 keys1 clock1) [] turns)
-    (same_archive : archive1 ≡ archive) (same : mid2 ≡ mid) (byte : Consumes keys1 keys2 (b ∷ [])) (event : (moment : ℤ)
-    × (new ≡ mid2 ++ KeyPressed (Char b) moment ∷ []) × Gives clock1 clock2 (moment ∷ [])) where
-  put : new ≡ mid ++ KeyPressed (Char b) event.0 ∷ []
-  put = event.1 ∙ ap (λ (l : List Happening). l ++ KeyPressed (Char b) event.0 ∷ []) same
+-- the events with one more, where those before it are told twice
+put_on : {mid mid2 new : List Happening} (e : Happening) → mid2 ≡ mid → new ≡ mid2 ++ e ∷ [] → new ≡ mid ++ e ∷ []
+put_on e same put = put ∙ ap (λ (l : List Happening). l ++ e ∷ []) same
 
-  -- and its screen was printed
-  pub gone_go : Turned (Ok Go) archive1 v next (Char b) out1 out2
-      → Gone (shown choice archive view) (Reading next) old new (streams out keys clock) (streams out2 keys2 clock2) [] (turns + 1)
-  gone_go turned =
-      let sent : Sent out1 out2 (screen archive next) [] =
-      subst (λ (a : List Mail). Sent out1 out2 (screen a next) []) same_archive
-      (sent_all out1 out2 (screen archive1 next) turned.1) in
-      record {
-        went = went_go choice archive view v old mid new out out1 out2 keys keys1 keys2 clock clock1 clock2 b event.0
-            gone.went put byte event.2 next [] turned.0 sent;
-        count = went_count choice archive view v old mid new out out1 out2 keys keys1 keys2 clock clock1 clock2 b
-            event.0 gone.went put byte event.2 next [] turned.0 sent
-            ∙ ap (λ (n : ℕ). n + 1) gone.count;
-      }
+-- A key was taken from a place on.
 
-  -- and it ended the run
-  pub ends_quit : Turned (Ok Quit) archive1 v next (Char b) out1 out2 → turns + 1 ≤ most_keys
-      → GoesToEnd (shown choice archive view) Done old new (streams out keys clock) (streams out2 keys2 clock2)
-  ends_quit turned low = record {
-    stage = Over;
-    rest = [];
-    went = went_quit choice archive view v old mid new out out1 out2 keys keys1 keys2 clock clock1 clock2 b event.0
-        gone.went put byte event.2 turned.0 turned.1;
-    ends = (tt, refl);
-    few = subst (λ (n : ℕ). n ≤ most_keys)
-        (sym (quit_count choice archive view v old mid new out out1 out2 keys keys1 keys2 clock clock1 clock2 b event.0
-        gone.went put byte event.2 turned.0 turned.1 ∙ ap (λ (n : ℕ). n + 1) gone.count)) low;
-    whole = λ over. refl;
-  }
+-- and its screen was printed
+pub gone_go : {choice : Choice} {archive archive1 : List Mail} {view v next : View} {old mid mid2 new : List Happening}
+    {out out1 out2 keys keys1 keys2 : Option (List ℕ)} {clock clock1 clock2 : Option (List ℤ)} (b : ℕ) {turns : ℕ}
+    → Gone (shown choice archive view) (Reading v) old mid (streams out keys clock) (streams out1 keys1 clock1) [] turns
+    → archive1 ≡ archive → mid2 ≡ mid → Consumes keys1 keys2 (b ∷ [])
+    → (moment : ℤ) × (new ≡ mid2 ++ KeyPressed (Char b) moment ∷ []) × Gives clock1 clock2 (moment ∷ [])
+    → Turned (Ok Go) archive1 v next (Char b) out1 out2
+    → Gone (shown choice archive view) (Reading next) old new (streams out keys clock) (streams out2 keys2 clock2) []
+    (turns + 1)
+gone_go {choice} {archive} {archive1} {view} {v} {next} {old} {mid} {mid2} {new} {out} {out1} {out2} {keys} {keys1}
+    {keys2} {clock} {clock1} {clock2} b {turns} gone same_archive same byte event turned =
+    let sent : Sent out1 out2 (screen archive next) [] =
+    subst (λ (a : List Mail). Sent out1 out2 (screen a next) []) same_archive
+    (sent_all out1 out2 (screen archive1 next) turned.1) in
+    let put = put_on (KeyPressed (Char b) event.0) same event.1 in
+    record {
+      went = went_go choice archive view v old mid new out out1 out2 keys keys1 keys2 clock clock1 clock2 b event.0
+          gone.went put byte event.2 next [] turned.0 sent;
+      count = went_count choice archive view v old mid new out out1 out2 keys keys1 keys2 clock clock1 clock2 b event.0
+          gone.went put byte event.2 next [] turned.0 sent
+          ∙ ap (λ (n : ℕ). n + 1) gone.count;
+    }
 
-  -- and its screen was not printed whole
-  pub ends_fault : (status : Status) → (status ≡ OutFault) ⊎ (status ≡ NoMemory)
-      → Turned (Err status) archive1 v next (Char b) out1 out2 → turns + 1 ≤ most_keys
-      → GoesToEnd (shown choice archive view) status old new (streams out keys clock) (streams out2 keys2 clock2)
-  ends_fault status which turned low =
-      let sent : Sent out1 out2 (screen archive next) turned.1.0 =
-      subst (λ (a : List Mail). Sent out1 out2 (screen a next) turned.1.0) same_archive turned.1.1 in
-      record {
-        stage = Reading next;
-        rest = turned.1.0;
-        went = went_go choice archive view v old mid new out out1 out2 keys keys1 keys2 clock clock1 clock2 b event.0
-            gone.went put byte event.2 next turned.1.0 turned.0 sent;
-        ends = ends_free status (Reading next) _ keys2 turned.1.0 which;
-        few = subst (λ (n : ℕ). n ≤ most_keys)
-            (sym (went_count choice archive view v old mid new out out1 out2 keys keys1 keys2 clock clock1 clock2 b
-            event.0 gone.went put byte event.2 next turned.1.0 turned.0 sent ∙ ap (λ (n : ℕ). n + 1) gone.count)) low;
-        whole = λ over. absurd over;
-      }
+-- and it ended the run
+pub ends_quit : {choice : Choice} {archive : List Mail} {view v : View} {old mid mid2 new : List Happening}
+    {out out1 out2 keys keys1 keys2 : Option (List ℕ)} {clock clock1 clock2 : Option (List ℤ)} (b : ℕ) {turns : ℕ}
+    → Gone (shown choice archive view) (Reading v) old mid (streams out keys clock) (streams out1 keys1 clock1) [] turns
+    → mid2 ≡ mid → Consumes keys1 keys2 (b ∷ [])
+    → (moment : ℤ) × (new ≡ mid2 ++ KeyPressed (Char b) moment ∷ []) × Gives clock1 clock2 (moment ∷ [])
+    → after_key v (Char b) ≡ None → Appends out1 out2 [] → turns + 1 ≤ most_keys
+    → GoesToEnd (shown choice archive view) Done old new (streams out keys clock) (streams out2 keys2 clock2)
+ends_quit {choice} {archive} {view} {v} {old} {mid} {mid2} {new} {out} {out1} {out2} {keys} {keys1} {keys2} {clock}
+    {clock1} {clock2} b {turns} gone same byte event none sent low =
+    let put = put_on (KeyPressed (Char b) event.0) same event.1 in
+    record {
+      stage = Over;
+      rest = [];
+      went = went_quit choice archive view v old mid new out out1 out2 keys keys1 keys2 clock clock1 clock2 b event.0
+          gone.went put byte event.2 none sent;
+      ends = (tt, refl);
+      few = subst (λ (n : ℕ). n ≤ most_keys)
+          (sym (quit_count choice archive view v old mid new out out1 out2 keys keys1 keys2 clock clock1 clock2 b
+          event.0 gone.went put byte event.2 none sent ∙ ap (λ (n : ℕ). n + 1) gone.count)) low;
+      whole = λ over. refl;
+    }
+
+-- and its screen was not printed whole
+pub ends_fault : {choice : Choice} {archive archive1 : List Mail} {view v next : View}
+    {old mid mid2 new : List Happening} {out out1 out2 keys keys1 keys2 : Option (List ℕ)}
+    {clock clock1 clock2 : Option (List ℤ)} (b : ℕ) {turns : ℕ} {status : Status}
+    → Gone (shown choice archive view) (Reading v) old mid (streams out keys clock) (streams out1 keys1 clock1) [] turns
+    → archive1 ≡ archive → mid2 ≡ mid → Consumes keys1 keys2 (b ∷ [])
+    → (moment : ℤ) × (new ≡ mid2 ++ KeyPressed (Char b) moment ∷ []) × Gives clock1 clock2 (moment ∷ [])
+    → (status ≡ OutFault) ⊎ (status ≡ NoMemory) → Turned (Err status) archive1 v next (Char b) out1 out2
+    → turns + 1 ≤ most_keys
+    → GoesToEnd (shown choice archive view) status old new (streams out keys clock) (streams out2 keys2 clock2)
+ends_fault {choice} {archive} {archive1} {view} {v} {next} {old} {mid} {mid2} {new} {out} {out1} {out2} {keys} {keys1}
+    {keys2} {clock} {clock1} {clock2} b {turns} {status} gone same_archive same byte event which turned low =
+    let sent : Sent out1 out2 (screen archive next) turned.1.0 =
+    subst (λ (a : List Mail). Sent out1 out2 (screen a next) turned.1.0) same_archive turned.1.1 in
+    let put = put_on (KeyPressed (Char b) event.0) same event.1 in
+    record {
+      stage = Reading next;
+      rest = turned.1.0;
+      went = went_go choice archive view v old mid new out out1 out2 keys keys1 keys2 clock clock1 clock2 b event.0
+          gone.went put byte event.2 next turned.1.0 turned.0 sent;
+      ends = ends_free status (Reading next) _ keys2 turned.1.0 which;
+      few = subst (λ (n : ℕ). n ≤ most_keys)
+          (sym (went_count choice archive view v old mid new out out1 out2 keys keys1 keys2 clock clock1 clock2 b
+          event.0 gone.went put byte event.2 next turned.1.0 turned.0 sent ∙ ap (λ (n : ℕ). n + 1) gone.count)) low;
+      whole = λ over. absurd over;
+    }

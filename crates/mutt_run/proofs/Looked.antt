@@ -77,16 +77,16 @@ found_past kind path archive known found old mid new at seen first then saw = re
   alone = λ none. saw.alone (alone_later old mid new first then none);
 }
 
-pub found_told : (kind : Kind) (path : List ℕ) (before archive : List Mail) (known : KnownFolder) (found : Found)
-    (old mid new : Option Past) → before ≡ [] → known.path ≡ path
+pub found_told : (kind : Kind) (path : List ℕ) {before : List Mail} (archive : List Mail) (known : KnownFolder)
+    (found : Found) (old mid new : Option Past) → before ≡ [] → known.path ≡ path
     → GoesOn (KindSeen (Ok kind) path) old mid → LooksOnly old mid → LooksOnly mid new
     → GoesOn (Saw kind before archive known (Ok found)) mid new
     → GoesOn (λ (o n : Past). WasOpened archive path kind found.came.items (length o.journal) (length n.journal) o n)
     old new
-found_told kind path before archive known found None mid new none at seen first then saw = looks_silent mid new seen then
-found_told kind path before archive known found (Some o) None new none at seen first then saw = absurd seen
-found_told kind path before archive known found (Some o) (Some m) None none at seen first then saw = absurd then
-found_told kind path before archive known found (Some o) (Some m) (Some n) none at seen first then saw =
+found_told kind path {before} archive known found None mid new none at seen first then saw = looks_silent mid new seen then
+found_told kind path {before} archive known found (Some o) None new none at seen first then saw = absurd seen
+found_told kind path {before} archive known found (Some o) (Some m) None none at seen first then saw = absurd then
+found_told kind path {before} archive known found (Some o) (Some m) (Some n) none at seen first then saw =
     found_past kind path archive known found o m n at seen first then
     (subst (λ (b : List Mail). Saw kind b archive known (Ok found) m n) none saw)
 
@@ -128,15 +128,15 @@ refused_past Has kind path Unfinished archive known mark old mid new at low high
 refused_past Has kind path ArchiveFull archive known mark old mid new at low high seen then refused has =
     inr (not_listed Has kind path ArchiveFull known mark old mid new at low high seen then refused has)
 
-pub refused_told : (Has : Kind → Type 0) (kind : Kind) (path : List ℕ) (why : ScanError) (before archive : List Mail) (known : KnownFolder)
-    (old mid new : Option Past) → before ≡ [] → known.path ≡ path
+pub refused_told : (Has : Kind → Type 0) (kind : Kind) (path : List ℕ) {before : List Mail} (archive : List Mail)
+    (known : KnownFolder) (why : ScanError) (old mid new : Option Past) → before ≡ [] → known.path ≡ path
     → GoesOn (KindSeen (Ok kind) path) old mid → LooksOnly mid new
     → GoesOn (Saw kind before archive known (Err why)) mid new → Has kind
     → GoesOn (λ (o n : Past). WasRefused Has path (Folder why) (length o.journal) (length n.journal) n) old new
-refused_told Has kind path why before archive known None mid new none at seen then saw has = looks_silent mid new seen then
-refused_told Has kind path why before archive known (Some o) None new none at seen then saw has = absurd seen
-refused_told Has kind path why before archive known (Some o) (Some m) None none at seen then saw has = absurd then
-refused_told Has kind path why before archive known (Some o) (Some m) (Some n) none at seen then saw has =
+refused_told Has kind path {before} archive known why None mid new none at seen then saw has = looks_silent mid new seen then
+refused_told Has kind path {before} archive known why (Some o) None new none at seen then saw has = absurd seen
+refused_told Has kind path {before} archive known why (Some o) (Some m) None none at seen then saw has = absurd then
+refused_told Has kind path {before} archive known why (Some o) (Some m) (Some n) none at seen then saw has =
     let first : Saw kind [] archive known (Err why) m n = subst
     (λ (b : List Mail). Saw kind b archive known (Err why) m n) none saw in
     refused_past Has kind path why archive known first.mark o m n at first.from first.to seen then first.seen has

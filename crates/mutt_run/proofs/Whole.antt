@@ -25,8 +25,8 @@ use Rattle.mutt_run.specs.Reading.{Reads}
 use Rattle.mutt_run.specs.Runs.{Stage, Unopened, Reading, Over, IsRunFrom, after_event, after_events}
 use Rattle.mutt_run.specs.Runs.{screens_from, stage_of, stage_screens}
 use Rattle.mutt_run.specs.Screen.{screen}
-use Rattle.mutt_run.specs.Outside.{outside, streams}
-use Rattle.mutt_run.specs.Session.{EndsKeys, GoesToEnd, shown}
+use Rattle.mutt_run.specs.Outside.{Streams, outside, streams}
+use Rattle.mutt_run.specs.Session.{EndsKeys, GoesToEnd, Shown, shown}
 use Rattle.mutt_run.specs.Taken.{keys_of, pressed_keys}
 use Rattle.mutt_run.specs.declared.key.Key.{Key}
 use Rattle.mutt_run.specs.declared.key.Key.TheVariants.{Char}
@@ -200,95 +200,104 @@ ends_free choice status events left (inl e) = subst (λ (s : Status). EndsAs cho
 ends_free choice status events left (inr e) = subst (λ (s : Status). EndsAs choice s events left) (sym e) tt
 
 -- A folder that is shown.
-module _ (choice : Choice) (start first : ℤ) (Has : Kind
-    → Type 0) (archive : List Mail) (events : List Happening) (old new : Seen) (view : View)
-    (out out1 keys : Option (List ℕ)) (clock : Option (List ℤ)) (same : start ≡ first)
-    (opens : Opens choice start Has archive events old new) (listed : AllListed archive events)
-    (is_shown : IsShown choice events view) where
-  begun : IsStart first events
-  begun = subst (λ (s : ℤ). IsStart s events) same opens.start_is
 
-  first_screens : screens_from choice archive Unopened events ≡ screen archive view ∷ []
-  first_screens = opened_screens choice archive events opens.run is_shown.opened opens.no_keys
-      ∙ ap (stage_screens archive) is_shown.stage
+-- it was opened at the first moment
+begun : (start first : ℤ) (events : List Happening) → start ≡ first → IsStart start events → IsStart first events
+begun start first events same start_is = subst (λ (s : ℤ). IsStart s events) same start_is
 
-  -- its first screen was not printed whole
-  pub reads_first : (status : Status) → (status ≡ OutFault) ⊎ (status ≡ NoMemory) → (rest : List ℕ)
-      × Sent out out1 (screen archive view) rest
-      → Reads choice first Has archive status events (outside out keys clock old) (outside out1 keys clock new)
-  reads_first status which sent = record {
-    run = opens.run;
-    ends = ends_free choice status events keys which;
-    taken = record { bytes = []; keys = opens.no_keys; taken = consumes_none keys; few = omega arith };
-    start_is = begun;
-    given = subst (λ (l : List ℤ). Gives clock clock l) (sym opens.no_moments) (gives_none clock);
-    printed = prints_but status (screens_from choice archive Unopened events) out out1 which (record {
-      rest = sent.0;
-      sent = subst (λ (l : List (List ℕ)). Sent out out1 (concat l) sent.0) (sym first_screens)
-          (subst (λ (l : List ℕ). Sent out out1 l sent.0) (sym (append-nil (screen archive view))) sent.1);
-      short = subst (λ (l : List (List ℕ)). length sent.0 ≤ last_length l) (sym first_screens)
-          (sent_short out out1 (screen archive view) sent.0 sent.1);
-    });
-    whole = λ over. absurd (subst IsOver is_shown.stage over);
-    happened = opens.happened;
-    counted = opens.counted;
-    listed = listed;
-  }
+-- its screen is the first
+first_screens : (choice : Choice) (archive : List Mail) (events : List Happening) (view : View)
+    → IsRunFrom choice Unopened events → pressed_keys events ≡ [] → IsShown choice events view
+    → screens_from choice archive Unopened events ≡ screen archive view ∷ []
+first_screens choice archive events view run no_keys is_shown =
+    opened_screens choice archive events run is_shown.opened no_keys ∙ ap (stage_screens archive) is_shown.stage
 
-  -- its first screen was printed, and keys went on
-  pub reads_keys : (status : Status) (archive2 : List Mail) (events2 : List Happening) (out2 keys2 : Option (List ℕ))
-      (clock2 : Option (List ℤ)) → archive2 ≡ archive → Appends out out1 (screen archive view)
-      → GoesToEnd (shown choice archive view) status events events2 (streams out1 keys clock) (streams out2 keys2 clock2)
-      → Reads choice first Has archive2 status events2 (outside out keys clock old) (outside out2 keys2 clock2 new)
-  reads_keys status archive2 events2 out2 keys2 clock2 kept printed goes =
-      let went = goes.went in
-      let more : List Happening = went.more in
-      let whole : events2 ≡ events ++ more = went.events_are in
-      let keys_only : AreKeys more = are_keys choice (Reading view) more tt went.run in
-      let screens : screens_from choice archive Unopened (events ++ more) ≡ screen archive view ∷ screens_from choice
-      archive (Reading view) more =
-      screens-append choice archive Unopened events more
-      ∙ ap (λ (l : List (List ℕ)). l ++ screens_from choice archive (after_events choice Unopened events) more)
-      first_screens
-      ∙ ap (λ (s : Stage). screen archive view ∷ screens_from choice archive s more) is_shown.stage in
-      let pressed : pressed_keys (events ++ more) ≡ keys_of went.bytes =
-      keys-append events more ∙ ap (λ (l : List Key). l ++ pressed_keys more) opens.no_keys ∙ went.pressed in
-      let at : after_events choice Unopened (events ++ more) ≡ goes.stage =
-      after-append choice Unopened events more ∙ ap (λ (s : Stage). after_events choice s more) is_shown.stage
-      ∙ sym went.stage_is in
-      let count : length (pressed_keys (events ++ more)) ≡ length went.bytes =
-      ap length pressed ∙ length-map went.bytes (λ (b : ℕ). Char b) in
-      let sent : Sent out out2 (concat (screen archive view ∷ screens_from choice archive (Reading view) more))
-      goes.rest =
-      sent_then out out1 out2 (screen archive view) (concat (screens_from choice archive (Reading view) more)) goes.rest
-      (sent_all out out1 (screen archive view) printed) went.sent in
-      let short : length goes.rest ≤ last_length (screen archive view ∷ screens_from choice archive (Reading view) more)
-      =
-      omega (arith, went.short, last_cons (screen archive view) (screens_from choice archive (Reading view) more)) in
-      subst (λ (a : List Mail). Reads choice first Has a status events2 (outside out keys clock old) (outside out2 keys2 clock2 new))
-      (sym kept)
-      (subst (λ (l : List Happening). Reads choice first Has archive status l (outside out keys clock old) (outside out2 keys2 clock2 new))
-      (sym whole) (record {
-        run = run-append choice Unopened events more opens.run
-            (subst (λ (s : Stage). IsRunFrom choice s more) (sym is_shown.stage) went.run);
-        ends = ends_as choice status (events ++ more) goes.stage (length went.bytes) keys2 goes.rest
-            (opened_more events more is_shown.opened) at count goes.ends;
-        taken = record { bytes = went.bytes; keys = pressed; taken = went.taken; few = goes.few };
-        start_is = start_append first events more begun keys_only;
-        given = subst (λ (l : List ℤ). Gives clock clock2 l)
-            (sym (moments-append events more ∙ ap (λ (l : List ℤ). l ++ pressed_moments more) opens.no_moments))
-            went.given;
-        printed = subst (λ (l : List (List ℕ)). Prints status l out out2) (sym screens)
-            (prints_keys status goes.stage (length went.bytes) keys2
-            (screen archive view ∷ screens_from choice archive (Reading view) more) out out2 goes.rest goes.ends
-            sent short);
-        whole = λ over. subst (λ (l : List (List ℕ)). Appends out out2 (concat l)) (sym screens)
-            (sent_whole out out2 (concat (screen archive view ∷ screens_from choice archive (Reading view) more))
-            goes.rest (goes.whole (subst IsOver at over)) sent);
-        happened = happened_told Has archive events more old.told new.told opens.happened keys_only;
-        counted = counted_append Has old new events more opens.counted keys_only;
-        listed = listed_append archive events more listed keys_only;
-      }))
+-- its first screen was not printed whole
+pub reads_first : {choice : Choice} {start first : ℤ} {Has : Kind → Type 0} {archive : List Mail} {status : Status}
+    {events : List Happening} {old new : Seen} {view : View} {out out1 keys : Option (List ℕ)} {clock : Option (List ℤ)}
+    → start ≡ first → Opens choice start Has archive events old new → IsShown choice events view
+    → (status ≡ OutFault) ⊎ (status ≡ NoMemory) → (rest : List ℕ) × Sent out out1 (screen archive view) rest
+    → Reads choice first Has archive status events (outside out keys clock old) (outside out1 keys clock new)
+reads_first {choice} {start} {first} {Has} {archive} {status} {events} {old} {new} {view} {out} {out1} {keys} {clock}
+    same opens is_shown which sent =
+    let screens = first_screens choice archive events view opens.run opens.no_keys is_shown in
+    record {
+      run = opens.run;
+      ends = ends_free choice status events keys which;
+      taken = record { bytes = []; keys = opens.no_keys; taken = consumes_none keys; few = omega arith };
+      start_is = begun start first events same opens.start_is;
+      given = subst (λ (l : List ℤ). Gives clock clock l) (sym opens.no_moments) (gives_none clock);
+      printed = prints_but status (screens_from choice archive Unopened events) out out1 which (record {
+        rest = sent.0;
+        sent = subst (λ (l : List (List ℕ)). Sent out out1 (concat l) sent.0) (sym screens)
+            (subst (λ (l : List ℕ). Sent out out1 l sent.0) (sym (append-nil (screen archive view))) sent.1);
+        short = subst (λ (l : List (List ℕ)). length sent.0 ≤ last_length l) (sym screens)
+            (sent_short out out1 (screen archive view) sent.0 sent.1);
+      });
+      whole = λ over. absurd (subst IsOver is_shown.stage over);
+      happened = opens.happened;
+      counted = opens.counted;
+      listed = opens.listed;
+    }
+
+-- its first screen was printed, and keys went on
+pub reads_keys : {choice : Choice} {start first : ℤ} {Has : Kind → Type 0} {archive archive2 : List Mail}
+    {status : Status} {events events2 : List Happening} {old new : Seen} {view : View}
+    {out out1 out2 keys keys2 : Option (List ℕ)} {clock clock2 : Option (List ℤ)}
+    → start ≡ first → Opens choice start Has archive events old new → IsShown choice events view
+    → archive2 ≡ archive → Appends out out1 (screen archive view)
+    → GoesToEnd (shown choice archive view) status events events2 (streams out1 keys clock) (streams out2 keys2 clock2)
+    → Reads choice first Has archive2 status events2 (outside out keys clock old) (outside out2 keys2 clock2 new)
+reads_keys {choice} {start} {first} {Has} {archive} {archive2} {status} {events} {events2} {old} {new} {view} {out} {out1}
+    {out2} {keys} {keys2} {clock} {clock2} same opens is_shown kept printed goes =
+    let went = goes.went in
+    let more : List Happening = went.more in
+    let whole : events2 ≡ events ++ more = went.events_are in
+    let keys_only : AreKeys more = are_keys choice (Reading view) more tt went.run in
+    let screens : screens_from choice archive Unopened (events ++ more) ≡ screen archive view ∷ screens_from choice
+    archive (Reading view) more =
+    screens-append choice archive Unopened events more
+    ∙ ap (λ (l : List (List ℕ)). l ++ screens_from choice archive (after_events choice Unopened events) more)
+    (first_screens choice archive events view opens.run opens.no_keys is_shown)
+    ∙ ap (λ (s : Stage). screen archive view ∷ screens_from choice archive s more) is_shown.stage in
+    let pressed : pressed_keys (events ++ more) ≡ keys_of went.bytes =
+    keys-append events more ∙ ap (λ (l : List Key). l ++ pressed_keys more) opens.no_keys ∙ went.pressed in
+    let at : after_events choice Unopened (events ++ more) ≡ goes.stage =
+    after-append choice Unopened events more ∙ ap (λ (s : Stage). after_events choice s more) is_shown.stage
+    ∙ sym went.stage_is in
+    let count : length (pressed_keys (events ++ more)) ≡ length went.bytes =
+    ap length pressed ∙ length-map went.bytes (λ (b : ℕ). Char b) in
+    let sent : Sent out out2 (concat (screen archive view ∷ screens_from choice archive (Reading view) more))
+    goes.rest =
+    sent_then out out1 out2 (screen archive view) (concat (screens_from choice archive (Reading view) more)) goes.rest
+    (sent_all out out1 (screen archive view) printed) went.sent in
+    let short : length goes.rest ≤ last_length (screen archive view ∷ screens_from choice archive (Reading view) more)
+    =
+    omega (arith, went.short, last_cons (screen archive view) (screens_from choice archive (Reading view) more)) in
+    subst (λ (a : List Mail). Reads choice first Has a status events2 (outside out keys clock old) (outside out2 keys2 clock2 new))
+    (sym kept)
+    (subst (λ (l : List Happening). Reads choice first Has archive status l (outside out keys clock old) (outside out2 keys2 clock2 new))
+    (sym whole) (record {
+      run = run-append choice Unopened events more opens.run
+          (subst (λ (s : Stage). IsRunFrom choice s more) (sym is_shown.stage) went.run);
+      ends = ends_as choice status (events ++ more) goes.stage (length went.bytes) keys2 goes.rest
+          (opened_more events more is_shown.opened) at count goes.ends;
+      taken = record { bytes = went.bytes; keys = pressed; taken = went.taken; few = goes.few };
+      start_is = start_append first events more (begun start first events same opens.start_is) keys_only;
+      given = subst (λ (l : List ℤ). Gives clock clock2 l)
+          (sym (moments-append events more ∙ ap (λ (l : List ℤ). l ++ pressed_moments more) opens.no_moments))
+          went.given;
+      printed = subst (λ (l : List (List ℕ)). Prints status l out out2) (sym screens)
+          (prints_keys status goes.stage (length went.bytes) keys2
+          (screen archive view ∷ screens_from choice archive (Reading view) more) out out2 goes.rest goes.ends
+          sent short);
+      whole = λ over. subst (λ (l : List (List ℕ)). Appends out out2 (concat l)) (sym screens)
+          (sent_whole out out2 (concat (screen archive view ∷ screens_from choice archive (Reading view) more))
+          goes.rest (goes.whole (subst IsOver at over)) sent);
+      happened = happened_told Has archive events more old.told new.told opens.happened keys_only;
+      counted = counted_append Has old new events more opens.counted keys_only;
+      listed = listed_append archive events more opens.listed keys_only;
+    }))
 
 -- without screens nothing is printed
 prints_nothing : (status : Status) (screens : List (List ℕ)) (out : Option (List ℕ)) → screens ≡ []
@@ -307,41 +316,46 @@ prints_nothing status screens out none =
     whole TooManyKeys = appends_none out
 
 -- a folder that was not opened ends the run
-pub reads_end : (choice : Choice) (start first : ℤ) (Has : Kind → Type 0) (archive : List Mail) (status : Status)
-    (events : List Happening) (old new : Seen) (out keys : Option (List ℕ)) (clock : Option (List ℤ)) → start ≡ first
-    → Opens choice start Has archive events old new → AllListed archive events → IsEnd choice archive events status
+pub reads_end : {choice : Choice} {start first : ℤ} {Has : Kind → Type 0} {archive : List Mail} {status : Status}
+    {events : List Happening} {old new : Seen} {out keys : Option (List ℕ)} {clock : Option (List ℤ)} → start ≡ first
+    → Opens choice start Has archive events old new → IsEnd choice archive events status
     → Reads choice first Has archive status events (outside out keys clock old) (outside out keys clock new)
-reads_end choice start first Has archive status events old new out keys clock same opens listed ends = record {
-  run = opens.run;
-  ends = ends.ends keys;
-  taken = record { bytes = []; keys = opens.no_keys; taken = consumes_none keys; few = omega arith };
-  start_is = subst (λ (s : ℤ). IsStart s events) same opens.start_is;
-  given = subst (λ (l : List ℤ). Gives clock clock l) (sym opens.no_moments) (gives_none clock);
-  printed = prints_nothing status (screens_from choice archive Unopened events) out ends.no_screens;
-  whole = λ over. subst (λ (l : List (List ℕ)). Appends out out (concat l)) (sym ends.no_screens) (appends_none out);
-  happened = opens.happened;
-  counted = opens.counted;
-  listed = listed;
-}
+reads_end {choice} {start} {first} {Has} {archive} {status} {events} {old} {new} {out} {keys} {clock} same opens ends =
+    record {
+      run = opens.run;
+      ends = ends.ends keys;
+      taken = record { bytes = []; keys = opens.no_keys; taken = consumes_none keys; few = omega arith };
+      start_is = subst (λ (s : ℤ). IsStart s events) same opens.start_is;
+      given = subst (λ (l : List ℤ). Gives clock clock l) (sym opens.no_moments) (gives_none clock);
+      printed = prints_nothing status (screens_from choice archive Unopened events) out ends.no_screens;
+      whole = λ over. subst (λ (l : List (List ℕ)). Appends out out (concat l)) (sym ends.no_screens) (appends_none out);
+      happened = opens.happened;
+      counted = opens.counted;
+      listed = opens.listed;
+    }
 
 -- keys never end a run for its words
-pub no_usage : (status : Status) (stage : Stage) (count : ℕ) (left : Option (List ℕ)) (rest : List ℕ)
+ends_no_usage : (status : Status) (stage : Stage) (count : ℕ) (left : Option (List ℕ)) (rest : List ℕ)
     → EndsKeys status stage count left rest → IsNoUsage status
-no_usage Done stage count left rest ends = tt
-no_usage KeysFault stage count left rest ends = tt
-no_usage TooManyKeys stage count left rest ends = tt
-no_usage OutFault stage count left rest ends = tt
-no_usage NoMemory stage count left rest ends = tt
-no_usage (Usage word) stage count left rest ends = absurd ends
-no_usage (NotOpened why) stage count left rest ends = absurd ends
-no_usage DiskFault stage count left rest ends = absurd ends
+ends_no_usage Done stage count left rest ends = tt
+ends_no_usage KeysFault stage count left rest ends = tt
+ends_no_usage TooManyKeys stage count left rest ends = tt
+ends_no_usage OutFault stage count left rest ends = tt
+ends_no_usage NoMemory stage count left rest ends = tt
+ends_no_usage (Usage word) stage count left rest ends = absurd ends
+ends_no_usage (NotOpened why) stage count left rest ends = absurd ends
+ends_no_usage DiskFault stage count left rest ends = absurd ends
+
+pub no_usage : {from : Shown} {status : Status} {events events' : List Happening} {old new : Streams}
+    → GoesToEnd from status events events' old new → IsNoUsage status
+no_usage {status = status} {new = new} goes = ends_no_usage status goes.stage (length goes.went.bytes) new.left goes.rest goes.ends
 
 -- The whole run.
 
 -- the moment of the start, and then those of the keys
-pub clocked : (first start : ℤ) (a b c : Option (List ℤ)) (events : List Happening) → Gives a b (first ∷ [])
+pub clocked : {first start : ℤ} (a b c : Option (List ℤ)) {events : List Happening} → Gives a b (first ∷ [])
     → start ≡ first → IsStart start events → Gives b c (pressed_moments events) → Clocked a c events
-clocked first start a b c events tick same begun given = record {
+clocked {first} {start} a b c {events} tick same begun given = record {
   start = first;
   opened = subst (λ (s : ℤ). IsStart s events) same begun;
   given = gives_then a b c (first ∷ []) (pressed_moments events) tick given;

