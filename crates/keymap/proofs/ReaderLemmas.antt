@@ -132,11 +132,11 @@ given_begins key pending more rest (Some left) (Some left') taken first ended =
     ∙ given_first key (pending ++ more) rest left' first ended
 
 -- a key is given of what was filled
-pub gives : (key : Option Key) (old mid new : PlainReader) (left left' : Option (List ℕ))
+pub gives : {key : Option Key} {old mid new : PlainReader} {left left' : Option (List ℕ)}
     → Filled old mid left left' → (is_open mid.pending ≡ true
     → IsAtEnd left' × (mid.taken < most_bytes))
     → IsFirst key mid.pending new.pending → new.taken ≡ mid.taken → Gives key old new left left'
-gives key old mid new left left' filled ended first taken =
+gives {key} {old} {mid} {new} {left} {left'} filled ended first taken =
     let bytes = sym filled.pending in
     let at_end : is_open (old.pending ++ filled.more) ≡ true
     → IsAtEnd left' × (mid.taken < most_bytes) =

@@ -216,7 +216,8 @@ told_by-line t u field line text lines same flags status x_status =
     let e70 = x_status 70 (record { no_space = refl; no_tab = refl; no_cr = refl; no_feed = refl }) in
     ap (λ (f : StatusField). told_by (record { field = f; flags = u.flags }) lines) same
     ∙ ap (λ (f : Flags). told_by (record { field = field; flags = f }) lines) flags
-    ∙ joined-joined t.flags _ _ _ _ _ _ _ _
+    ∙ joined-joined t.flags (is_status field && has 82 text) (is_status field && has 79 text)
+    (is_x_status field && has 65 text) (is_x_status field && has 70 text) _ _ _ _
     ∙ joined-same t.flags e82 e79 e65 e70
 
 pub GoOn-field : (name line text : List ℕ) (k : ℕ) (lines : List (List ℕ)) (before is : Bool) → colon_of line ≡ Some k

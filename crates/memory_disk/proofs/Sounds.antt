@@ -53,10 +53,10 @@ left_all call (foreign ∷ plan) none = by_test (nat_lt call foreign.before_call
 
 -- A disk begins.
 
-pub sound_first : (first : List TreeNode) (clock : ℕ) (journal : List Entry) (waiting : List Action) (state : State)
+pub sound_first : {first : List TreeNode} {clock : ℕ} {journal : List Entry} {waiting : List Action} {state : State}
     → is_first_tree first ≡ true → clock ≡ first_clock first → state ≡ record (state_of first) { clock = clock }
     → clock ≤ 2 ^ 64 → journal ≡ [] → waiting ≡ [] → IsSound first clock journal waiting state
-sound_first first clock journal waiting state tree begins now small none nobody = record {
+sound_first {first} {clock} {journal} {waiting} {state} tree begins now small none nobody = record {
   tree = tree;
   begins = begins;
   now =
@@ -89,15 +89,15 @@ allowed_by call tree (Some (Long size)) is = (refl, sym is)
 allowed_by call tree (Some Fault) is = omega arith
 allowed_by call tree (Some NoMemory) is = (refl, sym is)
 
-pub sound_enters : (first : List TreeNode) (clock : ℕ) (journal journal' : List Entry) (waiting waiting' : List Action)
-    (state state' : State) (call : Call) (refused : Option DiskError)
+pub sound_enters : {first : List TreeNode} {clock : ℕ} {journal journal' : List Entry} {waiting waiting' : List Action}
+    {state state' : State} (call : Call) (refused : Option DiskError)
     → IsSound first clock journal waiting state → is_text call ≡ true
     → IsAllowed call (answer_by_refusal refused) (tree_of state)
     → state' ≡ after_entry state (Own call (answer_by_refusal refused))
     → journal' ≡ journal ++ (map Others waiting ++ Own call (answer_by_refusal refused) ∷ [])
     → waiting' ≡ []
     → IsSound first clock journal' waiting' state'
-sound_enters first clock journal journal' waiting waiting' state state' call refused h text allowed now grown none =
+sound_enters {first} {clock} {journal} {journal'} {waiting} {waiting'} {state} {state'} call refused h text allowed now grown none =
     let own : List Entry = Own call (answer_by_refusal refused) ∷ [] in
     let acted : List Entry = journal ++ map Others waiting in
     let all : journal' ≡ acted ++ own = grown ∙ sym (append_assoc journal (map Others waiting) own) in
@@ -153,9 +153,9 @@ all_met (Ok value) call old new inside disk is acts none =
 all_met (Err e) call old new inside disk is acts none = tt
 
 -- its names are text
-pub sound_text : (first : List TreeNode) (clock : ℕ) (journal : List Entry) (waiting : List Action) (state : State)
+pub sound_text : {first : List TreeNode} {clock : ℕ} {journal : List Entry} {waiting : List Action} {state : State}
     → IsSound first clock journal waiting state → AllText state.names
-sound_text first clock journal waiting state h =
+sound_text {first} {clock} {journal} {waiting} {state} h =
     subst (λ (s : State). AllText s.names) (sym h.now)
     (text_run (journal ++ map Others waiting) (state_of first)
     (AreLawful-append journal (map Others waiting) (state_of first) h.lawful

@@ -12,10 +12,10 @@ use Rattle.disk_model.specs.declared.answers.DiskError.TheVariants.{Fault}
 use Rattle.disk_model.specs.declared.answers.FileRead.{FileRead}
 use Rattle.real_disk.specs.Real.{Tally, untold}
 
-pub makes_step : {A : Type 0} (result : Result A DiskError) (call : Call) (wanted : List TreeNode → Result A DiskError)
-    (bytes : ℕ) (old new : Tally) → Counted result (untold old) (untold new) → IfErr result (IsErrorOf call)
+pub makes_step : {A : Type 0} {result : Result A DiskError} {call : Call} {wanted : List TreeNode → Result A DiskError}
+    {bytes : ℕ} {old new : Tally} → Counted result (untold old) (untold new) → IfErr result (IsErrorOf call)
     → MakesStep result call wanted bytes (untold old) (untold new)
-makes_step result call wanted bytes old new counts errors =
+makes_step {result} {call} {wanted} {bytes} {old} {new} counts errors =
     record { called = record { goes = refl }; grows = refl; counts = counts; reads = refl; errors = errors }
 
 -- The same of answers that are told as plain values.
@@ -42,31 +42,23 @@ counts_err why old new counts = record {
   cause = λ no. counts.cause (err_of why (fault_of why no));
 }
 
-pub lists_step : (result : Result (Held (Held ℕ)) DiskError) (call : Call)
-    (wanted : List TreeNode → Result (List (List ℕ)) DiskError) (old new : Tally)
+pub lists_step : {result : Result (Held (Held ℕ)) DiskError} {call : Call}
+    {wanted : List TreeNode → Result (List (List ℕ)) DiskError} {old new : Tally}
     → Counted result (untold old) (untold new) → IfErr result (IsErrorOf call)
     → MakesStep (plain_list result) call wanted 0 (untold old) (untold new)
-lists_step (Ok names) call wanted old new counts errors = makes_step (plain_list (Ok names)) call wanted 0 old new
-    (counts_ok _ _ _ _ counts) tt
-lists_step (Err why) call wanted old new counts errors = makes_step (Err why) call wanted 0 old new
-    (counts_err why _ _ counts) errors
+lists_step {result = Ok names} counts errors = makes_step (counts_ok _ _ _ _ counts) tt
+lists_step {result = Err why} counts errors = makes_step (counts_err why _ _ counts) errors
 
-pub fronts_step : (result : Result ℕ DiskError) (into : List ℕ) (call : Call)
-    (wanted : List TreeNode → Result (List ℕ) DiskError) (bytes : ℕ) (old new : Tally)
+pub fronts_step : {result : Result ℕ DiskError} (into : List ℕ) {call : Call}
+    {wanted : List TreeNode → Result (List ℕ) DiskError} {bytes : ℕ} {old new : Tally}
     → Counted result (untold old) (untold new) → IfErr result (IsErrorOf call)
     → MakesStep (plain_front result into) call wanted bytes (untold old) (untold new)
-fronts_step (Ok count) into call wanted bytes old new counts errors =
-    makes_step (plain_front (Ok count) into) call wanted bytes old new
-    (counts_ok _ _ _ _ counts) tt
-fronts_step (Err why) into call wanted bytes old new counts errors = makes_step (Err why) call wanted bytes old new
-    (counts_err why _ _ counts) errors
+fronts_step {result = Ok count} into counts errors = makes_step (counts_ok _ _ _ _ counts) tt
+fronts_step {result = Err why} into counts errors = makes_step (counts_err why _ _ counts) errors
 
-pub reads_step : (result : Result FileRead DiskError) (call : Call)
-    (wanted : List TreeNode → Result (Stat × List ℕ) DiskError) (bytes : ℕ) (old new : Tally)
+pub reads_step : {result : Result FileRead DiskError} {call : Call}
+    {wanted : List TreeNode → Result (Stat × List ℕ) DiskError} {bytes : ℕ} {old new : Tally}
     → Counted result (untold old) (untold new) → IfErr result (IsErrorOf call)
     → MakesStep (plain_read result) call wanted bytes (untold old) (untold new)
-reads_step (Ok read) call wanted bytes old new counts errors =
-    makes_step (plain_read (Ok read)) call wanted bytes old new
-    (counts_ok _ _ _ _ counts) tt
-reads_step (Err why) call wanted bytes old new counts errors = makes_step (Err why) call wanted bytes old new
-    (counts_err why _ _ counts) errors
+reads_step {result = Ok read} counts errors = makes_step (counts_ok _ _ _ _ counts) tt
+reads_step {result = Err why} counts errors = makes_step (counts_err why _ _ counts) errors

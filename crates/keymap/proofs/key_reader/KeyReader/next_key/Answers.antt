@@ -6,5 +6,5 @@ returns-in_err-fill-clause-ahead g c = cause_open _ _ c.in_err-fill.ensures.ends
 
 pub returns-clause-key : goal.returns-clause-key
 returns-clause-key g c =
-    gives _ _ _ _ _ _ c.fill.ensures.filled c.in_ok-fill.ensures.ends c.take_key.ensures.first
+    gives c.fill.ensures.filled c.in_ok-fill.ensures.ends c.take_key.ensures.first
     c.take_key.ensures.taken

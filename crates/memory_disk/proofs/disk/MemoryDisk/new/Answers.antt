@@ -8,7 +8,7 @@ use Rattle.memory_disk.proofs.disk.MemoryDisk.new.Goals as goal
 
 pub invariant_of-result : goal.invariant_of-result
 invariant_of-result c =
-    sound_first _ _ _ _ _
+    sound_first
     (ap is_first_tree c.in_ok-first.ensures.tree
     ∙ is_first_tree-stamped (map plain_node c.as_slice.result.now) 1 (rw (← c.as_slice.ensures) at c.requires))
     c.in_ok-first.ensures.clock

@@ -17,7 +17,7 @@ returns-in-Ok-Some-clause-step c =
     (turns c.in-Ok.ensures.ok c.in-Ok-Some.ensures.ok) c.in-Ok-Some.field-0-is (record { is = λ tree. refl })
 
 pub returns-in-Ok-Some-clause-looks : goal.returns-in-Ok-Some-clause-looks
-returns-in-Ok-Some-clause-looks c = called_looks _ _ _ _ _ refl (returns-in-Ok-Some-clause-step c).called
+returns-in-Ok-Some-clause-looks c = called_looks refl (returns-in-Ok-Some-clause-step c).called
 
 pub returns-in-Ok-Some-clause-plays : goal.returns-in-Ok-Some-clause-plays
 returns-in-Ok-Some-clause-plays c =
@@ -41,9 +41,9 @@ pub returns-in_default-names_in-clause-plays : goal.returns-in_default-names_in-
 returns-in_default-names_in-clause-plays c = waits_plays c.in-Ok.ensures.ok refl
 
 pub returns-in-Ok-None-clause-looks : goal.returns-in-Ok-None-clause-looks
-returns-in-Ok-None-clause-looks c = called_looks _ _ _ _ _ refl (returns-in-Ok-None-clause-step c).called
+returns-in-Ok-None-clause-looks c = called_looks refl (returns-in-Ok-None-clause-step c).called
 
 pub returns-in-Ok-None-clause-text : goal.returns-in-Ok-None-clause-text
 returns-in-Ok-None-clause-text c =
     text_names c.in-Ok-names_in.names.items _ c.in-Ok-names_in.ensures
-    (utf8_names (plain_state c.self.inside.state) c.args.dir.now (sound_text _ _ _ _ _ c.self.invariant))
+    (utf8_names (plain_state c.self.inside.state) c.args.dir.now (sound_text c.self.invariant))

@@ -29,7 +29,7 @@ returns-in-Ok-Some-clause-step c =
     (turns c.in-Ok.ensures.ok c.in-Ok-Some.ensures.ok) c.in-Ok-Some.field-0-is (answers c.args.path.now c.args.limit)
 
 pub returns-in-Ok-Some-clause-looks : goal.returns-in-Ok-Some-clause-looks
-returns-in-Ok-Some-clause-looks c = called_looks _ _ _ _ _ refl (returns-in-Ok-Some-clause-step c).called
+returns-in-Ok-Some-clause-looks c = called_looks refl (returns-in-Ok-Some-clause-step c).called
 
 pub returns-in-Ok-Some-clause-plays : goal.returns-in-Ok-Some-clause-plays
 returns-in-Ok-Some-clause-plays c =
@@ -57,4 +57,4 @@ pub returns-in_default-read-clause-plays : goal.returns-in_default-read-clause-p
 returns-in_default-read-clause-plays c = waits_plays c.in-Ok.ensures.ok refl
 
 pub returns-in-Ok-None-clause-looks : goal.returns-in-Ok-None-clause-looks
-returns-in-Ok-None-clause-looks c = called_looks _ _ _ _ _ refl (returns-in-Ok-None-clause-step c).called
+returns-in-Ok-None-clause-looks c = called_looks refl (returns-in-Ok-None-clause-step c).called

@@ -22,7 +22,7 @@ returns-in-Ok-Some-clause-step c =
     c.in-Ok-Some.field-0-is (record { is = λ tree. refl })
 
 pub returns-in-Ok-Some-clause-looks : goal.returns-in-Ok-Some-clause-looks
-returns-in-Ok-Some-clause-looks c = called_looks _ _ _ _ _ refl (returns-in-Ok-Some-clause-step c).called
+returns-in-Ok-Some-clause-looks c = called_looks refl (returns-in-Ok-Some-clause-step c).called
 
 pub returns-in-Ok-Some-clause-plays : goal.returns-in-Ok-Some-clause-plays
 returns-in-Ok-Some-clause-plays c =
@@ -50,4 +50,4 @@ returns-clause-step c =
     (ap length bytes ∙ length-node_bytes (node_at (tree_now (met_by c.args.self.now)) c.args.path.now)))
 
 pub returns-clause-looks : goal.returns-clause-looks
-returns-clause-looks c = called_looks _ _ _ _ _ refl (returns-clause-step c).called
+returns-clause-looks c = called_looks refl (returns-clause-step c).called

@@ -27,7 +27,7 @@ returns-in-Ok-Some-clause-step c =
     c.in-Ok-Some.field-0-is (answers c.args.path.now)
 
 pub returns-in-Ok-Some-clause-looks : goal.returns-in-Ok-Some-clause-looks
-returns-in-Ok-Some-clause-looks c = called_looks _ _ _ _ _ refl (returns-in-Ok-Some-clause-step c).called
+returns-in-Ok-Some-clause-looks c = called_looks refl (returns-in-Ok-Some-clause-step c).called
 
 pub returns-in-Ok-Some-clause-plays : goal.returns-in-Ok-Some-clause-plays
 returns-in-Ok-Some-clause-plays c =
@@ -49,4 +49,4 @@ returns-in-Ok-None-clause-step c =
     refl
 
 pub returns-in-Ok-None-clause-looks : goal.returns-in-Ok-None-clause-looks
-returns-in-Ok-None-clause-looks c = called_looks _ _ _ _ _ refl (returns-in-Ok-None-clause-step c).called
+returns-in-Ok-None-clause-looks c = called_looks refl (returns-in-Ok-None-clause-step c).called

@@ -2,4 +2,4 @@ use Rattle.real_disk.proofs.Counting.{makes_step}
 use Rattle.real_disk.proofs.disk.RealDiskDisk.make_dir.Goals as goal
 
 pub returns-clause-step : goal.returns-clause-step
-returns-clause-step g c = makes_step _ _ _ _ _ _ c.count.ensures.counts c.make_dir_at-answer.ensures
+returns-clause-step g c = makes_step c.count.ensures.counts c.make_dir_at-answer.ensures

@@ -2,4 +2,4 @@ use Rattle.real_disk.proofs.Counting.{reads_step}
 use Rattle.real_disk.proofs.disk.RealDiskDisk.read_all.Goals as goal
 
 pub returns-clause-step : goal.returns-clause-step
-returns-clause-step g c = reads_step _ _ _ _ _ _ c.count.ensures.counts c.read_all_at-answer.ensures.errors
+returns-clause-step g c = reads_step c.count.ensures.counts c.read_all_at-answer.ensures.errors
