@@ -108,9 +108,11 @@ fn append_ascii(line: &mut Line, bytes: &[u8]) -> Result<(), NoMemory>
     Ok(())
 }
 
+// Room is made first for one character past ASCII among eight, since each of them takes two bytes.
 fn append_latin1(line: &mut Line, bytes: &[u8]) -> Result<(), NoMemory>
     ensures { OnOk result (line.new.items ≡ line.old.items ++ encode_utf8_all bytes.now) }
 {
+    line.reserve(bytes.len().saturating_add(bytes.len() / 8))?;
     let mut left = append_front(line, bytes)?;
     while let [first, rest @ ..] = left {
         push_char(line, char::from(*first))?;

@@ -60,7 +60,18 @@ fn push_marks(line: &mut Line, count: usize) -> Result<(), NoMemory>
 
 /// Adds the bytes at the end of the line, as UTF-8 with a `?` in place of each malformed byte. For
 /// want of memory their front may stand there.
+#[tactic(auto, using(crate::proofs::ShownLemmas::shown_utf8))]
 pub fn append_utf8(line: &mut Line, bytes: &[u8]) -> Result<(), NoMemory>
+    ensures { OnOk result (line.new.items ≡ line.old.items ++ spec.utf8_text bytes.now) }
+{
+    match str::from_utf8(bytes) {
+        Ok(text) => line.append(text),
+        Err(_) => append_runs(line, bytes),
+    }
+}
+
+// Adds the runs of UTF-8 of the bytes, and a `?` for each byte between them.
+fn append_runs(line: &mut Line, bytes: &[u8]) -> Result<(), NoMemory>
     ensures { OnOk result (line.new.items ≡ line.old.items ++ spec.utf8_text bytes.now) }
 {
     line.reserve(bytes.len())?;

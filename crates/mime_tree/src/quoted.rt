@@ -71,6 +71,7 @@ pub fn decode_quoted(alloc: Global, text: &[u8]) -> Result<Bytes, NoMemory>
     ensures { IfOk result (λ b. b.items ≡ spec.from_quoted text.now) }
 {
     let mut bytes = Bytes::new(alloc);
+    bytes.reserve(text.len())?;
     for line in text.lines_with_terminator() {
         append_line(&mut bytes, line)?;
     }

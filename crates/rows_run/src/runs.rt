@@ -17,10 +17,10 @@ const OUT_ROOM: usize = 1_000_000;
 /// The most bytes that a case tells.
 const ERRS_ROOM: usize = 10_000;
 
-/// `words` and then each `word` are the command line, `failing keys`, `failing out`, `failing errs`
-/// and `failing disk` the calls that fail, from 0. The clock is `behind` so many seconds. `screen N`
-/// is a whole screen, `row N M` a line of it, both from 1; `pressed` the moment of a key; `after
-/// PATH` what stands there then.
+/// `words` and then each `word` are the command line, `failing keys`, `failing out`, `failing
+/// errs` and `failing disk` the calls that fail, from 0. The clock is `behind` so many seconds.
+/// `screen N` is a whole screen, `row N M` a line of it, both from 1; `pressed` the moment of a
+/// key; `after PATH` what stands there then.
 pub struct WholeRuns;
 
 impl Subject for WholeRuns {

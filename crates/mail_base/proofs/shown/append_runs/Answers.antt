@@ -3,7 +3,7 @@ use Rattle.std.proofs.lemmas.Bool.Decides.{nat_tests}
 use Rattle.std.proofs.lemmas.List.{append-nil}
 use Rattle.mail_base.specs.Shown.{utf8_text}
 use Rattle.mail_base.proofs.ShownLemmas.{utf8_text_none, utf8_text_run}
-use Rattle.mail_base.proofs.shown.append_utf8.Goals as goal
+use Rattle.mail_base.proofs.shown.append_runs.Goals as goal
 
 pub loop-left-preserved : goal.loop-left-preserved
 loop-left-preserved c =
