@@ -32,13 +32,14 @@ Turned (Err status) archive view next key out out' =
     (after_key view key ≡ Some next) × ((rest : List ℕ) × Sent out out' (screen archive next) rest)
 
 -- What the printing of a screen does: it was written, or a front of it was, and then a write failed and was counted, or
--- memory was wanted.
+-- memory was wanted, and no write was tried.
 pub record Shows {T : Type 0} (result : Result T Status) (screen : List ℕ) (out out' : Option (List ℕ))
     (faults faults' : ℕ) : Type 0 where
   pub ok : OnOk result (Appends out out' screen)
   pub err : OnErr result ((rest : List ℕ) × Sent out out' screen rest)
   pub which : IfErr result (λ status. (status ≡ OutFault) ⊎ (status ≡ NoMemory))
   pub cause : IsErrOf result OutFault → Rose faults faults'
+  pub memory : IsErrOf result NoMemory → faults' ≡ faults
   pub later : faults ≤ faults'
 
 -- where keys go on from: the events so far, the place, what was written, the moments to come, the faults of writing

@@ -8,5 +8,6 @@ returns-in_default g c = record {
   err = (_, sent_none _ _);
   which = search rules;
   cause = search rules;
+  memory = search rules;
   later = omega arith;
 }
