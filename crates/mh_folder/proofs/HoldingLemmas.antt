@@ -22,7 +22,7 @@ not_before r s meets = grind (arith, nat_tests)
 upright_bounds : (r : Range) → is_upright r ≡ true → r.first ≤ r.last
 upright_bounds r up = grind (arith, nat_tests)
 
-joined_holds : (m : ℕ) (r s : Range) → is_upright r ≡ true → is_upright s ≡ true
+pub joined_holds : (m : ℕ) (r s : Range) → is_upright r ≡ true → is_upright s ≡ true
     → is_before r s ≡ false → is_before s r ≡ false
     → range_holds m (joined r s) ≡ (range_holds m r || range_holds m s)
 joined_holds m r s up_r up_s meet_1 meet_2 =

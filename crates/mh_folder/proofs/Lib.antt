@@ -1,4 +1,5 @@
 pub mod RangesLemmas
+pub mod RisingLemmas
 pub mod HoldingLemmas
 pub mod ChangeLemmas
 pub mod UprightLemmas

@@ -1,6 +1,6 @@
 -- No range that is read or made is upside down.
 use Rattle.std.proofs.Common.{◌≡◌, ◌==◌, ℕ, Bool, true, false, nat_le, List, [], ◌∷◌, ◌++◌, map}
-use Rattle.std.proofs.Common.{Option, Some, None, refl, ◌∙◌, arith, if◌then◌else◌, codes, unwrap_or}
+use Rattle.std.proofs.Common.{Option, Some, None, refl, sym, subst, ◌∙◌, arith, if◌then◌else◌, codes, unwrap_or}
 use Rattle.std.specs.List.{list_all}
 use Rattle.std.specs.Str.{byte}
 use Rattle.std.proofs.lemmas.Bool.{and_parts, and_from}
@@ -56,7 +56,8 @@ without_upright n (r ∷ ranges) all =
     ∙ and_from (all_upright (parts n r)) _ (parts_upright n r both.0)
     (without_upright n ranges both.1)
 
-ordered_upright : (ranges : List Range) → all_upright ranges ≡ true
+-- ranges in order are upright where all were
+pub ordered_upright : (ranges : List Range) → all_upright ranges ≡ true
     → all_upright (added_to [] ranges) ≡ true
 ordered_upright [] all = refl
 ordered_upright (r ∷ ranges) all =
@@ -127,6 +128,12 @@ read_upright ranges word (b ∷ rest) all =
     by_blank true None up more else_up = refl
     by_blank true (Some read) up more else_up = more read up
     by_blank false o up more else_up = else_up
+
+-- ranges that are read are upright
+pub ranges_upright : (text : List ℕ) (ranges : List Range) → Some ranges ≡ ranges_from [] [] text
+    → list_all is_upright ranges ≡ true
+ranges_upright text ranges is =
+    subst (λ (o : Option (List Range)). uprights_or_none o ≡ true) (sym is) (read_upright [] [] text refl)
 
 abbrev pub line_or_none : Option PlainLine → Bool
 line_or_none None = true

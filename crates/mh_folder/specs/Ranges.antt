@@ -72,6 +72,17 @@ added_to made (r ∷ ranges) = with_range r (added_to made ranges)
 abbrev pub in_order : List Range → List Range
 in_order ranges = added_to [] ranges
 
+-- a range and those behind it, in rising order of their first numbers, joined where they meet
+abbrev pub joined_behind : Range → List Range → List Range
+joined_behind r [] = r ∷ []
+joined_behind r (s ∷ ranges) =
+    if is_before r s then r ∷ joined_behind s ranges else joined_behind (joined r s) ranges
+
+-- the same of ranges that may be none
+abbrev pub joined_sorted : List Range → List Range
+joined_sorted [] = []
+joined_sorted (r ∷ ranges) = joined_behind r ranges
+
 -- a blank, and the range as it is written
 abbrev pub text_of : Range → List ℕ
 text_of r =

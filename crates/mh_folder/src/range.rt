@@ -1,6 +1,9 @@
 //! Ranges of numbers (mh-sequence(5), "Sequences").
 
 ghost use Rattle.std.specs.Prelude.{◌≡◌, ◌++◌, IfOk, OnOk};
+ghost use Rattle.std.specs.Prelude.{true};
+ghost use Rattle.std.specs.List.{list_all};
+ghost use Rattle.mh_folder.specs.Laws.{is_upright};
 ghost use Rattle.mh_folder.specs.Ranges as spec;
 
 use crate::number::read_number;
@@ -174,10 +177,34 @@ fn is_rising(ranges: &[Range]) -> bool
     true
 }
 
-/// The ranges in rising order, of which no two meet. It takes a step for each range where they
-/// stand so already, as other programs write them, and else the square of that.
+// Ranges in rising order of their first numbers, joined where they meet.
+fn join_sorted(alloc: Global, ranges: &[Range]) -> Result<Ranges, NoMemory>
+    ensures { IfOk result (λ r. r.items ≡ spec.joined_sorted ranges.now) }
+{
+    let mut made = Ranges::new(alloc);
+    let [first, rest @ ..] = ranges else {
+        return Ok(made);
+    };
+    let mut range = *first;
+    let mut left = rest;
+    while let [next, behind @ ..] = left {
+        if range.is_before(*next) {
+            made.push(range)?;
+            range = *next;
+        } else {
+            range = range.joined(*next);
+        }
+        left = behind;
+    }
+    made.push(range)?;
+    Ok(made)
+}
+
+/// The ranges in rising order, of which no two meet. Those that stand so already, as other programs
+/// write them, are not sorted.
 #[tactic(auto, using(crate::proofs::RangesLemmas::rising_stays))]
 pub fn in_order(alloc: Global, ranges: Vec<Range>) -> Result<Ranges, NoMemory>
+    requires { list_all is_upright ranges.items ≡ true }
     ensures { IfOk result (λ r. r.items ≡ spec.in_order ranges.items) }
 {
     if is_rising(ranges.as_slice()) {
@@ -186,16 +213,13 @@ pub fn in_order(alloc: Global, ranges: Vec<Range>) -> Result<Ranges, NoMemory>
     put_in_order(alloc, ranges)
 }
 
-#[tactic(auto, using(crate::proofs::RangesLemmas::added_to_append))]
 fn put_in_order(alloc: Global, ranges: Vec<Range>) -> Result<Ranges, NoMemory>
+    requires { list_all is_upright ranges.items ≡ true }
     ensures { IfOk result (λ r. r.items ≡ spec.in_order ranges.items) }
 {
-    let mut made = Ranges::new(alloc);
-    let mut left = ranges;
-    while let Some(range) = left.pop() {
-        made = with_range(alloc, made.as_slice(), range)?;
-    }
-    Ok(made)
+    let mut sorted = ranges;
+    sorted.sort_by_key(|range| range.first)?;
+    join_sorted(alloc, sorted.as_slice())
 }
 
 /// Adds the range as it is written, with a blank before it.
