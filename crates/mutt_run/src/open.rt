@@ -125,8 +125,8 @@ pub fn read_folder(
     archive: &mut Archive,
 ) -> Result<Opened, OpenFault>
     requires { archive.old.items ≡ [] }
-    ensures { ReadsFolder (λ kind. Any (λ d. sort (d.vtable, d.value) ≡ kind) drivers.now.list.items)
-        (map plain_letter archive.new.items) path.now result
+    ensures { ReadsFolder (λ kind. Any (λ d. sort (d.vtable, d.value) ≡ kind)
+        drivers.now.list.items) (map plain_letter archive.new.items) path.now result
         (seen (dev.old.disk.vtable, dev.old.disk.value))
         (seen (dev.new.disk.vtable, dev.new.disk.value)) }
 {
