@@ -1,0 +1,6 @@
+pub mod Pieces
+pub mod Numbers
+pub mod Letters
+pub mod Fields
+pub mod Leaves
+pub mod Formats
