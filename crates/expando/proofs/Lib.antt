@@ -1,2 +1,4 @@
 pub mod NumberLemmas
 pub mod PiecesLemmas
+pub mod ColumnsLemmas
+pub mod LineLemmas

@@ -4,3 +4,6 @@ pub mod Letters
 pub mod Fields
 pub mod Leaves
 pub mod Formats
+pub mod Columns
+pub mod Lines
+pub mod Drawing

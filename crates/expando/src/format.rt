@@ -1,6 +1,6 @@
 //! Formats of lines.
 
-ghost use Rattle.std.specs.Prelude.{◌≡◌, ◌+◌, ◌<◌, ◌^◌, length};
+ghost use Rattle.std.specs.Prelude.{◌≡◌, ◌+◌, ◌<◌, ◌^◌, length, map};
 ghost use Rattle.expando.specs.Formats as spec;
 ghost use Rattle.expando.specs.Pieces.{Gives, piece_map};
 
@@ -32,6 +32,14 @@ impl Model for Format {
     ghost Value = { List PlainPiece };
 
     ghost view = { λ f. plain_pieces f.pieces };
+}
+
+impl Format {
+    pub(crate) fn pieces(&self) -> &[FormatPiece]
+        ensures { map spec.plain_piece result.now ≡ self.now }
+    {
+        self.pieces.as_slice()
+    }
 }
 
 // The first piece of a text that stands at a place.

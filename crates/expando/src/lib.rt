@@ -3,15 +3,22 @@
 //! conditions.
 #![tactic(auto)]
 
+mod cell;
 mod choice;
+mod columns;
 mod condition;
 mod error;
 mod field;
 mod format;
 mod leaf;
 mod letter;
+mod line;
 mod number;
 mod piece;
+mod rendering;
+mod values;
 
 pub use error::FormatError;
 pub use format::{Format, read_format};
+pub use rendering::render;
+pub use values::Values;
