@@ -2,3 +2,4 @@ pub mod NumberLemmas
 pub mod PiecesLemmas
 pub mod ColumnsLemmas
 pub mod LineLemmas
+pub mod Fitting

@@ -137,7 +137,25 @@ fn draw_pieces<V: Values>(
     Ok(())
 }
 
-/// A line of so many columns, made of a format and the texts of its letters.
+fn make_line<V: Values>(
+    alloc: Global,
+    pieces: &[FormatPiece],
+    values: &V,
+    cols: usize,
+) -> Result<Line, NoMemory>
+    ensures { IfOk result (λ line. line.items
+        ≡ spec.line cols (V.texts values.now) (map plain_piece pieces.now)) }
+{
+    let mut cells = Cells::new(alloc);
+    draw_pieces(alloc, &mut cells, pieces, values)?;
+    let mut line = Line::new(alloc);
+    line.reserve(cols)?;
+    push_line(&mut line, cells.as_slice(), cols)?;
+    Ok(line)
+}
+
+/// A line of so many columns, made of a format and the texts of its letters. The characters take
+/// no more than the columns together, and none is a control character.
 pub fn render<V: Values>(
     alloc: Global,
     format: &Format,
@@ -150,11 +168,5 @@ pub fn render<V: Values>(
     ensures plain { list_all (λ c. not (is_control c))
         (spec.shown_line cols (V.texts values.now) format.now) ≡ true }
 {
-    let cols = usize::from(cols);
-    let mut cells = Cells::new(alloc);
-    draw_pieces(alloc, &mut cells, format.pieces(), values)?;
-    let mut line = Line::new(alloc);
-    line.reserve(cols)?;
-    push_line(&mut line, cells.as_slice(), cols)?;
-    Ok(line)
+    make_line(alloc, format.pieces(), values, usize::from(cols))
 }
