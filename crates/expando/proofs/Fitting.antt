@@ -1,6 +1,7 @@
 -- The shape of a line: no wider than its columns, and without control characters.
 use Rattle.std.proofs.Common.{◌≡◌, ◌+◌, ◌-◌, ◌*◌, ◌/◌, ◌%◌, ◌<◌, ◌≤◌, ◌&&◌, ◌==◌, ℕ, zero, suc, Bool, true, false, not}
 use Rattle.std.proofs.Common.{List, [], ◌∷◌, ◌++◌, cond, map, replicate, nat_le, nat_lt, min, refl, ap, sym, ◌∙◌, arith}
+use Rattle.std.proofs.Common.{append_assoc}
 use Rattle.std.proofs.lemmas.Bool.Decides.{nat_tests}
 use Rattle.std.specs.List.{flat_map, list_all}
 use Rattle.std.specs.Str.{chars}
@@ -234,3 +235,87 @@ pub line_plain : (cols : ℕ) (texts : Texts) (pieces : List PlainPiece)
 line_plain cols texts pieces =
     laid_plain (spare cols (drawn texts pieces)) cols (drawn texts pieces)
     (flat_plain (drawn_piece texts) pieces (piece_plain texts))
+
+-- Gaps.
+
+fits_split : (width more cols : ℕ) → width + more ≤ cols → (width ≤ cols) × (more ≤ cols - width)
+fits_split width more cols fits = (omega arith, omega arith)
+
+le_true : (a b : ℕ) → a ≤ b → nat_le a b ≡ true
+le_true a b le = grind (arith, nat_tests)
+
+-- characters that fit are laid as they are
+laid_whole : (gap left : ℕ) (cs : List ℕ) → columns_in cs ≤ left → laid gap left (map Shown cs) ≡ cs
+laid_whole gap left [] fits = refl
+laid_whole gap left (c ∷ cs) fits =
+    let parts = fits_split (columns_of c) (columns_in cs) left fits in
+    ap (λ t. cond t (c ∷ laid gap (left - columns_of c) (map Shown cs)) (blank_in left))
+    (le_true (columns_of c) left parts.0)
+    ∙ ap (λ l. c ∷ l) (laid_whole gap (left - columns_of c) cs parts.1)
+
+-- and those before others, where they leave enough
+laid_front : (gap left : ℕ) (cs : List ℕ) (rest : List Cell) → columns_in cs ≤ left
+    → laid gap left (map Shown cs ++ rest) ≡ cs ++ laid gap (left - columns_in cs) rest
+laid_front gap left [] rest fits = ap (λ n. laid gap n rest) (sym (sub_zero left))
+  where
+    sub_zero : (n : ℕ) → n - 0 ≡ n
+    sub_zero n = omega arith
+laid_front gap left (c ∷ cs) rest fits =
+    let parts = fits_split (columns_of c) (columns_in cs) left fits in
+    ap (λ t. cond t (c ∷ laid gap (left - columns_of c) (map Shown cs ++ rest)) (blank_in left))
+    (le_true (columns_of c) left parts.0)
+    ∙ ap (λ l. c ∷ l) (laid_front gap (left - columns_of c) cs rest parts.1)
+    ∙ ap (λ n. c ∷ (cs ++ laid gap n rest)) (sub_twice left (columns_of c) (columns_in cs))
+  where
+    sub_twice : (n a b : ℕ) → n - a - b ≡ n - (a + b)
+    sub_twice n a b = omega arith
+
+spare_front : (left : ℕ) (cs : List ℕ) (rest : List Cell)
+    → spare left (map Shown cs ++ rest) ≡ spare (left - columns_in cs) rest
+spare_front left [] rest = ap (λ n. spare n rest) (sub_zero left)
+  where
+    sub_zero : (n : ℕ) → n ≡ n - 0
+    sub_zero n = omega arith
+spare_front left (c ∷ cs) rest =
+    spare_front (left - columns_of c) cs rest
+    ∙ ap (λ n. spare n rest) (sub_twice left (columns_of c) (columns_in cs))
+  where
+    sub_twice : (n a b : ℕ) → n - a - b ≡ n - (a + b)
+    sub_twice n a b = omega arith
+
+spare_whole : (left : ℕ) (cs : List ℕ) → spare left (map Shown cs) ≡ left - columns_in cs
+spare_whole left [] = sub_zero left
+  where
+    sub_zero : (n : ℕ) → n ≡ n - 0
+    sub_zero n = omega arith
+spare_whole left (c ∷ cs) = spare_whole (left - columns_of c) cs ∙ sub_twice left (columns_of c) (columns_in cs)
+  where
+    sub_twice : (n a b : ℕ) → n - a - b ≡ n - (a + b)
+    sub_twice n a b = omega arith
+
+gap_size : (cols front back : ℕ) → front + back ≤ cols
+    → min (cols - front - back) (cols - front) ≡ cols - (front + back)
+gap_size cols front back fits = omega arith
+
+back_fits : (cols front back : ℕ) → front + back ≤ cols → back ≤ cols - front - (cols - (front + back))
+back_fits cols front back fits = omega arith
+
+front_fits : (cols front back : ℕ) → front + back ≤ cols → front ≤ cols
+front_fits cols front back fits = omega arith
+
+-- what follows a gap ends at the last column
+pub ends_at_the_last : (cols c : ℕ) (front back : List ℕ) → columns_in front + columns_in back ≤ cols
+    → line_chars cols (map Shown front ++ Gap c ∷ map Shown back)
+    ≡ front ++ filled c (cols - (columns_in front + columns_in back)) ++ back
+ends_at_the_last cols c front back fits =
+    let before = columns_in front in
+    let after = columns_in back in
+    let gap = cols - before - after in
+    let size = cols - (before + after) in
+    ap (λ n. laid n cols (map Shown front ++ Gap c ∷ map Shown back))
+    (spare_front cols front (Gap c ∷ map Shown back) ∙ spare_whole (cols - before) back)
+    ∙ laid_front gap cols front (Gap c ∷ map Shown back) (front_fits cols before after fits)
+    ∙ ap (λ n. front ++ (filled c n ++ laid 0 (cols - before - n) (map Shown back))) (gap_size cols before after fits)
+    ∙ ap (λ l. front ++ (filled c size ++ l))
+    (laid_whole 0 (cols - before - size) back (back_fits cols before after fits))
+    ∙ sym (append_assoc front (filled c size) back)

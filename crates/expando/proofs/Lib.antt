@@ -3,3 +3,4 @@ pub mod PiecesLemmas
 pub mod ColumnsLemmas
 pub mod LineLemmas
 pub mod Fitting
+pub mod PrintedLemmas

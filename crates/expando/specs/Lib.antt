@@ -7,3 +7,5 @@ pub mod Formats
 pub mod Columns
 pub mod Lines
 pub mod Drawing
+pub mod Printed
+pub mod Laws

@@ -10,6 +10,7 @@ mod condition;
 mod error;
 mod field;
 mod format;
+mod laws;
 mod leaf;
 mod letter;
 mod line;
@@ -20,5 +21,6 @@ mod values;
 
 pub use error::FormatError;
 pub use format::{Format, read_format};
+pub use laws::{gaps_are_filled, printed_formats_are_read};
 pub use rendering::render;
 pub use values::Values;

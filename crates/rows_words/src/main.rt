@@ -1,7 +1,8 @@
-//! The worked rows of muttrc and of keys: each case file is read, each case's call made and
-//! compared.
+//! The worked rows of muttrc, of keys and of formats: each case file is read, each case's call made
+//! and compared.
 #![tactic(auto)]
 
+mod formats;
 mod key_functions;
 mod key_queues;
 mod key_streams;
@@ -11,6 +12,7 @@ mod muttrc;
 mod presses;
 mod settings;
 
+use crate::formats::Formats;
 use crate::key_functions::KeyFunctions;
 use crate::key_queues::KeyQueues;
 use crate::key_streams::KeyStreams;
@@ -39,5 +41,6 @@ fn play_all(rt: &HostRuntime, report: &mut Report) -> Result<(), NoMemory> {
     play_file(rt, &KeyWords, "key_words", report)?;
     play_file(rt, &KeyStreams, "key_streams", report)?;
     play_file(rt, &KeyQueues, "key_queues", report)?;
-    play_file(rt, &Presses, "presses", report)
+    play_file(rt, &Presses, "presses", report)?;
+    play_file(rt, &Formats, "formats", report)
 }
