@@ -1,10 +1,10 @@
 -- Characters that are kept at the front of a text, one after the other.
 use Rattle.std.proofs.Common.{◌≡◌, ℕ, ◌+◌, ◌-◌, ◌<◌, ◌≤◌, Bool, true, false, List, [], ◌∷◌, ◌++◌, length, get_or, drop}
-use Rattle.std.proofs.Common.{map, cond, refl, sym, ap, ◌∙◌, nat_le, replicate, arith, zero-add}
+use Rattle.std.proofs.Common.{map, cond, sym, ap, ◌∙◌, nat_le, arith}
 use Rattle.std.proofs.lemmas.Grind.{replicate_next}
 use Rattle.std.proofs.lemmas.List.{at_drop_more, at_drop_all, map-append}
 use Rattle.std.proofs.lemmas.Bool.Decides.{nat_tests}
-use Rattle.expando.specs.Columns.{blanks, columns_in, columns_of, kept, shown_char}
+use Rattle.expando.specs.Columns.{blanks, columns_of, kept, shown_char}
 use Rattle.expando.specs.declared.cell.Cell.TheVariants.{Shown}
 
 -- one more blank

@@ -6,7 +6,7 @@ use Rattle.std.proofs.lemmas.Bool.Decides.{nat_tests}
 use Rattle.std.specs.List.{flat_map, list_all}
 use Rattle.std.specs.Str.{chars}
 use Rattle.expando.specs.Columns.{blanks, columns_in, columns_of, is_control, kept, padded, shown_char, shown_text}
-use Rattle.expando.specs.Drawing.{Texts, branch_of, drawn, drawn_leaf, drawn_leaves, drawn_piece, field_chars, shown_line}
+use Rattle.expando.specs.Drawing.{Texts, branch_of, drawn, drawn_leaf, drawn_piece, field_chars, shown_line}
 use Rattle.expando.specs.Formats.{PlainPiece, Simple, Either}
 use Rattle.expando.specs.Lines.{blank_in, filled, filler, laid, line_chars, spare}
 use Rattle.expando.specs.declared.cell.Cell.{Cell}

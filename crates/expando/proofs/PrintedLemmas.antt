@@ -1,6 +1,6 @@
 -- Formats that are written are read as themselves.
 use Rattle.std.proofs.Common.{◌≡◌, ◌==◌, ◌+◌, ◌-◌, ◌<◌, ◌≤◌, ◌^◌, ◌&&◌, ◌++◌, ℕ, Bool, true, false, not, List, [], ◌∷◌}
-use Rattle.std.proofs.Common.{Option, Some, None, Ok, cond, drop, take, get_or, length, nat_le, nat_lt, option_map}
+use Rattle.std.proofs.Common.{Option, Some, None, Ok, drop, take, get_or, length, nat_le, nat_lt, option_map}
 use Rattle.std.proofs.Common.{refl, sym, ap, subst, ◌∙◌, arith, append_assoc, length-append, position}
 use Rattle.std.proofs.Math.Seq.{drop-append_seam, take-append_seam, drop-append-add}
 use Rattle.std.proofs.lemmas.Bool.{and_parts, eqb-true, false≢true}
@@ -12,23 +12,23 @@ use Rattle.std.specs.Char.{is_ascii_digit}
 use Rattle.std.specs.Fmt.{decimal}
 use Rattle.std.specs.List.{flat_map, list_all, list_any, position_or_len}
 use Rattle.std.specs.Prelude.{codes, encode_utf8, if◌then◌else◌, is_some, min, ok_or}
-use Rattle.std.specs.Str.{all_ascii_digits}
+use Rattle.std.specs.Str.{all_ascii_digits, bytes_eq}
 use Rattle.std.specs.Str.Parse.{digits_value}
 use Rattle.bstr.specs.Utf8.{Decoded, decoded, good}
 use Rattle.bstr.proofs.lemmas.EncodeLemmas.{decoded-encode}
-use Rattle.mail_base.specs.Fronts.{◌>>=◌, behind, behind_text}
+use Rattle.mail_base.specs.Fronts.{◌>>=◌, behind}
 use Rattle.mail_base.specs.Places.{around, split_once}
 use Rattle.mail_base.proofs.RoundPlaces.{prefix_stop}
 use Rattle.expando.specs.Fields.{field_at, limit_at, limit_behind, side_at, width_at}
-use Rattle.expando.specs.Formats.{PlainChoice, PlainPiece, Simple, Either, begins_condition, branches, choice_of}
-use Rattle.expando.specs.Formats.{condition_at, first_choice, first_piece, format_of, marked, or_whole}
+use Rattle.expando.specs.Formats.{PlainChoice, PlainPiece, Simple, Either, PlainCondition, begins_condition, branches}
+use Rattle.expando.specs.Formats.{choice_of, condition_at, first_choice, first_piece, marked, or_whole}
 use Rattle.expando.specs.Laws.{FormatsAreRead}
-use Rattle.expando.specs.Leaves.{behind_percent, filler_at, first_leaf, leaf_at, leaves, sign_at, text_piece}
+use Rattle.expando.specs.Leaves.{behind_percent, filler_at, first_leaf, leaf_at, leaves, text_piece}
 use Rattle.expando.specs.Letters.{date_at, is_date_text, letter, letter_at, letter_behind}
 use Rattle.expando.specs.Numbers.{digits_at, digits_len, is_number, no_limit, number_of, width_of}
 use Rattle.expando.specs.Pieces.{◌>>?◌, Scanned, char_at, char_or_mark, more_bytes, piece_map, piece_until, pieces, with_front}
 use Rattle.expando.specs.Printed.{closing, is_choice, is_empty, is_field, is_field_sign, is_inner, is_leaf, is_letter}
-use Rattle.expando.specs.Printed.{is_piece, lacks, printed, printed_branches, printed_char, printed_choice, printed_field}
+use Rattle.expando.specs.Printed.{is_piece, lacks, printed_branches, printed_char, printed_choice, printed_field}
 use Rattle.expando.specs.Printed.{printed_leaf, printed_leaves, printed_letter, printed_limit, printed_piece, printed_side}
 use Rattle.expando.specs.Printed.{printed_width}
 use Rattle.expando.specs.declared.field.Field.{Field}
@@ -431,12 +431,15 @@ written_before d rest =
 
 abbrev letter_step : List ℕ → Bool → ℕ → ℕ → List ℕ → Option (Field (List ℕ) × List ℕ)
 letter_step letters left width limit text =
-    letter_at letters text >>= (λ found. Some (record {
-      letter = found.0;
-      left = left;
-      width = width;
-      limit = limit;
-    }, found.1))
+    letter_at letters text >>= (λ found. Some (
+      record {
+        letter = found.0;
+        left = left;
+        width = width;
+        limit = limit;
+      },
+      found.1,
+    ))
 
 abbrev limit_step : List ℕ → Bool → ℕ → List ℕ → Option (Field (List ℕ) × List ℕ)
 limit_step letters left width text = limit_at text >>= (λ limit. letter_step letters left width limit.0 limit.1)
@@ -463,12 +466,15 @@ field_read letters d rest ok =
     (width_read d.width limited can.width_is limited_digit)
     ∙ ap (λ o. o >>= (λ limit. letter_step letters d.left d.width limit.0 limit.1))
     (limit_read d.limit last can.limit_is last_digit last_point)
-    ∙ ap (λ o. o >>= (λ found. Some (record {
-      letter = found.0;
-      left = d.left;
-      width = d.width;
-      limit = d.limit;
-    }, found.1))) (letter_read letters d.letter rest can.letter_is)
+    ∙ ap (λ o. o >>= (λ found. Some (
+      record {
+        letter = found.0;
+        left = d.left;
+        width = d.width;
+        limit = d.limit;
+      },
+      found.1,
+    ))) (letter_read letters d.letter rest can.letter_is)
 
 field_starts : (letters : List ℕ) (d : Field (List ℕ)) (rest : List ℕ) → is_field letters d ≡ true
     → starts is_field_start (printed_field d ++ rest) ≡ true
@@ -534,8 +540,181 @@ leaf_some letters (Fill c) ok = omega arith
 leaf_some letters (ToEnd c) ok = omega arith
 
 -- leaves that are written are read as themselves
-pub leaves_read : (letters : List ℕ) (xs : List (Leaf (List ℕ))) (place : ℕ) → list_all (is_leaf letters) xs ≡ true
+leaves_read : (letters : List ℕ) (xs : List (Leaf (List ℕ))) (place : ℕ) → list_all (is_leaf letters) xs ≡ true
     → leaves letters place (printed_leaves xs) ≡ Ok xs
 leaves_read letters xs place all =
     printed_read (first_leaf letters) printed_leaf (is_leaf letters) (leaf_some letters)
     (λ leaf at rest ok. ap (λ o. ok_or o at) (leaf_read letters leaf rest ok)) xs place all
+
+-- Conditions.
+
+other_front : (b : ℕ) (rest : List ℕ) → (b == 37) ≡ false → begins_condition (b ∷ rest) ≡ false
+other_front b rest other =
+    ap (λ t. is_some (if t && bytes_eq (take 1 rest) (63 ∷ []) then Some (drop 1 rest) else None)) other
+
+percent_front : (b : ℕ) (rest : List ℕ) → (b == 63) ≡ false → begins_condition (37 ∷ b ∷ rest) ≡ false
+percent_front b rest other =
+    ap (λ t. is_some (if t && bytes_eq (take 0 rest) [] then Some (drop 0 rest) else None)) other
+
+char_front : (text : List ℕ) (c size : ℕ) → decoded text ≡ good c size → (c == 37) ≡ false
+    → begins_condition text ≡ false
+char_front [] c size read other = absurd (none_read c size read)
+char_front (b ∷ rest) c size read other = other_front b rest (other_byte b c size rest read other)
+
+field_front : (text : List ℕ) → starts is_field_start text ≡ true → begins_condition (37 ∷ text) ≡ false
+field_front [] begins = absurd (false≢true begins)
+field_front (b ∷ rest) begins = percent_front b rest (start_parts b begins).3
+
+leaf_front : (letters : List ℕ) (leaf : Leaf (List ℕ)) (rest : List ℕ) → is_leaf letters leaf ≡ true
+    → begins_condition (printed_leaf leaf ++ rest) ≡ false
+leaf_front letters (Text c) rest ok = by_test (c == 37) refl
+  where
+    by_test : (t : Bool) → (c == 37) ≡ t
+        → begins_condition ((if t then codes "%%" else encode_utf8 c) ++ rest) ≡ false
+    by_test true e = percent_front 37 rest refl
+    by_test false e =
+        char_front (encode_utf8 c ++ rest) c (length (encode_utf8 c)) (decoded-encode c rest ok) e
+leaf_front letters (Value d) rest ok = field_front (printed_field d ++ rest) (field_starts letters d rest ok)
+leaf_front letters (Fill c) rest ok = percent_front 62 (encode_utf8 c ++ rest) refl
+leaf_front letters (ToEnd c) rest ok = percent_front 124 (encode_utf8 c ++ rest) refl
+
+-- what a condition can be written of
+record CanBeAsked (letters : List ℕ) (c : PlainChoice) : Type 0 where
+  test_is : is_letter letters c.test ≡ true
+  some_are : list_all (is_leaf letters) c.some ≡ true
+  none_are : list_all (is_leaf letters) c.none ≡ true
+  some_one : lacks 38 (printed_leaves c.some) ≡ true
+  some_open : lacks 63 (printed_leaves c.some) ≡ true
+  none_open : lacks 63 (printed_leaves c.none) ≡ true
+
+can_be_asked : (letters : List ℕ) (c : PlainChoice) → is_choice letters c ≡ true → CanBeAsked letters c
+can_be_asked letters c ok =
+    let test = is_letter letters c.test in
+    let some = list_all (is_leaf letters) c.some in
+    let none = list_all (is_leaf letters) c.none in
+    let one = lacks 38 (printed_leaves c.some) in
+    let open_some = lacks 63 (printed_leaves c.some) in
+    let fifth = and_parts (test && some && none && one && open_some) (lacks 63 (printed_leaves c.none)) ok in
+    let fourth = and_parts (test && some && none && one) open_some fifth.0 in
+    let third = and_parts (test && some && none) one fourth.0 in
+    let second = and_parts (test && some) none third.0 in
+    let first = and_parts test some second.0 in
+    record {
+      test_is = first.0;
+      some_are = first.1;
+      none_are = second.1;
+      some_one = third.1;
+      some_open = fourth.1;
+      none_open = fifth.1;
+    }
+
+and_both : (a b : Bool) → a ≡ true → b ≡ true → (a && b) ≡ true
+and_both a b first second = ap (λ (t : Bool). t && b) first ∙ second
+
+open_branches : (letters : List ℕ) (c : PlainChoice) → CanBeAsked letters c → lacks 63 (printed_branches c) ≡ true
+open_branches letters c can =
+    list_all-append (λ x. not (x == 63)) (printed_leaves c.some) (38 ∷ printed_leaves c.none)
+    ∙ and_both (lacks 63 (printed_leaves c.some)) (lacks 63 (38 ∷ printed_leaves c.none)) can.some_open can.none_open
+
+-- a condition as it is written, before other bytes
+abbrev behind_test : PlainChoice → List ℕ → List ℕ
+behind_test c rest = 63 ∷ (printed_branches c ++ 63 ∷ rest)
+
+asked_before : (c : PlainChoice) (rest : List ℕ)
+    → printed_choice c ++ rest ≡ 37 ∷ 63 ∷ (printed_letter c.test ++ behind_test c rest)
+asked_before c rest =
+    ap (λ s. 37 ∷ 63 ∷ s)
+    (append_assoc (printed_letter c.test) (63 ∷ (printed_branches c ++ 63 ∷ [])) rest
+    ∙ ap (λ s. printed_letter c.test ++ 63 ∷ s) (append_assoc (printed_branches c) (63 ∷ []) rest))
+
+abbrev condition_of : PlainChoice → ℕ → List ℕ → PlainCondition
+condition_of c front rest = record {
+  test = c.test;
+  inner = printed_branches c;
+  front = front;
+  rest = rest;
+}
+
+abbrev marked_step : List ℕ → Letter (List ℕ) → List ℕ → Option PlainCondition
+marked_step text test inner = marked inner >>= (λ parts. Some (record {
+  test = test;
+  inner = parts.0;
+  front = length text - length inner;
+  rest = parts.1;
+}))
+
+condition_read : (letters : List ℕ) (c : PlainChoice) (rest : List ℕ) → CanBeAsked letters c
+    → (let text = 37 ∷ 63 ∷ (printed_letter c.test ++ behind_test c rest) in
+    condition_at letters text
+    ≡ Some (condition_of c (length text - length (printed_branches c ++ 63 ∷ rest)) rest))
+condition_read letters c rest can =
+    let text = 37 ∷ 63 ∷ (printed_letter c.test ++ behind_test c rest) in
+    ap (λ o. o >>= (λ found. behind 63 found.1 >>= (λ inner. marked_step text found.0 inner)))
+    (letter_read letters c.test (behind_test c rest) can.test_is)
+    ∙ ap (λ o. o >>= (λ parts. Some (record {
+      test = c.test;
+      inner = parts.0;
+      front = length text - length (printed_branches c ++ 63 ∷ rest);
+      rest = parts.1;
+    }))) (split_read 63 (printed_branches c) rest (open_branches letters c can))
+
+branches_read : (letters : List ℕ) (c : PlainChoice) → CanBeAsked letters c
+    → branches (printed_branches c) ≡ (printed_leaves c.some, printed_leaves c.none)
+branches_read letters c can =
+    ap (or_whole (printed_branches c)) (split_read 38 (printed_leaves c.some) (printed_leaves c.none) can.some_one)
+
+choice_read : (letters : List ℕ) (c : PlainChoice) (place : ℕ) → CanBeAsked letters c
+    → choice_of letters place c.test (printed_leaves c.some, printed_leaves c.none) ≡ Ok c
+choice_read letters c place can =
+    let some = printed_leaves c.some in
+    let none = printed_leaves c.none in
+    ap (λ r. r >>? (λ shown. leaves letters (place + length some + 1) none
+    >>? (λ other. Ok (record { test = c.test; some = shown; none = other }))))
+    (leaves_read letters c.some place can.some_are)
+    ∙ ap (λ r. r >>? (λ other. Ok (record { test = c.test; some = c.some; none = other })))
+    (leaves_read letters c.none (place + length some + 1) can.none_are)
+
+abbrev choice_step : List ℕ → ℕ → List ℕ → Option PlainCondition → Scanned (Piece PlainChoice)
+choice_step letters place text o =
+    ok_or o place
+    >>? (λ c. choice_of letters (place + c.front) c.test (branches c.inner)
+    >>? (λ choice. Ok (record { value = choice; more = more_bytes text c.rest })))
+
+first_read : (letters : List ℕ) (c : PlainChoice) (place : ℕ) (rest : List ℕ) → CanBeAsked letters c
+    → first_choice letters place (printed_choice c ++ rest) ≡ Ok (piece_of printed_choice c)
+first_read letters c place rest can =
+    let text = 37 ∷ 63 ∷ (printed_letter c.test ++ behind_test c rest) in
+    let front = length text - length (printed_branches c ++ 63 ∷ rest) in
+    let more : more_bytes text rest ≡ length (printed_choice c) - 1 =
+    ap (λ s. length s - length rest - 1) (sym (asked_before c rest)) ∙ more_printed (printed_choice c) rest in
+    ap (first_choice letters place) (asked_before c rest)
+    ∙ ap (choice_step letters place text) (condition_read letters c rest can)
+    ∙ ap (λ parts. choice_of letters (place + front) c.test parts
+    >>? (λ choice. Ok (record { value = choice; more = more_bytes text rest }))) (branches_read letters c can)
+    ∙ ap (λ r. r >>? (λ choice. Ok (record { value = choice; more = more_bytes text rest })))
+    (choice_read letters c (place + front) can)
+    ∙ ap (λ n. Ok (record { value = c; more = n })) more
+
+-- Formats.
+
+piece_read : (letters : List ℕ) (piece : PlainPiece) (place : ℕ) (rest : List ℕ) → is_piece letters piece ≡ true
+    → first_piece letters place (printed_piece piece ++ rest) ≡ Ok (piece_of printed_piece piece)
+piece_read letters (Simple leaf) place rest ok =
+    let text = printed_leaf leaf ++ rest in
+    ap (λ t. if t then (first_choice letters place text >>? (λ piece. Ok (piece_map Either piece)))
+    else (first_leaf letters place text >>? (λ piece. Ok (piece_map Simple piece)))) (leaf_front letters leaf rest ok)
+    ∙ ap (λ o. ok_or o place >>? (λ piece. Ok (piece_map Simple piece))) (leaf_read letters leaf rest ok)
+piece_read letters (Either c) place rest ok =
+    ap (λ r. r >>? (λ piece. Ok (piece_map Either piece)))
+    (first_read letters c place rest (can_be_asked letters c ok))
+
+piece_some : (letters : List ℕ) (piece : PlainPiece) → is_piece letters piece ≡ true
+    → 0 < length (printed_piece piece)
+piece_some letters (Simple leaf) ok = leaf_some letters leaf ok
+piece_some letters (Either c) ok = omega arith
+
+-- a format that is written is read as itself
+pub formats_are_read : FormatsAreRead
+formats_are_read letters pieces all =
+    printed_read (first_piece letters) printed_piece (is_piece letters) (piece_some letters)
+    (λ piece place rest ok. piece_read letters piece place rest ok) pieces 0 all

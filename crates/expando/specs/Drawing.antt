@@ -1,5 +1,5 @@
 -- A line of the screen from a format and the texts of its letters.
-use Rattle.std.specs.Prelude.{◌==◌, ◌++◌, ℕ, Bool, true, false, List, [], ◌∷◌, map, if◌then◌else◌}
+use Rattle.std.specs.Prelude.{◌==◌, ℕ, Bool, true, false, List, [], ◌∷◌, map, if◌then◌else◌}
 use Rattle.std.specs.List.{flat_map}
 use Rattle.std.specs.Str.{byte, encode_utf8_all}
 use Rattle.expando.specs.Columns.{kept, padded, shown_char, shown_text}

@@ -1,5 +1,5 @@
 -- A field of a line: a letter, and the columns that its text takes.
-use Rattle.std.specs.Prelude.{◌==◌, ℕ, Bool, true, false, List, [], ◌∷◌, Option, Some, None, option_map}
+use Rattle.std.specs.Prelude.{◌==◌, ℕ, Bool, true, false, List, [], ◌∷◌, Option, Some, option_map}
 use Rattle.std.specs.Prelude.{if◌then◌else◌}
 use Rattle.std.specs.Str.{byte}
 use Rattle.mail_base.specs.Fronts.{◌>>=◌}
@@ -39,9 +39,12 @@ field_at letters text = do
   width ← width_at (side_at text).1
   limit ← limit_at width.1
   found ← letter_at letters limit.1
-  Some (record {
-    letter = found.0;
-    left = (side_at text).0;
-    width = width.0;
-    limit = limit.0;
-  }, found.1)
+  Some (
+    record {
+      letter = found.0;
+      left = (side_at text).0;
+      width = width.0;
+      limit = limit.0;
+    },
+    found.1,
+  )

@@ -1,4 +1,4 @@
-use Rattle.std.proofs.Common.{◌≡◌, ℕ, ◌+◌, ◌-◌, ◌<◌, ◌≤◌, List, ◌∷◌, ◌++◌, [], length, drop, sym, ap, subst, ◌∙◌}
+use Rattle.std.proofs.Common.{ℕ, ◌+◌, ◌-◌, ◌<◌, ◌≤◌, List, ◌∷◌, ◌++◌, [], length, drop, sym, ap, subst, ◌∙◌}
 use Rattle.std.proofs.Common.{arith, add-zero}
 use Rattle.std.proofs.lemmas.Iterator.{YieldsList-from_chars}
 use Rattle.std.proofs.lemmas.Iterator.Consumers.{YieldsList-turn, YieldsList-end}
@@ -35,12 +35,12 @@ loop-c-preserved c =
     let within : left ≤ limit = c.loop-c.invariant.within in
     record {
       counted = ap (λ (w : ℕ). limit - (left - w) + columns_in (kept_from (left - w)
-      (drop (length (c.loop-c.yielded ++ c.in-Some.c ∷ [])) cs))) width
-      ∙ ap (λ (k : ℕ). limit - (left - columns_of shown) + columns_in (kept_from (left - columns_of shown) (drop k cs)))
-      (length_push c.loop-c.yielded c.in-Some.c)
-      ∙ counted_more limit left (columns_of shown) _ within fits
-      ∙ ap (λ (s : List ℕ). limit - left + columns_in s) (sym (kept_fit left n c.in-Some.c cs t fits))
-      ∙ c.loop-c.invariant.counted;
+          (drop (length (c.loop-c.yielded ++ c.in-Some.c ∷ [])) cs))) width
+          ∙ ap (λ (k : ℕ). limit - (left - columns_of shown) + columns_in (kept_from (left - columns_of shown) (drop k cs)))
+          (length_push c.loop-c.yielded c.in-Some.c)
+          ∙ counted_more limit left (columns_of shown) _ within fits
+          ∙ ap (λ (s : List ℕ). limit - left + columns_in s) (sym (kept_fit left n c.in-Some.c cs t fits))
+          ∙ c.loop-c.invariant.counted;
       within = omega arith;
     }
 

@@ -1,4 +1,3 @@
-use Rattle.std.proofs.Common.{rules}
 use Rattle.expando.proofs.NumberLemmas.{number_capped}
 use Rattle.expando.proofs.number.number_of.Goals as goal
 
