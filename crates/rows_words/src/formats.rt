@@ -81,10 +81,8 @@ impl Values for Texts {
     ghost use Rattle.std.specs.Option.{option_map_or};
     ghost use Rattle.mail_base.specs.Shown.{utf8_text};
 
-    ghost texts = {
-        λ t letter inner. utf8_text (option_map_or (λ text. text.items)
-            (slice_get t.texts.items letter) []) ++ utf8_text inner
-    };
+    ghost texts = { λ t letter inner. utf8_text (option_map_or (λ text. text.items)
+        (slice_get t.texts.items letter) []) ++ utf8_text inner };
 
     fn text(&self, alloc: Global, letter: u8, inner: &[u8]) -> Result<Line, NoMemory> {
         let mut line = Line::new(alloc);
