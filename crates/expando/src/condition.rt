@@ -26,7 +26,8 @@ fn split_marked(text: &[u8]) -> Option<(&[u8], &[u8])>
 
 /// The condition at the front of a text.
 pub fn condition_at<'a>(text: &'a [u8], letters: &[u8]) -> Option<Condition<'a>>
-    ensures value { option_map spec.plain_condition result ≡ spec.condition_at letters.now text.now }
+    ensures value { option_map spec.plain_condition result
+        ≡ spec.condition_at letters.now text.now }
     ensures within { IfSome result (λ c. c.front + length c.inner.now < length text.now) }
 {
     let asked = behind_text(b"%?", text)?;

@@ -39,7 +39,8 @@ fn filler(c: char) -> char
 // Fills columns with a character as often as it fits, and then with blanks.
 #[tactic(auto, using(crate::proofs::LineLemmas::added_twice))]
 fn push_filled(line: &mut Line, c: char, count: usize) -> Result<(), NoMemory>
-    ensures { OnOk result (line.new.items ≡ line.old.items ++ encode_utf8_all (spec.filled c count)) }
+    ensures { OnOk result (line.new.items
+        ≡ line.old.items ++ encode_utf8_all (spec.filled c count)) }
 {
     let c = filler(c);
     let columns = columns_of(c);
