@@ -99,7 +99,7 @@ folder_if p q names false true is file at there =
     false_true : ◌≡◌ {A = Bool} false true → ⊥
     false_true e = cc
 
-folder_kept : (p q : List ℕ) (names : List Name) → is_folder (name_at names p) ≡ false
+pub folder_kept : (p q : List ℕ) (names : List Name) → is_folder (name_at names p) ≡ false
     → is_folder (name_at names q) ≡ true → is_folder (name_at (without p names) q) ≡ true
 folder_kept p q names file there =
     ap (λ (r : Option (Option ℕ)). is_folder (if is_root q then Some None else r)) (name_in-without p names q)
@@ -223,7 +223,7 @@ still_if p q names true same file = file
 still_if p q names false true file = refl
 still_if p q names false false file = file
 
-still_no_folder : (p q : List ℕ) (names : List Name) → is_folder (name_at names q) ≡ false
+pub still_no_folder : (p q : List ℕ) (names : List Name) → is_folder (name_at names q) ≡ false
     → is_folder (name_at (without p names) q) ≡ false
 still_no_folder p q names file =
     ap (λ (r : Option (Option ℕ)). is_folder (if is_root q then Some None else r)) (name_in-without p names q)

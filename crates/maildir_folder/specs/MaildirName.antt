@@ -5,8 +5,9 @@ use Rattle.std.specs.Prelude.{is_none, if◌then◌else◌}
 use Rattle.std.specs.List.{filter, list_any}
 use Rattle.std.specs.Option.{option_or}
 use Rattle.std.specs.Str.{byte}
-use Rattle.mail_base.specs.Fronts.{behind_text}
 use Rattle.mail_base.specs.declared.flags.Flags.{Flags}
+pub use Rattle.folder_core.specs.MaildirNames.{begins_dot, flags_of, has_letter, last_letters, mark, split_at_mark}
+pub use Rattle.folder_core.specs.MaildirNames.{split_name}
 use Rattle.maildir_folder.specs.declared.maildir_name.MaildirName.{MaildirName}
 
 -- what a name tells: the letters that stand for no flag are the others
@@ -18,39 +19,6 @@ pub record PlainName : Type 0 where
 abbrev pub plain_name : MaildirName → PlainName
 plain_name n = record { base = n.base.items; flags = n.flags; others = n.others.items }
 
--- what parts the base from the letters
-abbrev pub mark : List ℕ
-mark = codes ":2,"
-
--- what stands behind the last mark
-abbrev pub last_letters : List ℕ → Option (List ℕ)
-last_letters [] = None
-last_letters (b ∷ rest) = option_or (last_letters rest) (behind_text mark (b ∷ rest))
-
--- the base, and the letters behind its mark
-abbrev pub split_at_mark : List ℕ → Option (List ℕ) → List ℕ × List ℕ
-split_at_mark name None = (name, [])
-split_at_mark name (Some letters) = (take (length name - length letters - 3) name, letters)
-
--- the base is what stands before the last mark, or the whole name
-abbrev pub split_name : List ℕ → List ℕ × List ℕ
-split_name name = split_at_mark name (last_letters name)
-
-abbrev pub has_letter : List ℕ → ℕ → Bool
-has_letter letters letter = list_any (λ b. b == letter) letters
-
--- draft, flagged, passed, replied, seen and trashed by their letters; a name in `cur` is aged
-abbrev pub flags_of : Bool → List ℕ → Flags
-flags_of in_cur letters = record {
-  seen = has_letter letters (byte "S");
-  aged = in_cur || has_letter letters (byte "S");
-  replied = has_letter letters (byte "R");
-  flagged = has_letter letters (byte "F");
-  passed = has_letter letters (byte "P");
-  draft = has_letter letters (byte "D");
-  trashed = has_letter letters (byte "T");
-}
-
 -- a letter that stands for no flag
 abbrev pub is_other : ℕ → Bool
 is_other letter = not (has_letter (codes "DFPRST") letter)
@@ -58,10 +26,6 @@ is_other letter = not (has_letter (codes "DFPRST") letter)
 abbrev pub parts_read : Bool → List ℕ × List ℕ → PlainName
 parts_read in_cur parts =
     record { base = parts.0; flags = flags_of in_cur parts.1; others = filter is_other parts.1 }
-
-abbrev pub begins_dot : List ℕ → Bool
-begins_dot [] = false
-begins_dot (b ∷ rest) = b == byte "."
 
 -- what a name tells, if it does not begin with a dot
 abbrev pub name_read : Bool → List ℕ → Option PlainName

@@ -1,12 +1,13 @@
 -- What a scan has seen, by what its read has seen.
-use Rattle.std.proofs.Common.{◌≡◌, ◌+◌, ◌<◌, ℕ, Bool, true, false, List, [], ◌∷◌, Option, Some, None, Ok}
+use Rattle.std.proofs.Common.{◌≡◌, ◌+◌, ◌++◌, ◌<◌, ◌≤◌, ℕ, Bool, true, false, List, [], ◌∷◌, Option, Some, None, Ok}
 use Rattle.std.proofs.Common.{Err, length, map, nat_lt, if◌then◌else◌, refl, sym, ◌∙◌, ap, subst, arith}
 use Rattle.std.proofs.lemmas.Bool.{ltb-false, ltb-true}
 use Rattle.mail_base.specs.declared.kind.Kind.TheVariants.{Mbox}
 use Rattle.disk_model.specs.Tree.{TreeNode, node_at}
-use Rattle.disk_model.specs.Journal.{Past}
+use Rattle.disk_model.specs.Journal.{NoForeign, Past}
 use Rattle.disk_model.specs.Judge.{GoesOn}
-use Rattle.disk_model.specs.State.{tree_at}
+use Rattle.disk_model.specs.State.{tree_after, tree_at}
+use Rattle.disk_model.proofs.Marks.{tree_at-length}
 use Rattle.disk_model.specs.declared.answers.FileRead.{FileRead}
 use Rattle.folder_core.specs.declared.error.ScanError.{ScanError}
 use Rattle.folder_core.specs.declared.error.ScanError.TheVariants.{Missing, NotMailbox, TooMany, TooLarge, Unfinished}
@@ -14,26 +15,48 @@ use Rattle.folder_core.specs.declared.error.ScanError.TheVariants.{ArchiveFull, 
 use Rattle.folder_core.specs.declared.listing.Found.{Found}
 use Rattle.folder_core.specs.Known.{KnownFolder}
 use Rattle.folder_core.specs.Letters.{Mail}
-use Rattle.folder_core.specs.Mbox.{begins_mailbox, raw_messages}
-use Rattle.folder_core.specs.Reads.{bytes_refusal, count_refusal, letters_from, listed_from, messages_of}
-use Rattle.folder_core.specs.Reads.{most_letters, most_messages}
-use Rattle.folder_core.specs.Scanned.{IsScanned, ListsNew, Saw, ids_from}
+use Rattle.folder_core.specs.Directory.{AloneBetween}
+use Rattle.folder_core.specs.Limits.{count_refusal, most_letters, most_messages}
+use Rattle.folder_core.specs.Mbox.{begins_mailbox, bytes_refusal, mbox_format, mbox_letter, mbox_message, mbox_refusal}
+use Rattle.folder_core.specs.Mbox.{mbox_refused, messages_of, raw_messages, status}
+use Rattle.folder_core.specs.Reads.{letters_from as message_letters, listed_from as message_listing}
+use Rattle.folder_core.specs.Scanned.{ListsNew, Saw, ids_from}
+use Rattle.folder_core.specs.declared.listing.Listed.{Listed}
+use Rattle.folder_core.proofs.SeenLemmas.{alone_foreign, goes_as}
 use Rattle.mbox_folder.specs.FileSeen.{FileSeen, IsRead}
-use Rattle.mbox_folder.specs.ListedFile.{IsListedFile, IsUnlisted, ListsFile, known_file}
+use Rattle.mbox_folder.specs.ListedFile.{IsListedFile, IsStatedCause, IsUnlisted, ListsFile, known_file}
+use Rattle.mbox_folder.specs.ListedFile.{letters_from, listed_from}
 
 -- A listed file was seen.
 
 -- a file that is not refused is a mailbox
 messages_listed : (letters : ℕ) (bytes : List ℕ) → bytes_refusal letters bytes ≡ None
-    → messages_of bytes ≡ Some (raw_messages bytes)
+    → messages_of bytes ≡ Some (map mbox_message (raw_messages bytes))
 messages_listed letters bytes taken = begun (begins_mailbox bytes) refl
   where
-    begun : (t : Bool) → begins_mailbox bytes ≡ t → messages_of bytes ≡ Some (raw_messages bytes)
-    begun true begins = ap (λ (b : Bool). if b then Some (raw_messages bytes) else None) begins
+    begun : (t : Bool) → begins_mailbox bytes ≡ t → messages_of bytes ≡ Some (map mbox_message (raw_messages bytes))
+    begun true begins = ap (λ (b : Bool). if b then Some (map mbox_message (raw_messages bytes)) else None) begins
     begun false begins =
         let no : Some (NotMailbox 0) ≡ None =
         sym (ap (λ (b : Bool). if b then count_refusal letters (length (raw_messages bytes)) else Some (NotMailbox 0))
         begins) ∙ taken in absurd (cc)
+
+-- letters and listing by the bytes alone are those of the messages
+letters_same : (id : ℕ) (raws : List (List ℕ))
+    → letters_from id raws ≡ message_letters mbox_format id (map mbox_message raws)
+letters_same id [] = refl
+letters_same id (raw ∷ raws) = ap (λ (l : List Mail). mbox_letter id raw ∷ l) (letters_same (id + 1) raws)
+
+listed_same : (id : ℕ) (raws : List (List ℕ)) → listed_from id raws ≡ message_listing id (map mbox_message raws)
+listed_same id [] = refl
+listed_same id (raw ∷ raws) =
+    ap (λ (l : List Listed). record { id = record { 0 = id }; flags = status raw } ∷ l) (listed_same (id + 1) raws)
+
+-- the tree at the mark of a read is that at the end, where nobody else acted
+alone_tree : (mark : ℕ) (past next : Past) → (NoForeign past next → tree_at next mark ≡ tree_after next)
+    → AloneBetween (length past.journal) (length next.journal) next
+    → tree_at next mark ≡ tree_at next (length next.journal)
+alone_tree mark past next alone none = alone (alone_foreign past next none) ∙ sym (tree_at-length next)
 
 saw_listed : (file : FileRead) (found : Found) (archive new_archive : List Mail) (known : KnownFolder)
     (old new : Option Past)
@@ -43,19 +66,20 @@ saw_listed : (file : FileRead) (found : Found) (archive new_archive : List Mail)
 saw_listed file found archive new_archive known None new listed seen = seen
 saw_listed file found archive new_archive known (Some past) None listed seen = absurd seen
 saw_listed file found archive new_archive known (Some past) (Some next) listed seen = record {
-  mark = seen.mark;
-  from = seen.from;
-  to = seen.to;
-  seen = record {
+  messages = map mbox_message (raw_messages file.bytes.items);
+  saw = record {
+    mark = seen.mark;
+    from = seen.from;
+    to = seen.to;
     taken = seen.is.refused (length archive) ∙ listed.taken;
-    messages = raw_messages file.bytes.items;
     read = seen.is.messages ∙ messages_listed (length archive) file.bytes.items listed.taken;
-    letters = listed.letters;
-    listed = listed.listed;
     bytes = sym seen.is.bytes;
     stamps = sym seen.is.stamps;
+    alone = alone_tree seen.mark past next seen.alone;
   };
-  alone = seen.alone;
+  letters = listed.letters ∙ ap (λ (l : List Mail). archive ++ l)
+      (letters_same (length archive) (raw_messages file.bytes.items));
+  listed = listed.listed ∙ listed_same (length archive) (raw_messages file.bytes.items);
 }
 
 pub saw_found : (file : FileRead) (found : Found) (archive new_archive : List Mail) (known new_known : KnownFolder)
@@ -69,55 +93,62 @@ saw_found file found archive new_archive known new_known old new lists seen =
 
 -- A refusal was seen.
 
-read_tells : (why : ScanError) (tree : List TreeNode) (archive new_archive : List Mail) (known : KnownFolder)
-    → IsRead (Err why) (node_at tree known.path) → IsScanned Mbox tree archive new_archive known (Err why)
-read_tells Missing tree archive new_archive known is = is (length archive)
-read_tells (NotMailbox place) tree archive new_archive known is = is (length archive)
-read_tells (TooMany count) tree archive new_archive known is = is (length archive)
-read_tells (TooLarge size) tree archive new_archive known is = is (length archive)
-read_tells Unfinished tree archive new_archive known is = is (length archive)
-read_tells ArchiveFull tree archive new_archive known is = is (length archive)
-read_tells Fault tree archive new_archive known is = tt
-read_tells NoMemory tree archive new_archive known is = tt
+-- a cause that the tree shows at a mark
+refused_at : (why : ScanError) (letters : ℕ) (path : List ℕ) (mark m n : ℕ) (past : Past) → m ≤ mark → mark ≤ n
+    → IsStatedCause why (mbox_refusal letters (node_at (tree_at past mark) path))
+    → mbox_refused letters path why m n past
+refused_at Missing letters path mark m n past from to is = record { mark = mark; from = from; to = to; refused = is }
+refused_at (NotMailbox place) letters path mark m n past from to is =
+    record { mark = mark; from = from; to = to; refused = is }
+refused_at (TooMany count) letters path mark m n past from to is =
+    record { mark = mark; from = from; to = to; refused = is }
+refused_at (TooLarge size) letters path mark m n past from to is =
+    record { mark = mark; from = from; to = to; refused = is }
+refused_at Unfinished letters path mark m n past from to is =
+    record { mark = mark; from = from; to = to; refused = is }
+refused_at ArchiveFull letters path mark m n past from to is =
+    record { mark = mark; from = from; to = to; refused = is }
+refused_at Fault letters path mark m n past from to is = tt
+refused_at NoMemory letters path mark m n past from to is = tt
+
+read_tells : (why : ScanError) (letters : ℕ) (there : Option TreeNode) → IsRead (Err why) there
+    → IsStatedCause why (mbox_refusal letters there)
+read_tells Missing letters there is = is letters
+read_tells (NotMailbox place) letters there is = is letters
+read_tells (TooMany count) letters there is = is letters
+read_tells (TooLarge size) letters there is = is letters
+read_tells Unfinished letters there is = is letters
+read_tells ArchiveFull letters there is = is letters
+read_tells Fault letters there is = tt
+read_tells NoMemory letters there is = tt
 
 pub saw_unread : (why : ScanError) (archive new_archive : List Mail) (known : KnownFolder) (old new : Option Past)
     → GoesOn (FileSeen (Err why) known.path) old new → GoesOn (Saw Mbox archive new_archive known (Err why)) old new
-saw_unread why archive new_archive known None new seen = seen
-saw_unread why archive new_archive known (Some past) None seen = absurd seen
-saw_unread why archive new_archive known (Some past) (Some next) seen = record {
-  mark = seen.mark;
-  from = seen.from;
-  to = seen.to;
-  seen = read_tells why (tree_at next seen.mark) archive new_archive known seen.is;
-  alone = seen.alone;
-}
+saw_unread why archive new_archive known old new seen =
+    goes_as old new (λ past next is. refused_at why (length archive) known.path is.mark (length past.journal)
+    (length next.journal) next is.from is.to
+    (read_tells why (length archive) (node_at (tree_at next is.mark) known.path) is.is)) seen
 
-list_tells : (why : ScanError) (file : FileRead) (tree : List TreeNode) (archive new_archive : List Mail)
-    (known : KnownFolder)
-    → IsUnlisted file.bytes.items (length archive) why → IsRead (Ok file) (node_at tree known.path)
-    → IsScanned Mbox tree archive new_archive known (Err why)
-list_tells Missing file tree archive new_archive known told is = is.refused (length archive) ∙ told
-list_tells (NotMailbox place) file tree archive new_archive known told is = is.refused (length archive) ∙ told
-list_tells (TooMany count) file tree archive new_archive known told is = is.refused (length archive) ∙ told
-list_tells (TooLarge size) file tree archive new_archive known told is = is.refused (length archive) ∙ told
-list_tells Unfinished file tree archive new_archive known told is = is.refused (length archive) ∙ told
-list_tells ArchiveFull file tree archive new_archive known told is = is.refused (length archive) ∙ told
-list_tells Fault file tree archive new_archive known told is = tt
-list_tells NoMemory file tree archive new_archive known told is = tt
+list_tells : (why : ScanError) (file : FileRead) (letters : ℕ) (there : Option TreeNode)
+    → IsUnlisted file.bytes.items letters why → IsRead (Ok file) there
+    → IsStatedCause why (mbox_refusal letters there)
+list_tells Missing file letters there told is = is.refused letters ∙ told
+list_tells (NotMailbox place) file letters there told is = is.refused letters ∙ told
+list_tells (TooMany count) file letters there told is = is.refused letters ∙ told
+list_tells (TooLarge size) file letters there told is = is.refused letters ∙ told
+list_tells Unfinished file letters there told is = is.refused letters ∙ told
+list_tells ArchiveFull file letters there told is = is.refused letters ∙ told
+list_tells Fault file letters there told is = tt
+list_tells NoMemory file letters there told is = tt
 
 saw_known : (why : ScanError) (file : FileRead) (archive new_archive : List Mail) (known : KnownFolder)
     (old new : Option Past)
     → IsUnlisted file.bytes.items (length archive) why
     → GoesOn (FileSeen (Ok file) known.path) old new → GoesOn (Saw Mbox archive new_archive known (Err why)) old new
-saw_known why file archive new_archive known None new told seen = seen
-saw_known why file archive new_archive known (Some past) None told seen = absurd seen
-saw_known why file archive new_archive known (Some past) (Some next) told seen = record {
-  mark = seen.mark;
-  from = seen.from;
-  to = seen.to;
-  seen = list_tells why file (tree_at next seen.mark) archive new_archive known told seen.is;
-  alone = seen.alone;
-}
+saw_known why file archive new_archive known old new told seen =
+    goes_as old new (λ past next is. refused_at why (length archive) known.path is.mark (length past.journal)
+    (length next.journal) next is.from is.to
+    (list_tells why file (length archive) (node_at (tree_at next is.mark) known.path) told is.is)) seen
 
 pub saw_unlisted : (why : ScanError) (file : FileRead) (archive new_archive : List Mail) (known new_known : KnownFolder)
     (old new : Option Past)

@@ -12,7 +12,8 @@ use Rattle.disk_model.specs.declared.answers.DiskError.{DiskError}
 use Rattle.disk_model.specs.declared.answers.DiskError.TheVariants.{Missing, WrongNode, Long, Fault, NoMemory}
 use Rattle.disk_model.proofs.Looking.{looked_longer}
 use Rattle.disk_model.proofs.Marks.{length_longer, met_at, tree_at-length, tree_at-looked, tree_after-looked}
-use Rattle.folder_core.specs.Reads.{bytes_refusal, file_refusal, messages_of, most_bytes}
+use Rattle.folder_core.specs.Limits.{most_bytes}
+use Rattle.folder_core.specs.Mbox.{bytes_refusal, file_refusal, messages_of}
 use Rattle.folder_core.specs.declared.error.ScanError.{ScanError}
 use Rattle.folder_core.specs.declared.error.ScanError.TheVariants.{Missing as NoFolder, NotMailbox, TooLarge}
 use Rattle.folder_core.specs.declared.error.ScanError.TheVariants.{Fault as FolderFault, NoMemory as WantOfMemory}

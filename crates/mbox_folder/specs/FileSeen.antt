@@ -7,7 +7,7 @@ use Rattle.disk_model.specs.declared.answers.FileRead.{FileRead}
 use Rattle.folder_core.specs.declared.error.ScanError.{ScanError}
 use Rattle.folder_core.specs.declared.error.ScanError.TheVariants.{Missing, NotMailbox, TooMany, TooLarge, Unfinished}
 use Rattle.folder_core.specs.declared.error.ScanError.TheVariants.{ArchiveFull, Fault, NoMemory}
-use Rattle.folder_core.specs.Reads.{bytes_of, bytes_refusal, mbox_refusal, messages_of, node_reads, stamps_of}
+use Rattle.folder_core.specs.Mbox.{bytes_of, bytes_refusal, mbox_refusal, messages_of, node_reads, stamps_of}
 
 -- the file is what stands there, of a length that is allowed
 pub record IsFile (file : FileRead) (there : Option TreeNode) : Type 0 where

@@ -1,14 +1,23 @@
 -- What the messages of a file make of an archive.
-use Rattle.std.specs.Prelude.{◌≡◌, ◌++◌, ◌∷◌, [], ℕ, List, length, Some, None}
+use Rattle.std.specs.Prelude.{◌≡◌, ◌+◌, ◌++◌, ◌∷◌, [], ℕ, List, length, Option, Some, None}
 use Rattle.disk_model.specs.declared.answers.FileRead.{FileRead}
 use Rattle.folder_core.specs.declared.error.ScanError.{ScanError}
-use Rattle.folder_core.specs.declared.error.ScanError.TheVariants.{NoMemory}
+use Rattle.folder_core.specs.declared.error.ScanError.TheVariants.{Fault, NoMemory}
 use Rattle.folder_core.specs.declared.listing.Found.{Found}
 use Rattle.folder_core.specs.declared.listing.Listed.{Listed}
 use Rattle.folder_core.specs.Known.{KnownFolder}
 use Rattle.folder_core.specs.Letters.{Mail}
-use Rattle.folder_core.specs.Mbox.{raw_messages}
-use Rattle.folder_core.specs.Reads.{bytes_refusal, letters_from, listed_from}
+use Rattle.folder_core.specs.Mbox.{bytes_refusal, mbox_letter, raw_messages, status}
+
+-- the letters of messages, whose ids go up by one
+abbrev pub letters_from : ℕ → List (List ℕ) → List Mail
+letters_from id [] = []
+letters_from id (raw ∷ messages) = mbox_letter id raw ∷ letters_from (id + 1) messages
+
+-- their listing
+abbrev pub listed_from : ℕ → List (List ℕ) → List Listed
+listed_from id [] = []
+listed_from id (raw ∷ messages) = record { id = record { 0 = id }; flags = status raw } ∷ listed_from (id + 1) messages
 
 -- the letters of the file stand at the end of the archive, and these are their listing
 pub record IsListedFile (bytes : List ℕ) (archive new_archive : List Mail) (came : List Listed) : Type 0 where
@@ -20,6 +29,12 @@ pub record IsListedFile (bytes : List ℕ) (archive new_archive : List Mail) (ca
 abbrev pub IsUnlisted : List ℕ → ℕ → ScanError → Type 0
 IsUnlisted bytes letters NoMemory = Unit {0}
 IsUnlisted bytes letters why = bytes_refusal letters bytes ≡ Some why
+
+-- the tree shows this cause, where it is neither a fault nor want of memory
+abbrev pub IsStatedCause : ScanError → Option ScanError → Type 0
+IsStatedCause Fault shown = Unit {0}
+IsStatedCause NoMemory shown = Unit {0}
+IsStatedCause why shown = shown ≡ Some why
 
 -- what is known of a folder once a file was read and its messages are listed
 abbrev pub known_file : KnownFolder → List Listed → FileRead → KnownFolder

@@ -2,11 +2,11 @@
 
 ghost use Rattle.std.specs.Prelude.{◌≡◌, ◌≤◌, ◌+◌, ◌++◌, ◌^◌, ◌<◌, length, map, take, IfOk, IfErr};
 ghost use Rattle.folder_core.specs.Letters.{plain_letter};
-ghost use Rattle.folder_core.specs.Mbox.{IsClockMoment, raw_messages, received as received_lem, regions as regions_lem};
-ghost use Rattle.folder_core.specs.Mbox.{status};
-ghost use Rattle.folder_core.specs.Reads.{count_refusal as count_refusal_lem, letters_from, listed_from, mbox_letter};
-ghost use Rattle.folder_core.specs.Reads.{most_letters};
-ghost use Rattle.mbox_folder.specs.ListedFile.{IsListedFile, IsUnlisted};
+ghost use Rattle.folder_core.specs.Limits.{count_refusal as count_refusal_lem, most_letters};
+ghost use Rattle.folder_core.specs.Mbox.{mbox_letter, raw_messages, received as received_lem};
+ghost use Rattle.folder_core.specs.Mbox.{regions as regions_lem, status};
+ghost use Rattle.folder_core.specs.Moments.{IsClockMoment};
+ghost use Rattle.mbox_folder.specs.ListedFile.{IsListedFile, IsUnlisted, letters_from, listed_from};
 
 use crate::message_core::core_of;
 use crate::postmark::read_postmark;

@@ -11,7 +11,7 @@ use Rattle.mail_base.specs.Fronts.{◌>>=◌}
 use Rattle.mail_base.specs.Places.{split_once}
 use Rattle.mh_folder.specs.declared.range.Range.{Range}
 use Rattle.mh_folder.specs.Laws.{are_upright, has_upright, is_upright, StaysUpright}
-use Rattle.mh_folder.specs.Number.{number_of}
+use Rattle.folder_core.specs.MhNumbers.{number_of}
 use Rattle.mh_folder.specs.Ranges.{added_to, between, in_order, is_before, joined}
 use Rattle.mh_folder.specs.Ranges.{one, parts, range_by, range_of}
 use Rattle.mh_folder.specs.Ranges.{with_range, without}

@@ -1,4 +1,3 @@
-pub mod Number
 pub mod Ranges
 pub mod SequenceLine
 pub mod Sequences

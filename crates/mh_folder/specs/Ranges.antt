@@ -7,7 +7,7 @@ use Rattle.std.specs.Str.{byte}
 use Rattle.mail_base.specs.Fronts.{◌>>=◌}
 use Rattle.mail_base.specs.Places.{split_once}
 use Rattle.mh_folder.specs.declared.range.Range.{Range}
-use Rattle.mh_folder.specs.Number.{number_of}
+use Rattle.folder_core.specs.MhNumbers.{number_of}
 
 abbrev pub one : ℕ → Range
 one n = record { first = n; last = n }

@@ -1,15 +1,13 @@
-//! Folders of a numbered file a message (mh-mail(5), mh-sequence(5)): which names are numbers of
-//! messages, and the sequences in which numbers stand. `Sequences` reads the file of them, tells
-//! which numbers a sequence holds, changes that, and writes the file.
+//! Folders of a numbered file a message (mh-mail(5), mh-sequence(5)): the sequences in which numbers
+//! of messages stand. `Sequences` reads the file of them, tells which numbers a sequence holds,
+//! changes that, and writes the file.
 #![tactic(auto)]
 
 mod laws;
-mod number;
 mod range;
 mod sequence_line;
 mod sequences;
 
 pub use laws::{drop_takes_one, put_changes_one, ranges_stay_upright};
-pub use number::read_number;
 pub use range::{Range, Ranges};
 pub use sequences::Sequences;

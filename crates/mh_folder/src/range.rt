@@ -6,7 +6,7 @@ ghost use Rattle.std.specs.List.{list_all};
 ghost use Rattle.mh_folder.specs.Laws.{is_upright};
 ghost use Rattle.mh_folder.specs.Ranges as spec;
 
-use crate::number::read_number;
+use folder_core::read_number;
 use mail_base::{Bytes, NoMemory, Series, split_once};
 use std::alloc::Global;
 

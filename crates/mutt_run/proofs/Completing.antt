@@ -1,6 +1,6 @@
 -- Runs with nothing in their way come to the end of the keys.
 use Rattle.std.proofs.Common.{◌≡◌, ℕ, List, [], ◌∷◌, ◌⊎◌, inl, inr, Option, Some, None}
-use Rattle.std.proofs.Common.{ℤ, Result, Ok, refl, sym, subst}
+use Rattle.std.proofs.Common.{ℤ, Result, Ok, Err, refl, sym, subst}
 use Rattle.mail_base.specs.Faults.{Rose}
 use Rattle.mail_base.specs.declared.kind.Kind.{Kind}
 use Rattle.disk_model.specs.Journal.{Past}
@@ -12,7 +12,8 @@ use Rattle.folder_core.specs.declared.error.ScanError.TheVariants.{ArchiveFull, 
 use Rattle.folder_core.specs.Letters.{Mail}
 use Rattle.mutt_run.specs.Complete.{IsReadable, IsReadableTold, IsPlainEnd, NamesReadable}
 use Rattle.mutt_run.specs.Events.{Happening, KeyPressed, FolderOpened, FolderRefused}
-use Rattle.mutt_run.specs.Happened.{AllCounted, AllHappened, IsCause, WasNoKind, WasNotListed, WasRefused}
+use Rattle.mutt_run.specs.Happened.{AllCounted, AllHappened, IsCause, WasNotListed, WasRefused, empty_kind}
+use Rattle.folder_core.specs.Kinds.{IsKindSeen}
 use Rattle.mutt_run.specs.Printed.{EndsAs, IsNoUsage, IsRefused, IsStated}
 use Rattle.mutt_run.specs.Outside.{Outside}
 use Rattle.mutt_run.specs.Reading.{Reads}
@@ -27,33 +28,23 @@ use Rattle.mutt_run.specs.declared.status.Status.TheVariants.{NoMemory as WantOf
 -- a folder that can be read is not refused
 module _ (Has : Kind → Type 0) (path : List ℕ) (before after : ℕ) (new : Past)
     (readable : IsReadable Has path before after new) where
-  no_kind : (why : ScanError) → WasNoKind path why before after new → ⊥
-  no_kind why was = readable.there was.look why was.from was.to was.kind_is
-
-  listed : (why : ScanError) → WasNotListed Has path why before after new → ⊥
-  listed why was =
-      let none = readable.taken was.look was.seen was.kind was.from was.then was.to was.kind_is in
-      let some = was.refused in
-      cc
-
-  refused_neither : (why : ScanError)
-      → WasNoKind path why before after new ⊎ WasNotListed Has path why before after new → ⊥
-  refused_neither why (inl was) = no_kind why was
-  refused_neither why (inr was) = listed why was
+  refused_neither : (why : ScanError) → IsStated (Folder why)
+      → IsKindSeen (Err why) empty_kind path before after new ⊎ WasNotListed Has path why before after new → ⊥
+  refused_neither why stated (inl was) = readable.there why stated was
+  refused_neither why stated (inr was) = readable.taken why stated was
 
   pub not_refused : (why : OpenFault) (faults faults' : ℕ) → IsStated why → WasRefused Has path why before after new
       → IsCause Has why faults faults' → ⊥
   not_refused Taken faults faults' stated was cause = stated
-  not_refused (NoDriver kind) faults faults' stated was cause =
-      cause (readable.driver was.look kind was.from was.to was.kind_is)
+  not_refused (NoDriver kind) faults faults' stated was cause = cause (readable.driver kind was)
   not_refused (Folder Fault) faults faults' stated was cause = stated
   not_refused (Folder NoMemory) faults faults' stated was cause = stated
   not_refused (Folder ArchiveFull) faults faults' stated was cause = stated
-  not_refused (Folder Missing) faults faults' stated was cause = refused_neither Missing was
-  not_refused (Folder (NotMailbox n)) faults faults' stated was cause = refused_neither (NotMailbox n) was
-  not_refused (Folder (TooMany n)) faults faults' stated was cause = refused_neither (TooMany n) was
-  not_refused (Folder (TooLarge n)) faults faults' stated was cause = refused_neither (TooLarge n) was
-  not_refused (Folder Unfinished) faults faults' stated was cause = refused_neither Unfinished was
+  not_refused (Folder Missing) faults faults' stated was cause = refused_neither Missing stated was
+  not_refused (Folder (NotMailbox n)) faults faults' stated was cause = refused_neither (NotMailbox n) stated was
+  not_refused (Folder (TooMany n)) faults faults' stated was cause = refused_neither (TooMany n) stated was
+  not_refused (Folder (TooLarge n)) faults faults' stated was cause = refused_neither (TooLarge n) stated was
+  not_refused (Folder Unfinished) faults faults' stated was cause = refused_neither Unfinished stated was
 
 -- a run whose events are those of a folder that can be read
 module _ (Has : Kind → Type 0) (choice : Choice) (archive : List Mail) (old new : Seen) (left : Option (List ℕ)) where

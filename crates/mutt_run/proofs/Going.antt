@@ -22,7 +22,7 @@ use Rattle.mutt_run.specs.Session.{EndsKeys, GoesToEnd, Shown, Turned, Went, sho
 use Rattle.mutt_run.specs.Taken.{pressed_keys}
 use Rattle.mutt_run.specs.declared.key.Key.{Key}
 use Rattle.mutt_run.specs.declared.key.Key.TheVariants.{Char}
-use Rattle.mutt_run.specs.declared.place.Next.TheVariants.{Go, Quit}
+use Rattle.mutt_run.specs.declared.place.Next.TheVariants.{Go}
 use Rattle.mutt_run.specs.declared.status.Status.{Status}
 use Rattle.mutt_run.specs.declared.status.Status.TheVariants.{Done, OutFault, NoMemory}
 use Rattle.mutt_run.specs.Taken.{most_keys}

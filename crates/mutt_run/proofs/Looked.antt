@@ -1,142 +1,108 @@
 -- What the looks of an opening have seen, as its last journal shows it.
-use Rattle.std.proofs.Common.{◌≡◌, ◌≤◌, ℕ, false, List, [], ◌∷◌, ◌++◌, inr, Option, Some}
-use Rattle.std.proofs.Common.{None, Ok, Err, length, drop, refl, sym, ◌∙◌, ap, subst, append_assoc, arith}
+use Rattle.std.proofs.Common.{◌≡◌, ◌≤◌, ◌⊎◌, ℕ, List, [], inl, inr, Option, Result, Ok, Err, length, sym, ◌∙◌, ap}
+use Rattle.std.proofs.Common.{subst, arith}
 use Rattle.mail_base.specs.declared.kind.Kind.{Kind}
 use Rattle.disk_model.specs.Tree.{TreeNode}
-use Rattle.disk_model.specs.Journal.{Past, Entry, Own, Others, NoForeign, has_foreign}
+use Rattle.disk_model.specs.Journal.{Past}
 use Rattle.disk_model.specs.Judge.{GoesOn}
 use Rattle.disk_model.specs.Looking.{HasLooked, LooksOnly}
-use Rattle.disk_model.specs.State.{tree_at}
-use Rattle.disk_model.proofs.Looking.{looked_longer, looks_silent}
+use Rattle.disk_model.proofs.Looking.{looked_longer}
 use Rattle.disk_model.proofs.Marks.{tree_at-longer}
-use Rattle.folder_core.specs.Kinds.{KindSeen, kind_at}
+use Rattle.folder_core.specs.Kinds.{IsKindSeen, KindSeen, WasKind, kind_at}
 use Rattle.folder_core.specs.Known.{KnownFolder}
 use Rattle.folder_core.specs.Letters.{Mail}
-use Rattle.folder_core.specs.Reads.{reads, refusal}
-use Rattle.folder_core.specs.Scanned.{IsScanned, Saw}
+use Rattle.folder_core.specs.Reads.{format_of}
+use Rattle.folder_core.specs.Scanned.{Saw}
+use Rattle.folder_core.proofs.SeenLemmas.{goes_as, goes_then, longer_later}
 use Rattle.folder_core.specs.declared.error.ScanError.{ScanError}
 use Rattle.folder_core.specs.declared.error.ScanError.TheVariants.{Missing, NotMailbox, TooMany, TooLarge, Unfinished}
 use Rattle.folder_core.specs.declared.error.ScanError.TheVariants.{ArchiveFull, Fault, NoMemory}
 use Rattle.folder_core.specs.declared.listing.Found.{Found}
 use Rattle.mutt_run.specs.declared.event.OpenFault.TheVariants.{Folder}
-use Rattle.mutt_run.specs.Happened.{WasKind, WasNotListed, WasOpened, WasRefused}
+use Rattle.mutt_run.specs.Happened.{WasNotListed, WasOpened, WasRefused, empty_kind}
 
--- A journal that goes on.
-
-tree_stays : (mid new : Past) (k : ℕ) → HasLooked mid new → k ≤ length mid.journal → tree_at new k ≡ tree_at mid k
-tree_stays mid new k looked low = tree_at-longer mid new k (looked_longer mid new looked) low
-
-drop_front : {A : Type 0} (xs ys : List A) → drop (length xs) (xs ++ ys) ≡ ys
-drop_front [] ys = refl
-drop_front (x ∷ xs) ys = drop_front xs ys
-
-foreign_rest : (xs ys : List Entry) → has_foreign (xs ++ ys) ≡ false → has_foreign ys ≡ false
-foreign_rest [] ys none = none
-foreign_rest (Own call answer ∷ xs) ys none = foreign_rest xs ys none
-foreign_rest (Others action ∷ xs) ys none = absurd (cc)
-
-alone_later : (old mid new : Past) → HasLooked old mid → HasLooked mid new → NoForeign old new → NoForeign mid new
-alone_later old mid new first then none =
-    let whole : new.journal ≡ old.journal ++ (first.more ++ then.more) =
-    then.journal ∙ ap (λ (l : List Entry). l ++ then.more) first.journal
-    ∙ append_assoc old.journal first.more then.more in
-    let rest : has_foreign (first.more ++ then.more) ≡ false =
-    ap has_foreign (sym (drop_front old.journal (first.more ++ then.more)) ∙ ap (drop (length old.journal)) (sym whole))
-    ∙ none in
-    ap has_foreign (ap (drop (length mid.journal)) then.journal ∙ drop_front mid.journal then.more)
-    ∙ foreign_rest first.more then.more rest
-
--- What was looked at.
-
--- no driver reads a folder of this kind
-pub kind_told : (kind : Kind) (path : List ℕ) (old new : Option Past) → GoesOn (KindSeen (Ok kind) path) old new
-    → GoesOn (λ (o n : Past). WasKind path kind (length o.journal) (length n.journal) n) old new
-kind_told kind path None new seen = seen
-kind_told kind path (Some o) None seen = absurd seen
-kind_told kind path (Some o) (Some n) seen = record
-    { look = seen.mark; from = seen.from; to = seen.to; kind_is = sym seen.is }
+-- what was looked at stays so while the journal goes on
+kind_later : (result : Result Kind ScanError) (empty : Kind) (path : List ℕ) (m n : ℕ) (mid new : Past)
+    → HasLooked mid new → n ≤ length mid.journal → WasKind result empty path m n mid
+    → WasKind result empty path m n new
+kind_later result empty path m n mid new looked within was = record {
+  mark = was.mark;
+  from = was.from;
+  to = was.to;
+  is = was.is ∙ ap (λ (tree : List TreeNode). kind_at empty tree path)
+      (sym (tree_at-longer mid new was.mark (looked_longer mid new looked) (omega (arith, was.to, within))));
+}
 
 -- the folder was read
 found_past : (kind : Kind) (path : List ℕ) (archive : List Mail) (known : KnownFolder) (found : Found)
-    (old mid new : Past) → known.path ≡ path
-    → KindSeen (Ok kind) path old mid → HasLooked old mid → HasLooked mid new
-    → Saw kind [] archive known (Ok found) mid new
-    → WasOpened archive path kind found.came.items (length old.journal) (length new.journal) old new
-found_past kind path archive known found old mid new at seen first then saw = record {
-  look = seen.mark;
-  seen = saw.mark;
-  from = seen.from;
-  then = omega (arith, seen.to, saw.from);
-  to = saw.to;
-  kind_is = ap (λ (tree : List TreeNode). kind_at tree path) (tree_stays mid new seen.mark then seen.to) ∙ sym seen.is;
-  taken = subst (λ (p : List ℕ). refusal kind 0 (tree_at new saw.mark) p ≡ None) at saw.seen.taken;
-  messages = saw.seen.messages;
-  read = subst (λ (p : List ℕ). reads kind (tree_at new saw.mark) p ≡ Some saw.seen.messages) at saw.seen.read;
-  letters = saw.seen.letters;
-  listed = saw.seen.listed;
-  alone = λ none. saw.alone (alone_later old mid new first then none);
+    (old mid new : Past) → known.path ≡ path → HasLooked old mid → HasLooked mid new
+    → KindSeen (Ok kind) empty_kind path old mid → Saw kind [] archive known (Ok found) mid new
+    → WasOpened archive path kind found.came.items (length old.journal) (length new.journal) new
+found_past kind path archive known found old mid new at first next seen saw = record {
+  scan = length mid.journal;
+  from = longer_later old mid first;
+  to = longer_later mid new next;
+  kind_is = kind_later (Ok kind) empty_kind path (length old.journal) (length mid.journal) mid new next (omega arith)
+      seen;
+  known = known;
+  at = at;
+  found = saw;
 }
 
 pub found_told : (kind : Kind) (path : List ℕ) {before : List Mail} (archive : List Mail) (known : KnownFolder)
     (found : Found) (old mid new : Option Past) → before ≡ [] → known.path ≡ path
-    → GoesOn (KindSeen (Ok kind) path) old mid → LooksOnly old mid → LooksOnly mid new
+    → GoesOn (KindSeen (Ok kind) empty_kind path) old mid → LooksOnly old mid → LooksOnly mid new
     → GoesOn (Saw kind before archive known (Ok found)) mid new
-    → GoesOn (λ (o n : Past). WasOpened archive path kind found.came.items (length o.journal) (length n.journal) o n)
+    → GoesOn (λ (o n : Past). WasOpened archive path kind found.came.items (length o.journal) (length n.journal) n)
     old new
-found_told kind path {before} archive known found None mid new none at seen first then saw = looks_silent mid new seen then
-found_told kind path {before} archive known found (Some o) None new none at seen first then saw = absurd seen
-found_told kind path {before} archive known found (Some o) (Some m) None none at seen first then saw = absurd then
-found_told kind path {before} archive known found (Some o) (Some m) (Some n) none at seen first then saw =
-    found_past kind path archive known found o m n at seen first then
-    (subst (λ (b : List Mail). Saw kind b archive known (Ok found) m n) none saw)
+found_told kind path {before} archive known found old mid new none at seen first next saw =
+    goes_then old mid new (λ p q r x y k s. found_past kind path archive known found p q r at x y k s) first next seen
+    (subst (λ (b : List Mail). GoesOn (Saw kind b archive known (Ok found)) mid new) none saw)
 
 -- the folder was not listed
-not_listed : (Has : Kind → Type 0) (kind : Kind) (path : List ℕ) (why : ScanError) (known : KnownFolder) (mark : ℕ) (old mid new : Past)
-    → known.path ≡ path → length mid.journal ≤ mark
-    → mark ≤ length new.journal → KindSeen (Ok kind) path old mid → HasLooked mid new
-    → refusal kind 0 (tree_at new mark) known.path ≡ Some why → Has kind
+not_listed : (Has : Kind → Type 0) (kind : Kind) (path : List ℕ) (why : ScanError) (known : KnownFolder)
+    (old mid new : Past) → known.path ≡ path → HasLooked old mid → HasLooked mid new
+    → KindSeen (Ok kind) empty_kind path old mid
+    → (format_of kind).Refused 0 known.path why (length mid.journal) (length new.journal) new → Has kind
     → WasNotListed Has path why (length old.journal) (length new.journal) new
-not_listed Has kind path why known mark old mid new at low high seen then refused has = record {
+not_listed Has kind path why known old mid new at first next seen refused has = record {
   driver = has;
   kind = kind;
-  look = seen.mark;
-  seen = mark;
-  from = seen.from;
-  then = omega (arith, seen.to, low);
-  to = high;
-  kind_is = ap (λ (tree : List TreeNode). kind_at tree path) (tree_stays mid new seen.mark then seen.to) ∙ sym seen.is;
-  refused = subst (λ (p : List ℕ). refusal kind 0 (tree_at new mark) p ≡ Some why) at refused;
+  scan = length mid.journal;
+  from = longer_later old mid first;
+  to = longer_later mid new next;
+  kind_is = kind_later (Ok kind) empty_kind path (length old.journal) (length mid.journal) mid new next (omega arith)
+      seen;
+  refused = subst (λ (p : List ℕ). (format_of kind).Refused 0 p why (length mid.journal) (length new.journal) new) at
+      refused;
 }
 
-refused_past : (Has : Kind → Type 0) (kind : Kind) (path : List ℕ) (why : ScanError) (archive : List Mail) (known : KnownFolder) (mark : ℕ)
-    (old mid new : Past) → known.path ≡ path
-    → length mid.journal ≤ mark → mark ≤ length new.journal → KindSeen (Ok kind) path old mid → HasLooked mid new
-    → IsScanned kind (tree_at new mark) [] archive known (Err why) → Has kind
-    → WasRefused Has path (Folder why) (length old.journal) (length new.journal) new
-refused_past Has kind path Fault archive known mark old mid new at low high seen then refused has = tt
-refused_past Has kind path NoMemory archive known mark old mid new at low high seen then refused has = tt
-refused_past Has kind path Missing archive known mark old mid new at low high seen then refused has =
-    inr (not_listed Has kind path Missing known mark old mid new at low high seen then refused has)
-refused_past Has kind path (NotMailbox n) archive known mark old mid new at low high seen then refused has =
-    inr (not_listed Has kind path (NotMailbox n) known mark old mid new at low high seen then refused has)
-refused_past Has kind path (TooMany n) archive known mark old mid new at low high seen then refused has =
-    inr (not_listed Has kind path (TooMany n) known mark old mid new at low high seen then refused has)
-refused_past Has kind path (TooLarge n) archive known mark old mid new at low high seen then refused has =
-    inr (not_listed Has kind path (TooLarge n) known mark old mid new at low high seen then refused has)
-refused_past Has kind path Unfinished archive known mark old mid new at low high seen then refused has =
-    inr (not_listed Has kind path Unfinished known mark old mid new at low high seen then refused has)
-refused_past Has kind path ArchiveFull archive known mark old mid new at low high seen then refused has =
-    inr (not_listed Has kind path ArchiveFull known mark old mid new at low high seen then refused has)
+-- a cause of the tree, or a fault or want of memory
+refused_by : (Has : Kind → Type 0) (path : List ℕ) (why : ScanError) (m n : ℕ) (past : Past)
+    → IsKindSeen (Err why) empty_kind path m n past ⊎ WasNotListed Has path why m n past
+    → WasRefused Has path (Folder why) m n past
+refused_by Has path Fault m n past was = tt
+refused_by Has path NoMemory m n past was = tt
+refused_by Has path Missing m n past was = was
+refused_by Has path (NotMailbox place) m n past was = was
+refused_by Has path (TooMany count) m n past was = was
+refused_by Has path (TooLarge bytes) m n past was = was
+refused_by Has path Unfinished m n past was = was
+refused_by Has path ArchiveFull m n past was = was
+
+-- the path was no folder
+pub no_kind_told : (Has : Kind → Type 0) (path : List ℕ) (why : ScanError) (old new : Option Past)
+    → GoesOn (KindSeen (Err why) empty_kind path) old new
+    → GoesOn (λ (o n : Past). WasRefused Has path (Folder why) (length o.journal) (length n.journal) n) old new
+no_kind_told Has path why old new seen =
+    goes_as old new (λ p q k. refused_by Has path why (length p.journal) (length q.journal) q (inl k)) seen
 
 pub refused_told : (Has : Kind → Type 0) (kind : Kind) (path : List ℕ) {before : List Mail} (archive : List Mail)
     (known : KnownFolder) (why : ScanError) (old mid new : Option Past) → before ≡ [] → known.path ≡ path
-    → GoesOn (KindSeen (Ok kind) path) old mid → LooksOnly mid new
+    → GoesOn (KindSeen (Ok kind) empty_kind path) old mid → LooksOnly old mid → LooksOnly mid new
     → GoesOn (Saw kind before archive known (Err why)) mid new → Has kind
     → GoesOn (λ (o n : Past). WasRefused Has path (Folder why) (length o.journal) (length n.journal) n) old new
-refused_told Has kind path {before} archive known why None mid new none at seen then saw has = looks_silent mid new seen then
-refused_told Has kind path {before} archive known why (Some o) None new none at seen then saw has = absurd seen
-refused_told Has kind path {before} archive known why (Some o) (Some m) None none at seen then saw has = absurd then
-refused_told Has kind path {before} archive known why (Some o) (Some m) (Some n) none at seen then saw has =
-    let first : Saw kind [] archive known (Err why) m n = subst
-    (λ (b : List Mail). Saw kind b archive known (Err why) m n) none saw in
-    refused_past Has kind path why archive known first.mark o m n at first.from first.to seen then first.seen has
+refused_told Has kind path {before} archive known why old mid new none at seen first next saw has =
+    goes_then old mid new (λ p q r x y k s. refused_by Has path why (length p.journal) (length r.journal) r
+    (inr (not_listed Has kind path why known p q r at x y k s has))) first next seen
+    (subst (λ (b : List Mail). GoesOn (Saw kind b archive known (Err why)) mid new) none saw)

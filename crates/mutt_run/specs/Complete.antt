@@ -1,26 +1,24 @@
 -- Runs with nothing in their way: these are done, or stop for memory or at the limit of keys.
-use Rattle.std.specs.Prelude.{◌≡◌, ◌≤◌, ℕ, List, Option, Some, None, Result, Ok, Err}
+use Rattle.std.specs.Prelude.{ℕ, List, Option, Some, None, Result, Ok, Err}
 use Rattle.mail_base.specs.declared.kind.Kind.{Kind}
 use Rattle.disk_model.specs.Journal.{Past}
 use Rattle.disk_model.specs.Seen.{Seen}
-use Rattle.disk_model.specs.State.{tree_at}
 use Rattle.folder_core.specs.declared.error.ScanError.{ScanError}
-use Rattle.folder_core.specs.Kinds.{kind_at}
-use Rattle.folder_core.specs.Reads.{refusal}
+use Rattle.folder_core.specs.Kinds.{IsKindSeen, WasKind}
+use Rattle.mutt_run.specs.Happened.{WasNotListed, empty_kind}
+use Rattle.mutt_run.specs.Printed.{IsStated}
+use Rattle.mutt_run.specs.declared.event.OpenFault.TheVariants.{Folder}
 use Rattle.mutt_run.specs.Words.{Choice, folder_of}
 use Rattle.mutt_run.specs.declared.status.Status.{Status}
 use Rattle.mutt_run.specs.declared.status.Status.TheVariants.{Done, Usage, NotOpened, DiskFault, KeysFault, OutFault}
 use Rattle.mutt_run.specs.declared.status.Status.TheVariants.{NoMemory, TooManyKeys}
 
--- At each mark from one to another a folder stands at the path, of a kind that has a driver; and from then on nothing
--- keeps it from being listed.
+-- From one mark to another no cause was seen for which an opening is refused: a folder stands at the path, of a kind that
+-- has a driver, and nothing keeps a scan from listing it.
 pub record IsReadable (Has : Kind → Type 0) (path : List ℕ) (before after : ℕ) (new : Past) : Type 0 where
-  pub there : (look : ℕ) (why : ScanError) → before ≤ look → look ≤ after
-      → kind_at (tree_at new look) path ≡ Err why → ⊥
-  pub driver : (look : ℕ) (kind : Kind) → before ≤ look → look ≤ after
-      → kind_at (tree_at new look) path ≡ Ok kind → Has kind
-  pub taken : (look seen : ℕ) (kind : Kind) → before ≤ look → look ≤ seen → seen ≤ after
-      → kind_at (tree_at new look) path ≡ Ok kind → refusal kind 0 (tree_at new seen) path ≡ None
+  pub there : (why : ScanError) → IsStated (Folder why) → IsKindSeen (Err why) empty_kind path before after new → ⊥
+  pub driver : (kind : Kind) → WasKind (Ok kind) empty_kind path before after new → Has kind
+  pub taken : (why : ScanError) → IsStated (Folder why) → WasNotListed Has path why before after new → ⊥
 
 -- the same, where the disk tells its past
 abbrev pub IsReadableTold : (Kind → Type 0) → List ℕ → ℕ → ℕ → Option Past → Option Past → Type 0

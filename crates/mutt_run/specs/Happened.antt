@@ -1,87 +1,72 @@
 -- What the events of a run say of the disk.
-use Rattle.std.specs.Prelude.{◌≡◌, ◌≤◌, ◌⊎◌, ℕ, List, [], ◌∷◌, length, map, Some, None, Ok, Err}
+use Rattle.std.specs.Prelude.{◌≡◌, ◌≤◌, ◌⊎◌, ℕ, List, [], ◌∷◌, length, map, Ok, Err}
 use Rattle.mail_base.specs.Faults.{Rose}
 use Rattle.mail_base.specs.declared.kind.Kind.{Kind}
-use Rattle.disk_model.specs.Journal.{Past, NoForeign}
+use Rattle.mail_base.specs.declared.kind.Kind.TheVariants.{Mbox}
+use Rattle.disk_model.specs.Journal.{Past}
 use Rattle.disk_model.specs.Seen.{Seen}
-use Rattle.disk_model.specs.State.{tree_at, tree_after}
 use Rattle.folder_core.specs.declared.error.ScanError.{ScanError}
 use Rattle.folder_core.specs.declared.error.ScanError.TheVariants.{ArchiveFull, Fault, NoMemory}
 use Rattle.folder_core.specs.declared.listing.Listed.{Listed}
-use Rattle.folder_core.specs.Kinds.{kind_at}
+use Rattle.folder_core.specs.Kinds.{IsKindSeen, WasKind}
+use Rattle.folder_core.specs.Known.{KnownFolder}
 use Rattle.folder_core.specs.Letters.{Mail}
-use Rattle.folder_core.specs.Reads.{letters_from, listed_from, reads, refusal}
-use Rattle.folder_core.specs.Scanned.{ids_from}
+use Rattle.folder_core.specs.Reads.{format_of}
+use Rattle.folder_core.specs.Scanned.{IsFound, ids_from}
 use Rattle.mutt_run.specs.Events.{Happening, KeyPressed, FolderOpened, FolderRefused}
 use Rattle.mutt_run.specs.declared.event.Marks.{Marks}
 use Rattle.mutt_run.specs.declared.event.OpenFault.{OpenFault}
 use Rattle.mutt_run.specs.declared.event.OpenFault.TheVariants.{Taken, NoDriver, Folder}
 
--- Between two marks the path was looked at and was of this kind, and then the folder held what came: its letters are
--- the archive. Where no others acted, it holds the same at the second mark.
+-- the kind of an empty file
+abbrev pub empty_kind : Kind
+empty_kind = Mbox
+
+-- The path was looked at from one mark to another and was of this kind, and then a scan saw the folder up to a third:
+-- what came was listed, and its letters are the archive.
 pub record WasOpened (archive : List Mail) (path : List ℕ) (kind : Kind) (came : List Listed) (before after : ℕ)
-    (old new : Past) : Type 0 where
-  pub look : ℕ
-  pub seen : ℕ
-  pub from : before ≤ look
-  pub then : look ≤ seen
-  pub to : seen ≤ after
-  pub kind_is : kind_at (tree_at new look) path ≡ Ok kind
-  pub taken : refusal kind 0 (tree_at new seen) path ≡ None
-  pub messages : List (List ℕ)
-  pub read : reads kind (tree_at new seen) path ≡ Some messages
-  pub letters : archive ≡ letters_from 0 messages
-  pub listed : came ≡ listed_from 0 messages
-  pub alone : NoForeign old new → tree_at new seen ≡ tree_after new
-
--- the path was looked at between two marks, and this was its kind
-pub record WasKind (path : List ℕ) (kind : Kind) (before after : ℕ) (new : Past) : Type 0 where
-  pub look : ℕ
-  pub from : before ≤ look
-  pub to : look ≤ after
-  pub kind_is : kind_at (tree_at new look) path ≡ Ok kind
-
--- the path was looked at between two marks, and it was no folder for this cause
-pub record WasNoKind (path : List ℕ) (why : ScanError) (before after : ℕ) (new : Past) : Type 0 where
-  pub look : ℕ
-  pub from : before ≤ look
-  pub to : look ≤ after
-  pub kind_is : kind_at (tree_at new look) path ≡ Err why
+    (past : Past) : Type 0 where
+  pub scan : ℕ
+  pub from : before ≤ scan
+  pub to : scan ≤ after
+  pub kind_is : WasKind (Ok kind) empty_kind path before scan past
+  pub known : KnownFolder
+  pub at : known.path ≡ path
+  pub found : IsFound (format_of kind) [] archive came known scan after past
 
 -- the folder was of a kind that has a driver, and then was not listed for this cause
-pub record WasNotListed (Has : Kind → Type 0) (path : List ℕ) (why : ScanError) (before after : ℕ) (new : Past) : Type 0 where
+pub record WasNotListed (Has : Kind → Type 0) (path : List ℕ) (why : ScanError) (before after : ℕ) (past : Past)
+    : Type 0 where
   pub kind : Kind
-  pub look : ℕ
-  pub seen : ℕ
-  pub from : before ≤ look
-  pub then : look ≤ seen
-  pub to : seen ≤ after
-  pub kind_is : kind_at (tree_at new look) path ≡ Ok kind
+  pub scan : ℕ
+  pub from : before ≤ scan
+  pub to : scan ≤ after
+  pub kind_is : WasKind (Ok kind) empty_kind path before scan past
   pub driver : Has kind
-  pub refused : refusal kind 0 (tree_at new seen) path ≡ Some why
+  pub refused : (format_of kind).Refused 0 path why scan after past
 
 -- why the folder was not opened, as the tree shows it
 abbrev pub WasRefused : (Kind → Type 0) → List ℕ → OpenFault → ℕ → ℕ → Past → Type 0
 WasRefused Has path Taken before after new = ⊥
-WasRefused Has path (NoDriver kind) before after new = WasKind path kind before after new
+WasRefused Has path (NoDriver kind) before after new = WasKind (Ok kind) empty_kind path before after new
 WasRefused Has path (Folder Fault) before after new = Unit {0}
 WasRefused Has path (Folder NoMemory) before after new = Unit {0}
 WasRefused Has path (Folder why) before after new =
-    WasNoKind path why before after new ⊎ WasNotListed Has path why before after new
+    IsKindSeen (Err why) empty_kind path before after new ⊎ WasNotListed Has path why before after new
 
 -- what an event says is true of the journal
-abbrev pub Happened : (Kind → Type 0) → List Mail → Past → Past → Happening → Type 0
-Happened Has archive old new (KeyPressed key moment) = Unit {0}
-Happened Has archive old new (FolderOpened path kind moment came marks) =
-    WasOpened archive path kind came marks.mark_before marks.mark_after old new
-Happened Has archive old new (FolderRefused path why marks) =
+abbrev pub Happened : (Kind → Type 0) → List Mail → Past → Happening → Type 0
+Happened Has archive new (KeyPressed key moment) = Unit {0}
+Happened Has archive new (FolderOpened path kind moment came marks) =
+    WasOpened archive path kind came marks.mark_before marks.mark_after new
+Happened Has archive new (FolderRefused path why marks) =
     WasRefused Has path why marks.mark_before marks.mark_after new
 
 -- what each event says is true of the journal
 abbrev pub AllHappened : (Kind → Type 0) → List Mail → List Happening → Past → Past → Type 0
 AllHappened Has archive [] old new = Unit {0}
 AllHappened Has archive (event ∷ events) old new =
-    Happened Has archive old new event × AllHappened Has archive events old new
+    Happened Has archive new event × AllHappened Has archive events old new
 
 -- marks and faults are the device's at the start and at the end of an opening
 pub record AreMarks (old new : Seen) (marks : Marks) : Type 0 where

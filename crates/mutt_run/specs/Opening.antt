@@ -25,7 +25,7 @@ use Rattle.mutt_run.specs.declared.status.Status.TheVariants.{NoMemory, TooManyK
 -- what was read at a path, or why not, as the journal shows it
 abbrev pub WasLooked : (Kind → Type 0) → List Mail → List ℕ → Result Opened OpenFault → Past → Past → Type 0
 WasLooked Has archive path (Ok opened) old new =
-    WasOpened archive path opened.kind opened.came.items (length old.journal) (length new.journal) old new
+    WasOpened archive path opened.kind opened.came.items (length old.journal) (length new.journal) new
 WasLooked Has archive path (Err why) old new =
     WasRefused Has path why (length old.journal) (length new.journal) new
 

@@ -4,7 +4,7 @@ use Rattle.std.specs.Io.KnownBytes.{Consumes}
 use Rattle.mutt_run.specs.Events.{Happening, KeyPressed, FolderOpened, FolderRefused}
 use Rattle.mutt_run.specs.declared.key.Key.{Key}
 use Rattle.mutt_run.specs.declared.key.Key.TheVariants.{Char}
-use Rattle.folder_core.specs.Mbox.{in_clock_range}
+use Rattle.folder_core.specs.Moments.{in_clock_range}
 
 -- the most key bytes that are taken
 abbrev pub most_keys : ℕ

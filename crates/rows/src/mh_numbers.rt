@@ -1,7 +1,7 @@
 //! Cases of the numbers of messages (mh-mail(5)).
 
 use case_files::{Answer, Case, CaseFault, Subject};
-use mh_folder::read_number;
+use folder_core::read_number;
 use std::alloc::Global;
 
 /// `name` is the name of a file; its `number` is `none` where it is no number.

@@ -1,8 +1,9 @@
 //! Cases of the sequences of a folder (mh-sequence(5)).
 
 use case_files::{Answer, Case, CaseFault, Entry, Subject};
+use folder_core::read_number;
 use mail_base::split_once;
-use mh_folder::{Sequences, read_number};
+use mh_folder::Sequences;
 use std::alloc::Global;
 
 /// `file` holds the sequences. The other inputs come in their order: `put` and `take` are a name

@@ -7,29 +7,54 @@ use folder_core::kind_of;
 use mail_base::Kind;
 use std::alloc::Global;
 
-/// Each `path` is looked at in its turn.
+/// Each `path` is looked at in its turn; an empty file there is of the kind of the last `empty` before
+/// it, at first an mbox.
 pub struct FolderKinds;
 
 impl Subject for FolderKinds {
     fn inputs(&self) -> &[&[u8]] {
-        &[b"file", b"folder", b"failing", b"stop", b"others", b"path"]
+        &[
+            b"file", b"folder", b"failing", b"stop", b"others", b"empty", b"path",
+        ]
     }
 
     fn answer(&self, alloc: Global, case: &Case) -> Result<Answer, CaseFault> {
         let mut answer = Answer::new(alloc);
         let mut dev = Device::new(Box::new(alloc, disk_of(alloc, case)?)?);
+        let mut empty = Kind::Mbox;
         for entry in case.entries.as_slice() {
             if entry.key.as_slice() == b"path".as_slice() {
                 let path = text_of(entry.value.as_slice())?;
-                match kind_of(alloc, &mut dev, path, Kind::Mbox) {
-                    Ok(kind) => answer.put_text(b"kind", kind_name(kind))?,
-                    Err(error) => {
-                        answer.put_text(b"kind", format!(in alloc; "{error}")?.as_str())?;
-                    }
-                }
+                put_kind(alloc, &mut answer, &mut dev, path, empty)?;
+            } else if entry.key.as_slice() == b"empty".as_slice() {
+                empty = kind_named(entry.value.as_slice());
             }
         }
         Ok(answer)
+    }
+}
+
+fn put_kind(
+    alloc: Global,
+    answer: &mut Answer,
+    dev: &mut Device,
+    path: &str,
+    empty: Kind,
+) -> Result<(), CaseFault> {
+    match kind_of(alloc, dev, path, empty) {
+        Ok(kind) => answer.put_text(b"kind", kind_name(kind))?,
+        Err(error) => answer.put_text(b"kind", format!(in alloc; "{error}")?.as_str())?,
+    }
+    Ok(())
+}
+
+// The kind of a name as `-m` takes it; another name is an mbox's.
+fn kind_named(name: &[u8]) -> Kind {
+    match name {
+        b"Maildir" => Kind::Maildir,
+        b"MH" => Kind::Mh,
+        b"MMDF" => Kind::Mmdf,
+        _ => Kind::Mbox,
     }
 }
 

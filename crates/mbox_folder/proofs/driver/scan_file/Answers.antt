@@ -2,7 +2,7 @@ use Rattle.std.proofs.Common.{rules, ◌≡◌, ◌<◌, ◌+◌, ℕ, Ok, map, 
 use Rattle.std.proofs.lemmas.List.{length-map}
 use Rattle.folder_core.specs.declared.error.ScanError.TheVariants.{ArchiveFull}
 use Rattle.folder_core.specs.Letters.{plain_letter}
-use Rattle.folder_core.specs.Reads.{most_letters, most_messages}
+use Rattle.folder_core.specs.Limits.{most_letters, most_messages}
 use Rattle.mbox_folder.proofs.Driving.{full_unlisted, lists_new, saw_found, saw_unlisted}
 use Rattle.mbox_folder.proofs.Reading.{seen_at}
 use Rattle.mbox_folder.proofs.driver.scan_file.Goals as goal

@@ -7,7 +7,9 @@ use Rattle.folder_core.specs.declared.error.ScanError.TheVariants.{ArchiveFull, 
 use Rattle.folder_core.specs.declared.region.Region.{Region}
 use Rattle.folder_core.specs.Letters.{plain_letter}
 use Rattle.folder_core.specs.Mbox.{begins_mailbox, raw_messages, regions}
-use Rattle.folder_core.specs.Reads.{bytes_refusal, count_refusal, letters_from, listed_from}
+use Rattle.folder_core.specs.Limits.{count_refusal}
+use Rattle.folder_core.specs.Mbox.{bytes_refusal}
+use Rattle.mbox_folder.specs.ListedFile.{letters_from, listed_from}
 use Rattle.folder_core.proofs.Messages.{in_region, map-regions}
 use Rattle.mbox_folder.specs.ListedFile.{IsUnlisted}
 use Rattle.mbox_folder.proofs.listing.list_file.Goals as goal

@@ -4,7 +4,7 @@ use Rattle.folder_core.specs.declared.region.Region.{Region}
 use Rattle.folder_core.specs.declared.listing.Listed.{Listed}
 use Rattle.folder_core.specs.Letters.{Mail, plain_letter}
 use Rattle.folder_core.specs.Mbox.{Cover, raw_messages, regions}
-use Rattle.folder_core.specs.Reads.{letters_from, listed_from}
+use Rattle.mbox_folder.specs.ListedFile.{letters_from, listed_from}
 use Rattle.folder_core.proofs.Messages.{in_region, map-regions, Cover-le, Cover-same}
 use Rattle.mbox_folder.proofs.listing.list_messages.Goals as goal
 

@@ -1,7 +1,7 @@
 use Rattle.std.proofs.Common.{◌≡◌, ◌+◌, ◌++◌, ℕ, length, map, take}
 use Rattle.folder_core.specs.Letters.{plain_letter}
 use Rattle.folder_core.specs.Mbox.{Cover}
-use Rattle.folder_core.specs.Reads.{letters_from, listed_from}
+use Rattle.mbox_folder.specs.ListedFile.{letters_from, listed_from}
 use Rattle.folder_core.proofs.Messages.{in_region}
 use Rattle.mbox_folder.proofs.listing.list_messages.Given as goal
 

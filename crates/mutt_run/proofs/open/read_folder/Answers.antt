@@ -2,12 +2,23 @@ use Rattle.std.proofs.Common.{rules, ap, map, ◌∙◌}
 use Rattle.folder_core.specs.Known.{KnownFolder}
 use Rattle.folder_core.specs.Letters.{plain_letter}
 use Rattle.disk_model.proofs.Looking.{looks_then}
-use Rattle.mutt_run.proofs.Looked.{kind_told, found_told, refused_told}
+use Rattle.mutt_run.proofs.Looked.{found_told, no_kind_told, refused_told}
 use Rattle.mutt_run.proofs.open.read_folder.Goals as goal
+
+pub returns-in-Err : goal.returns-in-Err
+returns-in-Err g c = record {
+  looked = no_kind_told _ _ c.in-Err.why _ _ c.in-Err.ensures.kind;
+  cause = search rules;
+  driver = search rules;
+  fresh = search rules;
+  none = search rules;
+  looks = c.in-Err.ensures.only.looks;
+  faults = search rules;
+}
 
 pub returns-then-not-has : goal.returns-then-not-has
 returns-then-not-has g c = record {
-  looked = kind_told _ _ _ _ c.in-Ok.ensures.kind;
+  looked = c.in-Ok.ensures.kind;
   cause = search rules;
   driver = search rules;
   fresh = search rules;
@@ -24,25 +35,26 @@ returns-in-Ok-scan g c = record {
       ∙ ap (λ (k : KnownFolder). record k
       { listing = c.in-Ok-scan.found.came.items; bytes = c.scan.new.known.bytes; stamps = c.scan.new.known.stamps })
       c.in-Ok-new.ensures))
-      c.in-Ok.ensures.kind c.in-Ok.ensures.looks.looks c.in-Ok-scan.ensures.only.looks c.in-Ok-scan.ensures.saw;
+      c.in-Ok.ensures.kind c.in-Ok.ensures.only.looks c.in-Ok-scan.ensures.only.looks c.in-Ok-scan.ensures.saw;
   cause = search rules;
   driver = search rules;
   fresh = search rules;
   none = search rules;
-  looks = looks_then _ _ _ c.in-Ok.ensures.looks.looks c.in-Ok-scan.ensures.only.looks;
+  looks = looks_then _ _ _ c.in-Ok.ensures.only.looks c.in-Ok-scan.ensures.only.looks;
   faults = search rules;
 }
 
 pub returns : goal.returns
 returns g c = record {
   looked =
-      refused_told _ c.in-Ok.kind _ _ _ c.in-Err-scan.why _ _ _ (ap (map plain_letter) c.requires)
+      refused_told _ c.in-Ok.kind _ (map plain_letter c.scan.new.archive.items) c.scan.new.known c.in-Err-scan.why _ _ _ (ap (map plain_letter) c.requires)
       (ap (λ (k : KnownFolder). k.path) (c.in-Err-scan.ensures.err_known ∙ c.in-Ok-new.ensures))
-      c.in-Ok.ensures.kind c.in-Err-scan.ensures.only.looks c.in-Err-scan.ensures.saw (search rules);
+      c.in-Ok.ensures.kind c.in-Ok.ensures.only.looks c.in-Err-scan.ensures.only.looks
+      c.in-Err-scan.ensures.saw (search rules);
   cause = search rules;
   driver = search rules;
   fresh = search rules;
   none = search rules;
-  looks = looks_then _ _ _ c.in-Ok.ensures.looks.looks c.in-Err-scan.ensures.only.looks;
+  looks = looks_then _ _ _ c.in-Ok.ensures.only.looks c.in-Err-scan.ensures.only.looks;
   faults = search rules;
 }

@@ -1,7 +1,7 @@
 //! Numbers of messages (mh-mail(5)).
 
 ghost use Rattle.std.specs.Prelude.{◌≡◌};
-ghost use Rattle.mh_folder.specs.Number as spec;
+ghost use Rattle.folder_core.specs.MhNumbers as spec;
 
 use mail_base::read_decimal;
 

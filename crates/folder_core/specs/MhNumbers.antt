@@ -1,4 +1,4 @@
--- Numbers of messages (mh-mail(5)).
+-- Numbers of the messages of an MH folder (mh-mail(5)).
 use Rattle.std.specs.Prelude.{◌==◌, ℕ, Bool, false, List, [], ◌∷◌, Option, None, if◌then◌else◌}
 use Rattle.std.specs.Str.{byte}
 use Rattle.mail_base.specs.Decimal.{decimal_in}

@@ -1,0 +1,73 @@
+-- Folders that are directories: paths in them, what stands there, and why they are not listed.
+use Rattle.std.specs.Prelude.{◌≡◌, ◌≤◌, ◌-◌, ◌==◌, ◌&&◌, ℕ, Bool, false, not, nat_lt, length, List, [], ◌∷◌, ◌++◌, Option, Some, None}
+use Rattle.std.specs.Prelude.{take, drop, option_and_then, if◌then◌else◌}
+use Rattle.std.specs.List.{list_any}
+use Rattle.disk_model.specs.Journal.{Past, has_foreign}
+use Rattle.disk_model.specs.State.{tree_at}
+use Rattle.disk_model.specs.Tree.{TreeNode, is_folder_node, is_root, node_at}
+use Rattle.folder_core.specs.Limits.{list_refusal}
+use Rattle.folder_core.specs.Message.{Message}
+use Rattle.folder_core.specs.declared.error.ScanError.{ScanError}
+use Rattle.folder_core.specs.declared.error.ScanError.TheVariants.{Missing, NotMailbox, TooMany, TooLarge, Unfinished}
+use Rattle.folder_core.specs.declared.error.ScanError.TheVariants.{ArchiveFull, Fault, NoMemory}
+
+-- what stands before a name in a directory; the empty path is the directory that we are in
+abbrev pub front_of : List ℕ → List ℕ
+front_of dir = if is_root dir then dir else dir ++ 47 ∷ []
+
+-- the path of a name in a directory
+abbrev pub path_in : List ℕ → List ℕ → List ℕ
+path_in dir name = front_of dir ++ name
+
+-- a name in a directory is not empty and has no slash
+abbrev pub is_name : List ℕ → Bool
+is_name name = nat_lt 0 (length name) && not (list_any (λ b. b == 47) name)
+
+-- the bytes of a node that is a file
+abbrev pub node_file : TreeNode → Option (List ℕ)
+node_file node = node.bytes
+
+-- the bytes of the file at a path, where one stands there
+abbrev pub file_at : List TreeNode → List ℕ → Option (List ℕ)
+file_at tree path = option_and_then node_file (node_at tree path)
+
+-- a folder stands at the path
+abbrev pub is_folder_at : List TreeNode → List ℕ → Bool
+is_folder_at tree path = is_folder_node (node_at tree path)
+
+-- nobody else acted between two marks
+abbrev pub AloneBetween : ℕ → ℕ → Past → Type 0
+AloneBetween m n past = has_foreign (take (n - m) (drop m past.journal)) ≡ false
+
+-- at a mark between two marks nothing stood at the path
+pub record WasMissing (path : List ℕ) (m n : ℕ) (past : Past) : Type 0 where
+  pub mark : ℕ
+  pub from : m ≤ mark
+  pub to : mark ≤ n
+  pub nothing : node_at (tree_at past mark) path ≡ None
+
+-- at a mark between two marks the path was no folder of the kind
+pub record WasNoFolder (is_of_kind : List TreeNode → List ℕ → Bool) (path : List ℕ) (m n : ℕ) (past : Past) : Type 0 where
+  pub mark : ℕ
+  pub from : m ≤ mark
+  pub to : mark ≤ n
+  pub other : is_of_kind (tree_at past mark) path ≡ false
+
+-- messages that would be listed were not for this cause
+pub record WasPastLimit (Saw : List Message → Type 0) (letters : ℕ) (why : ScanError) : Type 0 where
+  pub messages : List Message
+  pub saw : Saw messages
+  pub refused : list_refusal letters messages ≡ Some why
+
+-- why a directory was not listed between two marks, by what is a folder of its kind and by what a scan would list
+abbrev pub DirectoryRefused : (List TreeNode → List ℕ → Bool) → (List Message → Type 0) → ℕ → List ℕ → ScanError
+    → ℕ → ℕ → Past → Type 0
+DirectoryRefused is_of_kind Saw letters path Missing m n past = WasMissing path m n past
+DirectoryRefused is_of_kind Saw letters path (NotMailbox place) m n past =
+    (place ≡ 0) × WasNoFolder is_of_kind path m n past
+DirectoryRefused is_of_kind Saw letters path (TooMany count) m n past = WasPastLimit Saw letters (TooMany count)
+DirectoryRefused is_of_kind Saw letters path (TooLarge bytes) m n past = WasPastLimit Saw letters (TooLarge bytes)
+DirectoryRefused is_of_kind Saw letters path ArchiveFull m n past = WasPastLimit Saw letters ArchiveFull
+DirectoryRefused is_of_kind Saw letters path Unfinished m n past = ⊥
+DirectoryRefused is_of_kind Saw letters path Fault m n past = Unit {0}
+DirectoryRefused is_of_kind Saw letters path NoMemory m n past = Unit {0}

@@ -1,0 +1,84 @@
+-- What one look at a disk tells, as a driver or the rule of kinds wants it told.
+use Rattle.std.specs.Prelude.{◌≡◌, ◌≤◌, ◌<◌, ◌⊎◌, ℕ, Bool, true, false, List, [], ◌∷◌, Option, Some, None, Result}
+use Rattle.std.specs.Prelude.{IfOk, IfErr, IsErrOf, is_some, length, map, take, drop}
+use Rattle.mail_base.specs.Faults.{Rose}
+use Rattle.disk_model.specs.Answers.{AreText}
+use Rattle.disk_model.specs.Journal.{Answer, Call, Own, Past}
+use Rattle.disk_model.specs.Judge.{GoesOn, stat_node}
+use Rattle.disk_model.specs.Looking.{OnlyLooks}
+use Rattle.disk_model.specs.Names.{names_in}
+use Rattle.disk_model.specs.Seen.{Seen}
+use Rattle.disk_model.specs.State.{tree_at}
+use Rattle.disk_model.specs.Tree.{TreeNode, node_at}
+use Rattle.disk_model.specs.declared.answers.Stat.{Stat}
+use Rattle.folder_core.specs.Directory.{file_at, is_folder_at}
+use Rattle.folder_core.specs.Mh.{stamp_there}
+use Rattle.folder_core.specs.declared.error.ScanError.{ScanError}
+use Rattle.folder_core.specs.declared.error.ScanError.TheVariants.{Fault, NoMemory}
+use Rattle.folder_core.specs.declared.looks.Contents.{Contents}
+use Rattle.folder_core.specs.declared.looks.Contents.TheVariants.{Nothing, File, Names}
+use Rattle.folder_core.specs.declared.looks.Content.{Content}
+use Rattle.folder_core.specs.declared.looks.Content.TheVariants.{NoFile, TooLong, Whole}
+use Rattle.folder_core.specs.declared.looks.Front.{Front}
+use Rattle.folder_core.specs.declared.looks.Front.TheVariants.{Free, Directory, Begins}
+
+-- the call met a tree of which this is told, at a mark between two pasts
+pub record SawAt (call : Call) (Tells : List TreeNode → Type 0) (old new : Past) : Type 0 where
+  pub mark : ℕ
+  pub from : length old.journal ≤ mark
+  pub to : mark ≤ length new.journal
+  pub answer : Answer
+  pub own : take 1 (drop mark new.journal) ≡ Own call answer ∷ []
+  pub tells : Tells (tree_at new mark)
+
+-- What a look gives is told of the tree that it met; it changes nothing, and fails for a fault or for want of memory
+-- alone.
+pub record Looked {A : Type 0} (result : Result A ScanError) (call : Call) (Tells : A → List TreeNode → Type 0)
+    (old new : Seen) : Type 0 where
+  pub saw : IfOk result (λ given. GoesOn (SawAt call (Tells given)) old.told new.told)
+  pub only : OnlyLooks old new
+  pub cause : IsErrOf result Fault → Rose old.faults new.faults
+  pub errors : IfErr result (λ why. (why ≡ Fault) ⊎ (why ≡ NoMemory))
+
+-- what `stat` tells of a node
+abbrev pub node_stat : TreeNode → Stat
+node_stat node = stat_node node.bytes node.stamp
+
+-- what `stat` tells of what stands there
+abbrev pub stat_there : Option TreeNode → Option Stat
+stat_there None = None
+stat_there (Some node) = Some (node_stat node)
+
+-- these are the contents of a directory
+abbrev pub IsContents : Contents → List TreeNode → List ℕ → Type 0
+IsContents Nothing tree dir = node_at tree dir ≡ None
+IsContents File tree dir = is_some (file_at tree dir) ≡ true
+IsContents (Names names) tree dir =
+    (is_folder_at tree dir ≡ true) × (map (λ name. name.items) names.items ≡ names_in tree dir)
+
+-- this is the content of a file, of which more bytes than so many are not read
+abbrev pub IsContent : ℕ → Content → List TreeNode → List ℕ → Type 0
+IsContent limit NoFile tree path = file_at tree path ≡ None
+IsContent limit (TooLong size) tree path =
+    (limit < size) × ((bytes : List ℕ) × (file_at tree path ≡ Some bytes) × (size ≡ length bytes))
+IsContent limit (Whole read) tree path =
+    (file_at tree path ≡ Some read.bytes.items) × (stamp_there (node_at tree path) ≡ read.stat.stamp)
+    × (length read.bytes.items ≤ limit)
+
+-- what stands there begins so
+abbrev pub IsFrontOf : Front → List TreeNode → List ℕ → Type 0
+IsFrontOf Free tree path = node_at tree path ≡ None
+IsFrontOf Directory tree path = is_folder_at tree path ≡ true
+IsFrontOf (Begins front) tree path = (bytes : List ℕ) × (file_at tree path ≡ Some bytes) × (take 5 bytes ≡ front.items)
+
+-- the names are text
+abbrev pub HasText : Contents → Type 0
+HasText Nothing = Unit {0}
+HasText File = Unit {0}
+HasText (Names names) = AreText names.items
+
+-- the names of a directory are told
+abbrev pub is_names : Contents → Bool
+is_names Nothing = false
+is_names File = false
+is_names (Names names) = true

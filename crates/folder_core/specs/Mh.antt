@@ -1,0 +1,132 @@
+-- A folder of a numbered file a message (mh-mail(5)), whose flags stand in the sequences of `.mh_sequences`.
+use Rattle.std.specs.Prelude.{◌≡◌, ◌≤◌, ℕ, pos, Bool, true, nat_lt, List, [], ◌∷◌, codes}
+use Rattle.std.specs.Prelude.{Option, Some, None, is_some, option_and_then, unwrap_or, if◌then◌else◌}
+use Rattle.std.specs.List.{filter, filter_map}
+use Rattle.disk_model.specs.Journal.{Past}
+use Rattle.disk_model.specs.Names.{names_in}
+use Rattle.disk_model.specs.State.{tree_at}
+use Rattle.disk_model.specs.Tree.{TreeNode, node_at}
+use Rattle.folder_core.specs.Directory.{AloneBetween, DirectoryRefused, file_at, is_folder_at, path_in}
+use Rattle.folder_core.specs.Format.{Format}
+use Rattle.folder_core.specs.Known.{KnownFolder}
+use Rattle.folder_core.specs.Letters.{Mail}
+use Rattle.folder_core.specs.Limits.{list_refusal}
+use Rattle.folder_core.specs.Message.{Message, are_in_order, has_key}
+use Rattle.folder_core.specs.MhNumbers.{number_of}
+use Rattle.folder_core.specs.MhSequences.{mh_flags}
+use Rattle.folder_core.specs.Ordered.{in_order_by}
+
+-- the file of the sequences
+abbrev pub sequences_path : List ℕ → List ℕ
+sequences_path path = path_in path (codes ".mh_sequences")
+
+-- its bytes; none where it is not there
+abbrev pub sequences_at : List TreeNode → List ℕ → List ℕ
+sequences_at tree path = unwrap_or (file_at tree (sequences_path path)) []
+
+-- the name is a number of a message
+abbrev pub is_number : List ℕ → Bool
+is_number name = is_some (number_of name)
+
+abbrev pub number_at : List ℕ → ℕ
+number_at name = unwrap_or (number_of name) 0
+
+-- an empty file is no message
+abbrev pub message_of : List ℕ → List ℕ → List ℕ → Option Message
+message_of sequences name [] = None
+message_of sequences name (b ∷ raw) = Some (record {
+  order = number_at name;
+  key = name;
+  flags = mh_flags sequences (number_at name);
+  raw = b ∷ raw;
+})
+
+-- the message of a name, where a file that is not empty has it; its flags by the file of the sequences
+abbrev pub message_at : List TreeNode → List ℕ → List ℕ → List ℕ → Option Message
+message_at tree path sequences name =
+    option_and_then (message_of sequences name) (file_at tree (path_in path name))
+
+abbrev pub comes_before : List ℕ → List ℕ → Bool
+comes_before name other = nat_lt (number_at name) (number_at other)
+
+-- the numbers among the names, the lowest first
+abbrev pub numbers_of : List (List ℕ) → List (List ℕ)
+numbers_of names = in_order_by comes_before (filter is_number names)
+
+abbrev pub mh_messages : List TreeNode → List ℕ → List Message
+mh_messages tree path =
+    filter_map (message_at tree path (sequences_at tree path)) (numbers_of (names_in tree path))
+
+abbrev pub mh_reads : List TreeNode → List ℕ → Option (List Message)
+mh_reads tree path = if is_folder_at tree path then Some (mh_messages tree path) else None
+
+-- when it was received is not told, and the text begins at once
+abbrev pub mh_letter : ℕ → Message → Mail
+mh_letter id message = record {
+  order = message.order;
+  key = message.key;
+  core = message.raw;
+  text_at = 0;
+  received = pos 0;
+}
+
+-- the stamp of what stands there
+abbrev pub stamp_there : Option TreeNode → ℕ
+stamp_there None = 0
+stamp_there (Some node) = node.stamp
+
+-- a message with these flags stood in the folder at a mark between two marks, in a file with this stamp
+pub record Stood (path sequences : List ℕ) (m n : ℕ) (past : Past) (message : Message) (stamp : ℕ) : Type 0 where
+  pub mark : ℕ
+  pub from : m ≤ mark
+  pub to : mark ≤ n
+  pub named : is_number message.key ≡ true
+  pub there : message_at (tree_at past mark) path sequences message.key ≡ Some message
+  pub stamp_is : stamp_there (node_at (tree_at past mark) (path_in path message.key)) ≡ stamp
+
+-- each of the messages stood there, and the stamps are theirs
+abbrev pub AllStood : List ℕ → List ℕ → ℕ → ℕ → Past → List Message → List ℕ → Type 0
+AllStood path sequences m n past [] stamps = stamps ≡ []
+AllStood path sequences m n past (message ∷ messages) [] = ⊥
+AllStood path sequences m n past (message ∷ messages) (stamp ∷ stamps) =
+    Stood path sequences m n past message stamp × AllStood path sequences m n past messages stamps
+
+-- a file that is not empty has this name at each mark from one to another
+abbrev pub StaysThere : List ℕ → List ℕ → ℕ → ℕ → Past → Type 0
+StaysThere path name m n past = (mark : ℕ) → m ≤ mark → mark ≤ n
+    → is_some (message_at (tree_at past mark) path [] name) ≡ true
+
+-- What a scan saw between two marks: the sequences at one of them; each message that it lists stood there once with its
+-- number and bytes, and has the flags of the sequences; one that stood there all along is listed; and where nobody else
+-- acted they are those of the folder.
+pub record SawMh (path : List ℕ) (messages : List Message) (stamps : List ℕ) (m n : ℕ) (past : Past) : Type 0 where
+  pub mark : ℕ
+  pub from : m ≤ mark
+  pub to : mark ≤ n
+  pub in_order : are_in_order messages ≡ true
+  pub stood : AllStood path (sequences_at (tree_at past mark) path) m n past messages stamps
+  pub stayed : (name : List ℕ) → is_number name ≡ true → StaysThere path name m n past
+      → has_key name messages ≡ true
+  pub alone : AloneBetween m n past → mh_reads (tree_at past n) path ≡ Some messages
+
+-- the messages may be listed, and the stamps of their files are kept
+pub record SawNumbered (letters : ℕ) (known : KnownFolder) (messages : List Message) (m n : ℕ) (past : Past)
+    : Type 0 where
+  pub saw : SawMh known.path messages known.stamps m n past
+  pub taken : list_refusal letters messages ≡ None
+  pub bytes : known.bytes ≡ []
+
+-- some stamps go with what was seen
+pub record SawStamped (path : List ℕ) (messages : List Message) (m n : ℕ) (past : Past) : Type 0 where
+  pub stamps : List ℕ
+  pub saw : SawMh path messages stamps m n past
+
+abbrev pub mh_format : Format
+mh_format = record {
+  reads = mh_reads;
+  core = λ raw. raw;
+  letter = mh_letter;
+  Saw = SawNumbered;
+  Refused = λ letters path why m n past.
+      DirectoryRefused is_folder_at (λ messages. SawStamped path messages m n past) letters path why m n past;
+}

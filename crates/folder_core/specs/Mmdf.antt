@@ -1,0 +1,29 @@
+-- A mailbox in one file whose messages stand between lines of four bytes 1. No driver reads it yet: it has no messages,
+-- and is refused as no mailbox.
+use Rattle.std.specs.Prelude.{◌≡◌, ℕ, pos, List, [], None}
+use Rattle.disk_model.specs.Journal.{Past}
+use Rattle.folder_core.specs.Format.{Format}
+use Rattle.folder_core.specs.Letters.{Mail}
+use Rattle.folder_core.specs.Message.{Message}
+use Rattle.folder_core.specs.declared.error.ScanError.{ScanError}
+use Rattle.folder_core.specs.declared.error.ScanError.TheVariants.{NotMailbox, Fault, NoMemory}
+
+abbrev pub mmdf_letter : ℕ → Message → Mail
+mmdf_letter id message =
+    record { order = id; key = []; core = message.raw; text_at = 0; received = pos 0 }
+
+-- it is no mailbox
+abbrev pub mmdf_refused : ℕ → List ℕ → ScanError → ℕ → ℕ → Past → Type 0
+mmdf_refused letters path (NotMailbox place) m n past = place ≡ 0
+mmdf_refused letters path Fault m n past = Unit {0}
+mmdf_refused letters path NoMemory m n past = Unit {0}
+mmdf_refused letters path why m n past = ⊥
+
+abbrev pub mmdf_format : Format
+mmdf_format = record {
+  reads = λ tree path. None;
+  core = λ raw. raw;
+  letter = mmdf_letter;
+  Saw = λ letters known messages m n past. ⊥;
+  Refused = mmdf_refused;
+}
