@@ -1,0 +1,6 @@
+pub mod FirstsLemmas
+pub mod CycleLemmas
+pub mod WalkLemmas
+pub mod OrderLemmas
+pub mod CloseLemmas
+pub mod EndsLemmas

@@ -1,0 +1,23 @@
+-- What holds of the tables while they are made.
+use Rattle.std.specs.Prelude.{◌≡◌, ℕ, List, Option, Vec}
+use Rattle.std.specs.declared.alloc.Global.{Global}
+use Rattle.threads.specs.Firsts.{first_of, place_in}
+use Rattle.threads.specs.Links.{has_id}
+use Rattle.threads.specs.Message.{is_listed_before, is_sent_before, plain_messages}
+use Rattle.threads.specs.Subjects.{begins_subject}
+use Rattle.threads.specs.declared.message.Message.{Message}
+use Rattle.threads.specs.declared.step.Step.{Step}
+
+-- a table has the first holder among the messages below a place
+abbrev pub HoldersBelow : List Message → List (Vec ℕ Global × ℕ) → ℕ → Type 0
+HoldersBelow messages table place =
+    (id : List ℕ) → place_in table id
+    ≡ first_of (is_listed_before (plain_messages messages)) (has_id (plain_messages messages) id)
+    place
+
+-- and the first with a subject among those without a parent
+abbrev pub SubjectsBelow : List Message → List (Option Step) → List (Vec ℕ Global × ℕ) → ℕ → Type 0
+SubjectsBelow messages parents table place =
+    (subject : List ℕ) → place_in table subject
+    ≡ first_of (is_sent_before (plain_messages messages))
+    (begins_subject (plain_messages messages) parents subject) place

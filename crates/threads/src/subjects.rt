@@ -1,0 +1,1 @@
+//! Parents by subject, through a table of first messages.

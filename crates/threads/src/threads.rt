@@ -1,0 +1,5 @@
+//! Threads of messages.
+/// Threads.
+pub struct Threads {
+    x: usize,
+}
