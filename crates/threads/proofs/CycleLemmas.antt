@@ -59,10 +59,10 @@ and_second : (a b : Bool) → a && b ≡ true → b ≡ true
 and_second true b e = e
 and_second false b e = absurd (false≢true e)
 
-same_place : (a : ℕ) → (a == a) ≡ true
+pub same_place : (a : ℕ) → (a == a) ≡ true
 same_place a = eq-eqb a a refl
 
-is_place : (a b : ℕ) → (a == b) ≡ true → a ≡ b
+pub is_place : (a b : ℕ) → (a == b) ≡ true → a ≡ b
 is_place a b e = grind (arith, nat_tests)
 
 module _ (before : ℕ → ℕ → Bool) (links : List (Option Step)) where

@@ -2,7 +2,7 @@
 use Rattle.std.proofs.Common.{◌≡◌, ◌∙◌, ℕ, zero, suc, ◌+◌, ◌<◌, ◌≤◌, Bool, false, true, List, [], length, map}
 use Rattle.std.proofs.Common.{Option, None, Some, refl, sym, ap, subst, ◌⊎◌, inl, inr, ⊎_elim, arith, get_or, replicate, slice_index}
 use Rattle.std.proofs.lemmas.Bool.{cases_lt, false≢true}
-use Rattle.std.proofs.lemmas.List.{get_or-map, get_or-replicate, get_or_past, length-replicate}
+use Rattle.std.proofs.lemmas.List.{get_or-map, get_or-replicate, get_or_past, length-map, length-replicate}
 use Rattle.std.proofs.lemmas.List.Sums.{count_by-le-length}
 use Rattle.threads.specs.Walk.{AreEnds, AreFollowed, Ends, IsEnded, IsWalk, cut_target, is_unseen, mark_at, root_in, unseen}
 use Rattle.threads.specs.declared.walk.Mark.{Mark}
@@ -38,13 +38,15 @@ ended_from (Ended r) s off = refl
 
 pub all_end : (before : ℕ → ℕ → Bool) (links : List (Option Step)) (marks : List Mark)
     → AreFollowed before links marks (length links) → AreEnds before links (map root_in marks)
-all_end before links marks done p lt =
-    let off : (i : ℕ) → mark_at marks p ≡ OnWay i → ⊥ = λ i e. no_way p (done.walk.only p i e) in
-    let e = ended_from (mark_at marks p) (done.seen p lt) off in
-    let own = done.walk.ended p (root_in (mark_at marks p)) e in
-    let there : slice_index (map root_in marks) p ≡ root_in (mark_at marks p) =
-    get_or-map root_in marks p Unseen 0 (omega (arith, done.walk.long)) in
-    (own.steps, omega (arith, own.few), subst (Ends (cut_target before links) own.steps p) (sym there) own.ends)
+all_end before links marks done = record {
+  long = length-map marks root_in ∙ done.walk.long;
+  each = λ p lt.
+  let e = ended_from (mark_at marks p) (done.seen p lt) (λ i e. no_way p (done.walk.only p i e)) in
+  let own = done.walk.ended p (root_in (mark_at marks p)) e in
+  let there : slice_index (map root_in marks) p ≡ root_in (mark_at marks p) =
+  get_or-map root_in marks p Unseen 0 (omega (arith, done.walk.long)) in
+  (own.steps, omega (arith, own.few), subst (Ends (cut_target before links) own.steps p) (sym there) own.ends);
+}
   where
     no_way : (p : ℕ) → None ≡ Some p → ⊥
     no_way p e = cc

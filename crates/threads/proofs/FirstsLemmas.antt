@@ -1,13 +1,19 @@
 -- How a table of places grows.
-use Rattle.std.proofs.Common.{◌≡◌, ◌∙◌, ℕ, ◌+◌, ◌<◌, Bool, true, false, cond, List, [], ◌∷◌, Vec, Option, Some, None}
-use Rattle.std.proofs.Common.{refl, sym, ap, ⊎_elim, nat_lt}
+use Rattle.std.proofs.Common.{◌≡◌, ◌∙◌, ℕ, zero, suc, ◌+◌, ◌<◌, Bool, true, false, cond, List, [], ◌∷◌, Vec, Option, Some, None}
+use Rattle.std.proofs.Common.{refl, sym, ap, ⊎_elim, arith, length, get_or, add-one}
+use Rattle.std.proofs.lemmas.List.{get_or-map}
 use Rattle.std.specs.Prelude.{if◌then◌else◌}
 use Rattle.std.specs.Str.{bytes_eq}
 use Rattle.std.specs.declared.alloc.Global.{Global}
 use Rattle.std.proofs.lemmas.Bool.{cases_Bool, false_from_ne_true, false≢true}
 use Rattle.std.proofs.lemmas.Slice.Eq.{bytes_eq-Decides}
 use Rattle.indexmap.specs.IndexMap.{insert_entry}
-use Rattle.threads.specs.Firsts.{place_in}
+use Rattle.threads.specs.Firsts.{earlier, first_of, place_in}
+use Rattle.threads.specs.Message.{at, no_message, plain_message, plain_messages}
+use Rattle.threads.specs.declared.message.Message.{Message}
+
+pub same_place : (a b : ℕ) → Some a ≡ Some b → a ≡ b
+same_place a b e = cc
 
 -- how the table tells its texts apart
 abbrev pub same_text : Vec ℕ Global → Vec ℕ Global → Bool
@@ -59,3 +65,36 @@ place_put (e ∷ entries) k v other = ⊎_elim
     (sym (ap (λ b. cond b (Some e.1) (place_in entries other)) missed)))
     (cases_Bool (bytes_eq other e.0.items)))
     (cases_Bool (bytes_eq k.items e.0.items))
+
+first_below_by : (is_before : ℕ → ℕ → Bool) (n f : ℕ) (o : Option ℕ) → ((g : ℕ) → o ≡ Some g → g < n)
+    → earlier is_before o n ≡ Some f → f < suc n
+first_below_by is_before n f None more e = omega (arith, same_place n f e)
+first_below_by is_before n f (Some g) more e = ⊎_elim
+    (λ early. omega (arith, same_place n f (sym (ap (λ b. Some (if b then n else g)) early) ∙ e)))
+    (λ late. omega (arith, same_place g f (sym (ap (λ b. Some (if b then n else g)) late) ∙ e), more g refl))
+    (cases_Bool (is_before n g))
+
+-- the first of places stands below their number
+pub first_below : (is_before : ℕ → ℕ → Bool) (passes : ℕ → Bool) (n f : ℕ)
+    → first_of is_before passes n ≡ Some f → f < n
+first_below is_before passes zero f e = cc
+first_below is_before passes (suc n) f e = ⊎_elim
+    (λ pass. first_below_by is_before n f (first_of is_before passes n) (first_below is_before passes n)
+    (sym (ap (λ b. if b then earlier is_before (first_of is_before passes n) n
+    else first_of is_before passes n) pass) ∙ e))
+    (λ fail. omega (arith, first_below is_before passes n f
+    (sym (ap (λ b. if b then earlier is_before (first_of is_before passes n) n
+    else first_of is_before passes n) fail) ∙ e)))
+    (cases_Bool (passes n))
+
+-- the message at a place, as contracts see it
+pub at_place : (messages : List Message) (m : Message) (place : ℕ) → place < length messages
+    → m ≡ get_or messages place m → at (plain_messages messages) place ≡ plain_message m
+at_place messages m place lt e =
+    get_or-map plain_message messages place m no_message lt ∙ ap plain_message (sym e)
+
+-- a function of places, one further
+pub first_more : (is_before : ℕ → ℕ → Bool) (passes : ℕ → Bool) (n : ℕ)
+    → first_of is_before passes (n + 1)
+    ≡ (if passes n then earlier is_before (first_of is_before passes n) n else first_of is_before passes n)
+first_more is_before passes n = rw add-one

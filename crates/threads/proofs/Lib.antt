@@ -4,3 +4,4 @@ pub mod WalkLemmas
 pub mod OrderLemmas
 pub mod CloseLemmas
 pub mod EndsLemmas
+pub mod FoundLemmas

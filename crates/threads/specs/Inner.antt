@@ -1,11 +1,13 @@
 -- What holds of the tables while they are made.
-use Rattle.std.specs.Prelude.{◌≡◌, ℕ, List, Option, Vec}
+use Rattle.std.specs.Prelude.{◌≡◌, ◌<◌, ℕ, Bool, List, Option, Some, Vec}
 use Rattle.std.specs.declared.alloc.Global.{Global}
 use Rattle.threads.specs.Firsts.{first_of, place_in}
 use Rattle.threads.specs.Links.{has_id}
-use Rattle.threads.specs.Message.{is_listed_before, is_sent_before, plain_messages}
+use Rattle.threads.specs.Message.{PlainMessage, is_listed_before, is_sent_before, plain_messages}
 use Rattle.threads.specs.Subjects.{begins_subject}
 use Rattle.threads.specs.declared.message.Message.{Message}
+use Rattle.threads.specs.declared.message.Order.{Order}
+use Rattle.threads.specs.declared.message.Order.TheVariants.{Listed, Sent}
 use Rattle.threads.specs.declared.step.Step.{Step}
 
 -- a table has the first holder among the messages below a place
@@ -21,3 +23,12 @@ SubjectsBelow messages parents table place =
     (subject : List ℕ) → place_in table subject
     ≡ first_of (is_sent_before (plain_messages messages))
     (begins_subject (plain_messages messages) parents subject) place
+
+-- the order in which the first is looked for
+abbrev pub is_before : Order → List PlainMessage → ℕ → ℕ → Bool
+is_before Listed = is_listed_before
+is_before Sent = is_sent_before
+
+-- the places of a table stand below a number
+abbrev pub IsBelow : List (Vec ℕ Global × ℕ) → ℕ → Type 0
+IsBelow table n = (text : List ℕ) (first : ℕ) → place_in table text ≡ Some first → first < n

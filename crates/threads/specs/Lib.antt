@@ -6,3 +6,4 @@ pub mod Subjects
 pub mod Threads
 pub mod Inner
 pub mod Walk
+pub mod Found

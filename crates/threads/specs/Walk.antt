@@ -128,9 +128,10 @@ pub record AreFollowed (before : ℕ → ℕ → Bool) (links : List (Option Ste
   pub seen : (p : ℕ) → p < count → is_unseen (mark_at marks p) ≡ false
 
 -- each place ends at its root
-abbrev pub AreEnds : (ℕ → ℕ → Bool) → List (Option Step) → List ℕ → Type 0
-AreEnds before links roots = (p : ℕ) → p < length links
-    → (d : ℕ) × (d < length links) × Ends (cut_target before links) d p (slice_index roots p)
+pub record AreEnds (before : ℕ → ℕ → Bool) (links : List (Option Step)) (roots : List ℕ) : Type 0 where
+  pub long : length roots ≡ length links
+  pub each : (p : ℕ) → p < length links
+      → (d : ℕ) × (d < length links) × Ends (cut_target before links) d p (slice_index roots p)
 
 -- the marks and the way
 pub record State : Type 0 where

@@ -7,8 +7,8 @@ ghost use Rattle.threads.specs.Links as spec;
 ghost use Rattle.threads.specs.Message.{plain_message, plain_messages};
 ghost use Rattle.threads.specs.Inner.{HoldersBelow};
 
-use crate::firsts::Firsts;
-use crate::message::{Message, is_listed_before};
+use crate::firsts::{Firsts, add_first};
+use crate::message::{Message, Order};
 use crate::options::{Link, ThreadOptions};
 use crate::step::Step;
 use mail_base::{Bytes, NoMemory};
@@ -28,10 +28,7 @@ fn add_holder(
     let Some(id) = &messages[place].message_id else {
         return Ok(());
     };
-    match holders.find(id.as_slice()) {
-        Some(first) if !is_listed_before(messages, place, first) => Ok(()),
-        _ => holders.put(alloc, id.as_slice(), place),
-    }
+    add_first(alloc, Order::Listed, messages, holders, id.as_slice(), place)
 }
 
 fn holders_of(alloc: Global, messages: &[Message]) -> Result<Firsts, NoMemory>

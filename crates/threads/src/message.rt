@@ -94,11 +94,35 @@ pub fn is_listed_before(messages: &[Message], a: usize, b: usize) -> bool
     listing_order(&messages[a], &messages[b]).is_lt()
 }
 
-/// Whether the message at one place was sent before that at another.
-pub fn is_sent_before(messages: &[Message], a: usize, b: usize) -> bool
+// Whether the message at one place was sent before that at another.
+fn is_sent_before(messages: &[Message], a: usize, b: usize) -> bool
     requires one { a < length messages.now }
     requires other { b < length messages.now }
     ensures { result ≡ spec.is_sent_before (spec.plain_messages messages.now) a b }
 {
     sent_order(&messages[a], &messages[b]).is_lt()
+}
+
+/// In which order the first of messages is looked for.
+#[derive(Clone, Copy)]
+pub enum Order {
+    Listed,
+    /// By the date sent, and then in listing order.
+    Sent,
+}
+
+impl Order {
+    ghost use Rattle.threads.specs.Inner.{is_before};
+
+    /// Whether the message at one place comes before that at another.
+    pub fn is_before(self, messages: &[Message], a: usize, b: usize) -> bool
+        requires one { a < length messages.now }
+        requires other { b < length messages.now }
+        ensures { result ≡ is_before self (spec.plain_messages messages.now) a b }
+    {
+        match self {
+            Order::Listed => is_listed_before(messages, a, b),
+            Order::Sent => is_sent_before(messages, a, b),
+        }
+    }
 }
