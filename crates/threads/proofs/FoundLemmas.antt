@@ -12,6 +12,7 @@ use Rattle.std.proofs.lemmas.List.{get_or_past, length-map, same_lists, get_or-m
 use Rattle.std.proofs.lemmas.List.FromFn.{get_or-map-range_with_len, length-map-range_with_len, length-range_with_len, fill_by_all}
 use Rattle.threads.specs.Cycles.{cut_link, heads_cycle, reference_parents, without_cycles}
 use Rattle.threads.specs.Firsts.{earlier, first_of}
+use Rattle.threads.specs.Forest.{IsForest}
 use Rattle.threads.specs.Found.{AreWithin, LeadsBelow, cut_at_roots, root_above}
 use Rattle.threads.specs.Links.{duplicated, has_id, holder, link_by, link_of, links, other_than, referred, step, target}
 use Rattle.threads.specs.Message.{PlainMessage, at, is_listed_before, is_sent_before, numbers}
@@ -356,6 +357,13 @@ module _ (options : ThreadOptions) (ms : List PlainMessage) (roots : List ℕ)
       (λ x q e. parent_kept options ms refs refs_long x q (cut_kept before ls x q e))
       own.0 last.0 p r (root_above (parents options ms) r) own.2 last.2)
 
+  pub forest : IsForest (parents options ms)
+  forest p lt =
+      let c = chain p (subst (λ n. p < n) parents_long lt) in
+      let le : c.0 ≤ length (parents options ms) = subst (λ n. c.0 ≤ n) (sym parents_long) c.1 in
+      (c.0, le, subst (Ends (target (parents options ms)) c.0 p)
+      (sym (end_is (parents options ms) c.0 (length (parents options ms)) p _ le c.2)) c.2)
+
   pub roots_are : map (root_above (parents options ms)) roots
       ≡ map (root_of (parents options ms)) (range_with_len 0 (length ms))
   roots_are = fill_by_all (root_of (parents options ms)) (map (root_above (parents options ms)) roots) (length ms) 0
@@ -431,15 +439,16 @@ next_none a n e = ⊎_elim
     ap (λ b. cond {A = Option ℕ} b (Some a) None) t)
     (cases_lt a n)
 
+-- the place of a first number, or of the rest
+abbrev first_or : ℕ → ℕ → Bool → Option ℕ
+first_or rest n b = cond {A = Option ℕ} (nat_lt (cond (not b) (1 + rest) 0) (suc n))
+    (Some (cond (not b) (1 + rest) 0)) None
+
 -- a number that has no place is none of them
 pub absent_number : (xs : List ℕ) (k : ℕ) → position (nat_eq k) xs ≡ None → list_any (nat_eq k) xs ≡ false
 absent_number [] k e = refl
 absent_number (x ∷ xs) k e = ⊎_elim
-    (λ same. absurd (none_some 0 (sym e ∙ ap at same ∙ zero_first (length xs))))
+    (λ same. absurd (none_some 0 (sym e ∙ ap (first_or (position_or_len (nat_eq k) xs) (length xs)) same ∙ zero_first (length xs))))
     (λ ne. ap (λ b. b || list_any (nat_eq k) xs) ne
-    ∙ absent_number xs k (next_none (position_or_len (nat_eq k) xs) (length xs) (sym (ap at ne) ∙ e)))
+    ∙ absent_number xs k (next_none (position_or_len (nat_eq k) xs) (length xs) (sym (ap (first_or (position_or_len (nat_eq k) xs) (length xs)) ne) ∙ e)))
     (cases_Bool (nat_eq k x))
-  where
-    abbrev at : Bool → Option ℕ
-    at b = cond {A = Option ℕ} (nat_lt (cond (not b) (1 + position_or_len (nat_eq k) xs) 0) (suc (length xs)))
-        (Some (cond (not b) (1 + position_or_len (nat_eq k) xs) 0)) None

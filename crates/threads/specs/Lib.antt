@@ -5,5 +5,6 @@ pub mod Cycles
 pub mod Subjects
 pub mod Threads
 pub mod Inner
+pub mod Forest
 pub mod Walk
 pub mod Found

@@ -6,6 +6,7 @@ use Rattle.threads.specs.Message.{PlainMessage, numbers}
 use Rattle.std.specs.Prelude.{Option, Some, None, option_map, reverse, count_by, fold, slice_get, slice_index, slice_index_or, slice_set}
 use Rattle.threads.specs.Cycles.{cut_link}
 use Rattle.threads.specs.Links.{target}
+pub use Rattle.threads.specs.Forest.{Ends}
 use Rattle.threads.specs.declared.walk.Mark.{Mark}
 use Rattle.threads.specs.declared.walk.Mark.TheVariants.{Unseen, OnWay, Ended}
 use Rattle.threads.specs.declared.step.Step.{Step}
@@ -33,11 +34,6 @@ Follows links p (x ∷ xs) = (target links x ≡ Some p) × Follows links x xs
 -- where a place leads once cycles are cut
 abbrev pub cut_target : (ℕ → ℕ → Bool) → List (Option Step) → ℕ → Option ℕ
 cut_target before links p = option_map (λ s. s.place) (cut_link before links p)
-
--- so many steps lead from a place to an end
-abbrev pub Ends : (ℕ → Option ℕ) → ℕ → ℕ → ℕ → Type 0
-Ends on zero p r = (p ≡ r) × (on p ≡ None)
-Ends on (suc d) p r = (q : ℕ) × (on p ≡ Some q) × Ends on d q r
 
 -- the mark of a place
 abbrev pub mark_at : List Mark → ℕ → Mark

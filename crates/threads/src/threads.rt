@@ -3,7 +3,9 @@
 ghost use Rattle.std.specs.Prelude.{◌≡◌, ◌==◌, ◌<◌, ◌++◌, ◌∷◌, [], length, map, slice_index, slice_index_or, true, false, None, is_some, option_map, Some, IsSome, IfSome, OnOk, OnErr, IfOk, if◌then◌else◌};
 ghost use Rattle.headers.specs.Header.{plain_header};
 ghost use Rattle.threads.specs.Message as message;
+ghost use Rattle.threads.specs.Forest.{IsForest};
 ghost use Rattle.threads.specs.Found as kept;
+ghost use Rattle.threads.specs.Subjects.{parents};
 ghost use Rattle.threads.specs.Threads as spec;
 
 use crate::links::links_of;
@@ -110,6 +112,8 @@ impl Threads {
         requires { self.old.is_finished ≡ false }
         ensures ok { OnOk result (self.new ≡ record self.old { is_finished = true }) }
         ensures err { OnErr result (self.new ≡ self.old) }
+        // No message follows itself, by however many steps.
+        ensures forest { OnOk result (IsForest (parents self.old.options self.old.messages)) }
     {
         let found = found_of(self.alloc, self.options, self.messages.as_slice())?;
         self.found = Some(found);
@@ -237,7 +241,8 @@ fn found_of(
     messages: &[Message],
 ) -> Result<Found, NoMemory>
     requires { kept.AreDistinct (message.plain_messages messages.now) }
-    ensures { IfOk result (kept.IsFound options (message.plain_messages messages.now)) }
+    ensures found { IfOk result (kept.IsFound options (message.plain_messages messages.now)) }
+    ensures forest { OnOk result (IsForest (parents options (message.plain_messages messages.now))) }
 {
     let links = links_of(alloc, options, messages)?;
     let ends = ends_of(alloc, messages, &links)?;

@@ -7,7 +7,7 @@ use Rattle.threads.specs.Links.{links}
 use Rattle.threads.specs.Message.{is_listed_before, plain_message, plain_messages}
 use Rattle.threads.specs.Subjects.{parents, with_subjects}
 use Rattle.threads.specs.Walk.{AreEnds, FitsMessages}
-use Rattle.threads.proofs.FoundLemmas.{cut_is, fits, parents_long, refs_long, roots_are, roots_below, roots_long}
+use Rattle.threads.proofs.FoundLemmas.{cut_is, fits, forest, parents_long, refs_long, roots_are, roots_below, roots_long}
 use Rattle.threads.proofs.threads.found_of.Goals as goal
 
 pub ends_of-requires : goal.ends_of-requires
@@ -52,8 +52,8 @@ roots_above-requires c =
     (λ i lt. roots_below c.args.options ms c.in_ok-ends.ends.items ends i
     (subst (λ n. i < n) (roots_long c.args.options ms c.in_ok-ends.ends.items ends) lt)))
 
-pub returns : goal.returns
-returns c =
+pub returns-clause-found : goal.returns-clause-found
+returns-clause-found c =
     let ms = plain_messages c.args.messages.now in
     let links_are : c.in_ok-links.links.items ≡ links c.args.options ms = c.in_ok-links.ensures in
     let ends : AreEnds (is_listed_before ms) (links c.args.options ms) c.in_ok-ends.ends.items =
@@ -73,3 +73,12 @@ returns c =
       ∙ ap (map (root_above (parents c.args.options ms))) c.deref-5.ensures.value
       ∙ roots_are c.args.options ms c.in_ok-ends.ends.items ends;
     }
+
+pub returns-clause-forest : goal.returns-clause-forest
+returns-clause-forest c =
+    let ms = plain_messages c.args.messages.now in
+    let links_are : c.in_ok-links.links.items ≡ links c.args.options ms = c.in_ok-links.ensures in
+    let ends : AreEnds (is_listed_before ms) (links c.args.options ms) c.in_ok-ends.ends.items =
+    subst (λ l. AreEnds (is_listed_before ms) l c.in_ok-ends.ends.items) (c.deref.ensures.value ∙ links_are)
+    c.in_ok-ends.ensures in
+    forest c.args.options ms c.in_ok-ends.ends.items ends

@@ -1,0 +1,128 @@
+//! Cases of messages put into threads.
+
+ghost use Rattle.std.specs.Prelude.{◌≡◌, false, true, IfOk, OnOk};
+
+use case_files::{Answer, Case, CaseFault, Entry, Subject, read_number};
+use headers::read_header;
+use mail_base::Id;
+use std::alloc::Global;
+use threads::{Link, Parent, ThreadOptions, Threads};
+
+/// `options` are words of `strict`, `reply_only` and `duplicates`. Each `message ID` is a header, and
+/// stands in the listing by the number behind its id, or else by its id; it was received at that
+/// second. `parent` is the parent of each message, in the order of the case, and `root` its root.
+pub struct ThreadCalls;
+
+impl Subject for ThreadCalls {
+    fn inputs(&self) -> &[&[u8]] {
+        &[b"options", b"message"]
+    }
+
+    fn answer(&self, alloc: Global, case: &Case) -> Result<Answer, CaseFault> {
+        let mut answer = Answer::new(alloc);
+        let mut threads = added(alloc, case)?;
+        threads.finish()?;
+        tell(alloc, case, &threads, &mut answer)?;
+        Ok(answer)
+    }
+}
+
+fn has_word(case: &Case, word: &[u8]) -> bool {
+    let words = case.find(b"options").unwrap_or(b"");
+    words.split(|byte| *byte == b' ').any(|w| w == word)
+}
+
+fn added(alloc: Global, case: &Case) -> Result<Threads, CaseFault>
+    ensures { IfOk result (λ t. t.is_finished ≡ false) }
+{
+    let options = ThreadOptions {
+        strict: has_word(case, b"strict"),
+        reply_only: has_word(case, b"reply_only"),
+        duplicates: has_word(case, b"duplicates"),
+    };
+    let mut threads = Threads::new(alloc, options);
+    for entry in case.entries.as_slice() {
+        add(alloc, &mut threads, entry)?;
+    }
+    Ok(threads)
+}
+
+fn first_number(entry: &Entry) -> Result<u64, CaseFault> {
+    let words = entry.about();
+    read_number(words.split(|byte| *byte == b' ').next().unwrap_or(b""))
+}
+
+fn last_number(entry: &Entry) -> Result<u64, CaseFault> {
+    let words = entry.about();
+    read_number(words.split(|byte| *byte == b' ').last().unwrap_or(b""))
+}
+
+fn id_of(entry: &Entry) -> Result<Id, CaseFault> {
+    match u32::try_from(first_number(entry)?) {
+        Ok(number) => Ok(Id(number)),
+        Err(_) => Err(CaseFault::BadInput),
+    }
+}
+
+fn add(alloc: Global, threads: &mut Threads, entry: &Entry) -> Result<(), CaseFault>
+    requires { threads.old.is_finished ≡ false }
+    ensures { OnOk result (threads.new.is_finished ≡ false) }
+{
+    if entry.role() != b"message".as_slice() {
+        return Ok(());
+    }
+    let id = id_of(entry)?;
+    let order = last_number(entry)?;
+    let received = i64::try_from(order).unwrap_or(0);
+    let header = read_header(alloc, entry.value.as_slice())?;
+    if threads.holds(id) {
+        return Err(CaseFault::BadInput);
+    }
+    threads.add(id, order, b"", received, &header)?;
+    Ok(())
+}
+
+fn tell(
+    alloc: Global,
+    case: &Case,
+    threads: &Threads,
+    answer: &mut Answer,
+) -> Result<(), CaseFault>
+    requires { threads.now.is_finished ≡ true }
+{
+    for entry in case.entries.as_slice() {
+        if entry.role() == b"message".as_slice() {
+            tell_one(alloc, threads, id_of(entry)?, answer)?;
+        }
+    }
+    Ok(())
+}
+
+fn tell_one(
+    alloc: Global,
+    threads: &Threads,
+    id: Id,
+    answer: &mut Answer,
+) -> Result<(), CaseFault>
+    requires { threads.now.is_finished ≡ true }
+{
+    if !threads.holds(id) {
+        return Err(CaseFault::BadInput);
+    }
+    match threads.parent(id) {
+        Some(parent) => put_parent(alloc, parent, answer)?,
+        None => answer.put_text(b"parent", "none")?,
+    }
+    answer.put_number(b"root", i64::from(threads.thread_of(id).0))
+}
+
+fn put_parent(alloc: Global, parent: Parent, answer: &mut Answer) -> Result<(), CaseFault> {
+    let number = parent.id.0;
+    let by = match parent.link {
+        Link::Reference => "reference",
+        Link::Duplicate => "duplicate",
+        Link::Subject => "subject",
+    };
+    let text = format!(in alloc; "{number} {by}")?;
+    answer.put_text(b"parent", text.as_str())
+}
