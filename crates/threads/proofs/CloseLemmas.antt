@@ -175,9 +175,10 @@ module _ (links : List (Option Step)) where
   pub way_off : (marks : List Mark) (xs ys : List ℕ) → IsWay links marks (xs ++ ys)
       → Each (Off marks (length ys)) xs
   way_off marks [] ys w = tt
-  way_off marks (x ∷ xs) ys w =
-      (λ i low e. absurd (omega (arith, same_number _ i (sym w.0 ∙ e), length-append xs ys)),
-      way_off marks xs ys w.2)
+  way_off marks (x ∷ xs) ys w = (
+    λ i low e. absurd (omega (arith, same_number _ i (sym w.0 ∙ e), length-append xs ys)),
+    way_off marks xs ys w.2,
+  )
 
   pub way_ended : (root : ℕ) (marks : List Mark) (xs ws : List ℕ) → Each (λ x. x < length marks) xs
       → Each (Off marks (length ws)) xs → IsWay links marks ws → IsWay links (all_ended root marks xs) ws
@@ -192,10 +193,12 @@ module _ (links : List (Option Step)) where
   pub follows_in : (z : ℕ) (xs : List ℕ) → Follows links z xs
       → Each (λ x. (q : ℕ) × (target links x ≡ Some q) × ((q ≡ z) ⊎ In q xs)) xs
   follows_in z [] f = tt
-  follows_in z (x ∷ xs) f = ((z, f.0, inl refl),
-      Each-map (λ y. (q : ℕ) × (target links y ≡ Some q) × ((q ≡ x) ⊎ In q xs))
-      (λ y. (q : ℕ) × (target links y ≡ Some q) × ((q ≡ z) ⊎ In q (x ∷ xs)))
-      (λ y t. (t.0, t.1, inr (⊎_elim (λ e. inl (sym e)) (λ i. inr i) t.2))) xs (follows_in x xs f.1))
+  follows_in z (x ∷ xs) f = (
+    (z, f.0, inl refl),
+    Each-map (λ y. (q : ℕ) × (target links y ≡ Some q) × ((q ≡ x) ⊎ In q xs))
+        (λ y. (q : ℕ) × (target links y ≡ Some q) × ((q ≡ z) ⊎ In q (x ∷ xs)))
+        (λ y t. (t.0, t.1, inr (⊎_elim (λ e. inl (sym e)) (λ i. inr i) t.2))) xs (follows_in x xs f.1),
+  )
 
 -- a cycle is left at its first place, which is the root of all its places
 module _ (before : ℕ → ℕ → Bool) (count : ℕ) (order : IsOrder before count) (links : List (Option Step)) where
@@ -203,9 +206,10 @@ module _ (before : ℕ → ℕ → Bool) (count : ℕ) (order : IsOrder before c
       → Each (λ x. before x h ≡ false) xs → Each (λ x. x < count) xs
       → Each (λ x. (x ≡ h) ⊎ (before h x ≡ true)) xs
   behind_head h [] lt e w = tt
-  behind_head h (x ∷ xs) lt e w =
-      (⊎_elim (λ is. inl is) (λ ne. inr (order.total x h w.0 lt ne e.0)) (cases_eq x h),
-      behind_head h xs lt e.1 w.1)
+  behind_head h (x ∷ xs) lt e w = (
+    ⊎_elim (λ is. inl is) (λ ne. inr (order.total x h w.0 lt ne e.0)) (cases_eq x h),
+    behind_head h xs lt e.1 w.1,
+  )
 
   -- round the cycle from its head
   pub turned : (h : ℕ) (front back : List ℕ) → Follows links (last_or h back) (front ++ h ∷ back)
@@ -296,37 +300,37 @@ module _ (before : ℕ → ℕ → Bool) (count : ℕ) (order : IsOrder before c
       let walk : IsWalk before links after left = record {
         long = length-ended root marks cycle ∙ w.long;
         chained = way_ended links root marks cycle (reverse left) forth off
-        (way_rest links marks (reverse cycle) (reverse left) chained);
+            (way_rest links marks (reverse cycle) (reverse left) chained);
         only = λ p i e. ⊎_elim
-        (λ a. absurd (ended_not_on_way i root (sym e ∙ a.1)))
-        (λ b. ⊎_elim (λ t. t) (λ d. absurd (b.0 d)) (taken_or_dropped way number i p (w.only p i (sym b.1 ∙ e))))
-        (marked p);
+            (λ a. absurd (ended_not_on_way i root (sym e ∙ a.1)))
+            (λ b. ⊎_elim (λ t. t) (λ d. absurd (b.0 d)) (taken_or_dropped way number i p (w.only p i (sym b.1 ∙ e))))
+            (marked p);
         ended = λ p r e. ⊎_elim
-        (λ a.
-        let which : root ≡ r = same_root root r (sym a.1 ∙ e) in
-        let s = Each-in (λ x. (e : ℕ) × (e < length (reverse cycle)) × Ends (cut_target before links) e x root)
-        (reverse cycle) p steps (In-reverse p cycle a.0) in
-        let t = Each-in (λ x. (q : ℕ) × (target links x ≡ Some q) × ((q ≡ place) ⊎ In q (reverse cycle)))
-        (reverse cycle) p to_cycle (In-reverse p cycle a.0) in
-        record {
-          steps = s.0;
-          few = omega (arith, s.1, sizes, size, same_unseen, w.fits);
-          ends = subst (λ y. Ends (cut_target before links) s.0 p y) which s.2;
-          closed = λ q u.
-          let is : t.0 ≡ q = same_place_of t.0 q (sym t.1 ∙ u) in
-          let inside : In q cycle = subst (λ y. In y cycle) is
-          (⊎_elim (λ h. subst (λ y. In y cycle) (sym h) place_in_cycle) (back_in t.0) t.2) in
-          ⊎_elim (λ m. (root, m.1)) (λ m. absurd (m.0 inside)) (marked q);
-        })
-        (λ b.
-        let old = w.ended p r (sym b.1 ∙ e) in
-        record {
-          steps = old.steps;
-          few = omega (arith, old.few, sizes, same_unseen);
-          ends = old.ends;
-          closed = λ q t. let s = old.closed q t in ended_still q s.0 s.1;
-        })
-        (marked p);
+            (λ a.
+            let which : root ≡ r = same_root root r (sym a.1 ∙ e) in
+            let s = Each-in (λ x. (e : ℕ) × (e < length (reverse cycle)) × Ends (cut_target before links) e x root)
+            (reverse cycle) p steps (In-reverse p cycle a.0) in
+            let t = Each-in (λ x. (q : ℕ) × (target links x ≡ Some q) × ((q ≡ place) ⊎ In q (reverse cycle)))
+            (reverse cycle) p to_cycle (In-reverse p cycle a.0) in
+            record {
+              steps = s.0;
+              few = omega (arith, s.1, sizes, size, same_unseen, w.fits);
+              ends = subst (λ y. Ends (cut_target before links) s.0 p y) which s.2;
+              closed = λ q u.
+                  let is : t.0 ≡ q = same_place_of t.0 q (sym t.1 ∙ u) in
+                  let inside : In q cycle = subst (λ y. In y cycle) is
+                  (⊎_elim (λ h. subst (λ y. In y cycle) (sym h) place_in_cycle) (back_in t.0) t.2) in
+                  ⊎_elim (λ m. (root, m.1)) (λ m. absurd (m.0 inside)) (marked q);
+            })
+            (λ b.
+            let old = w.ended p r (sym b.1 ∙ e) in
+            record {
+              steps = old.steps;
+              few = omega (arith, old.few, sizes, same_unseen);
+              ends = old.ends;
+              closed = λ q t. let s = old.closed q t in ended_still q s.0 s.1;
+            })
+            (marked p);
         fits = omega (arith, w.fits, sizes, same_unseen);
       } in
       let can_end : CanEnd links after (reverse left) root =
@@ -339,18 +343,23 @@ module _ (before : ℕ → ℕ → Bool) (count : ℕ) (order : IsOrder before c
     where
       same_root : (r s : ℕ) → Ended r ≡ Ended s → r ≡ s
       same_root r s e = cc
+
       same_place_of : (r s : ℕ) → Some r ≡ Some s → r ≡ s
       same_place_of r s e = cc
+
       In-unreverse : (q : ℕ) (xs : List ℕ) → In q (reverse xs) → In q xs
       In-unreverse q xs i = subst (In q) (reverse-reverse xs) (In-reverse q (reverse xs) i)
+
       next_end : (marks : List Mark) (root place : ℕ) → mark_at marks place ≡ Ended root → (ws : List ℕ)
           → LeadsTo links ws (Some place) → CanEnd links marks ws root
       next_end marks root place e [] l = tt
       next_end marks root place e (q ∷ ws) l = subst (EndsAt marks root q) (sym l) e
+
       last_leads : (marks : List Mark) (xs : List ℕ) (place : ℕ) (ys : List ℕ)
           → IsWay links marks ((xs ++ place ∷ []) ++ ys) → LeadsTo links ys (Some place)
       last_leads marks [] place ys w = w.1
       last_leads marks (x ∷ xs) place ys w = last_leads marks xs place ys w.2
+
       rounded : (marks : List Mark) (place root : ℕ) (cycle : List ℕ) (i : ℕ) → slice_get cycle i ≡ Some root
           → (rest : List ℕ) → reverse cycle ≡ reverse rest ++ place ∷ []
           → Follows links place (reverse cycle) → Each (λ x. before x root ≡ false) (reverse cycle)

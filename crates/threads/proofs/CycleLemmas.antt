@@ -209,11 +209,20 @@ module _ (before : ℕ → ℕ → Bool) (links : List (Option Step)) where
           let own : (k : ℕ) × (k ≤ suc d) × Ends cut k x h =
           ⊎_elim
           (λ is. (0, omega arith, (is, cut-head x (subst (λ y. heads y ≡ true) (sym is) first))))
-          (λ lt. (suc d, omega arith, (p, cut-other x (false_from_ne_true (heads x)
-          (λ other. one_head h x (length links) lt other (suc n) (length links) x come other))
-          ∙ f.0, ends))) e.0 in
-          let rest = cycle_ends first xs (suc n) own.0 x f.1 e.1 (meets_next (suc n) x e.0 come) own.2 in
-          ((own.0, omega (arith, own.1), own.2),
-          Each-map (λ y. (k : ℕ) × (k ≤ own.0 + length xs) × Ends cut k y h)
-          (λ y. (k : ℕ) × (k ≤ d + length (x ∷ xs)) × Ends cut k y h)
-          (λ y s. (s.0, omega (arith, s.1, own.1), s.2)) xs rest)
+          (λ lt. (
+            suc d,
+            omega arith,
+            (
+              p,
+              cut-other x (false_from_ne_true (heads x)
+                  (λ other. one_head h x (length links) lt other (suc n) (length links) x come other))
+                  ∙ f.0,
+              ends,
+            ),
+          )) e.0 in
+          let rest = cycle_ends first xs (suc n) own.0 x f.1 e.1 (meets_next (suc n) x e.0 come) own.2 in (
+            (own.0, omega (arith, own.1), own.2),
+            Each-map (λ y. (k : ℕ) × (k ≤ own.0 + length xs) × Ends cut k y h)
+                (λ y. (k : ℕ) × (k ≤ d + length (x ∷ xs)) × Ends cut k y h)
+                (λ y s. (s.0, omega (arith, s.1, own.1), s.2)) xs rest,
+          )

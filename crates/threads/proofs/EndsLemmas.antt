@@ -41,11 +41,11 @@ pub all_end : (before : ℕ → ℕ → Bool) (links : List (Option Step)) (mark
 all_end before links marks done = record {
   long = length-map marks root_in ∙ done.walk.long;
   each = λ p lt.
-  let e = ended_from (mark_at marks p) (done.seen p lt) (λ i e. no_way p (done.walk.only p i e)) in
-  let own = done.walk.ended p (root_in (mark_at marks p)) e in
-  let there : slice_index (map root_in marks) p ≡ root_in (mark_at marks p) =
-  get_or-map root_in marks p Unseen 0 (omega (arith, done.walk.long)) in
-  (own.steps, omega (arith, own.few), subst (Ends (cut_target before links) own.steps p) (sym there) own.ends);
+      let e = ended_from (mark_at marks p) (done.seen p lt) (λ i e. no_way p (done.walk.only p i e)) in
+      let own = done.walk.ended p (root_in (mark_at marks p)) e in
+      let there : slice_index (map root_in marks) p ≡ root_in (mark_at marks p) =
+      get_or-map root_in marks p Unseen 0 (omega (arith, done.walk.long)) in
+      (own.steps, omega (arith, own.few), subst (Ends (cut_target before links) own.steps p) (sym there) own.ends);
 }
   where
     no_way : (p : ℕ) → None ≡ Some p → ⊥

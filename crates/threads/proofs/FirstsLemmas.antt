@@ -82,9 +82,12 @@ first_below is_before passes (suc n) f e = ⊎_elim
     (λ pass. first_below_by is_before n f (first_of is_before passes n) (first_below is_before passes n)
     (sym (ap (λ b. if b then earlier is_before (first_of is_before passes n) n
     else first_of is_before passes n) pass) ∙ e))
-    (λ fail. omega (arith, first_below is_before passes n f
-    (sym (ap (λ b. if b then earlier is_before (first_of is_before passes n) n
-    else first_of is_before passes n) fail) ∙ e)))
+    (λ fail. omega (
+      arith,
+      first_below is_before passes n f
+          (sym (ap (λ b. if b then earlier is_before (first_of is_before passes n) n
+          else first_of is_before passes n) fail) ∙ e),
+    ))
     (cases_Bool (passes n))
 
 -- the message at a place, as contracts see it

@@ -281,6 +281,7 @@ module _ (options : ThreadOptions) (ms : List PlainMessage) (refs : List (Option
           ≡ option_map (λ (s : Step). s.place) (followed (first_with ms refs) options (at ms p) p)
       own p lt none = parent_at p lt
           ∙ ap (option_map (λ (s : Step). s.place)) (or_none (slice_index_or refs p None) _ none)
+
       by : (t : Option ℕ) → target (with_subjects options ms refs) r ≡ t
           → (e : ℕ) × (e ≤ 1) × Ends (target (with_subjects options ms refs)) e r (onward (λ next. next) r t)
       by None is = (0, omega arith, (refl, is))
@@ -351,18 +352,23 @@ module _ (options : ThreadOptions) (ms : List PlainMessage) (roots : List ℕ)
       target_at (cut_link before ls) (length ls) r (subst (λ n. r < n) (sym (length-links options ms)) within)
       ∙ Ends-none (cut_target before ls) own.0 p r own.2 in
       let last = subject_end options ms refs refs_long r within none in
-      let few : own.0 < length ms = subst (λ n. own.0 < n) (length-links options ms) own.1 in
-      (own.0 + last.0, omega arith,
-      Ends-on (cut_target before ls) (target (parents options ms))
-      (λ x q e. parent_kept options ms refs refs_long x q (cut_kept before ls x q e))
-      own.0 last.0 p r (root_above (parents options ms) r) own.2 last.2)
+      let few : own.0 < length ms = subst (λ n. own.0 < n) (length-links options ms) own.1 in (
+        own.0 + last.0,
+        omega arith,
+        Ends-on (cut_target before ls) (target (parents options ms))
+            (λ x q e. parent_kept options ms refs refs_long x q (cut_kept before ls x q e))
+            own.0 last.0 p r (root_above (parents options ms) r) own.2 last.2,
+      )
 
   pub forest : IsForest (parents options ms)
   forest p lt =
       let c = chain p (subst (λ n. p < n) parents_long lt) in
-      let le : c.0 ≤ length (parents options ms) = subst (λ n. c.0 ≤ n) (sym parents_long) c.1 in
-      (c.0, le, subst (Ends (target (parents options ms)) c.0 p)
-      (sym (end_is (parents options ms) c.0 (length (parents options ms)) p _ le c.2)) c.2)
+      let le : c.0 ≤ length (parents options ms) = subst (λ n. c.0 ≤ n) (sym parents_long) c.1 in (
+        c.0,
+        le,
+        subst (Ends (target (parents options ms)) c.0 p)
+            (sym (end_is (parents options ms) c.0 (length (parents options ms)) p _ le c.2)) c.2,
+      )
 
   pub roots_are : map (root_above (parents options ms)) roots
       ≡ map (root_of (parents options ms)) (range_with_len 0 (length ms))

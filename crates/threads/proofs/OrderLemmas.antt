@@ -67,11 +67,11 @@ listing_order messages distinct = record {
   never = λ a. never_before listing_total (at messages a);
   chain = λ a b c. chain_before listing_total (at messages a) (at messages b) (at messages c);
   total = λ a b within there ne e. turned_before listing_total (at messages a) (at messages b) e
-  (λ tied.
-  let same = equal_numbers _ _ (second_equal _ _ tied) in
-  ⊎_elim (λ lt. apart messages distinct a b lt there same)
-  (λ le. apart messages distinct b a (omega arith) within (sym same))
-  (cases_lt a b));
+      (λ tied.
+      let same = equal_numbers _ _ (second_equal _ _ tied) in
+      ⊎_elim (λ lt. apart messages distinct a b lt there same)
+      (λ le. apart messages distinct b a (omega arith) within (sym same))
+      (cases_lt a b));
 }
 
 -- what is not before a place is not before one that is before it

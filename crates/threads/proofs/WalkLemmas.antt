@@ -52,9 +52,11 @@ pub IsWay-set : (links : List (Option Step)) (marks : List Mark) (p : ℕ) (m : 
     → IsWay links (set marks p m) ws
 IsWay-set links marks p m [] w off = tt
 IsWay-set links marks p m (x ∷ ws) w off =
-    let ne : (x ≡ p → ⊥) = λ e. off (length ws) (omega arith) (ap (mark_at marks) (sym e) ∙ w.0) in
-    (mark-other marks p x m ne ∙ w.0, w.1,
-    IsWay-set links marks p m ws w.2 (λ i lt e. off i (omega arith) e))
+    let ne : (x ≡ p → ⊥) = λ e. off (length ws) (omega arith) (ap (mark_at marks) (sym e) ∙ w.0) in (
+      mark-other marks p x m ne ∙ w.0,
+      w.1,
+      IsWay-set links marks p m ws w.2 (λ i lt e. off i (omega arith) e),
+    )
 
 -- how many places are unseen once one is marked
 pub unseen-mark : (marks : List Mark) (p : ℕ) (m : Mark) → p < length marks → is_unseen m ≡ false
@@ -95,35 +97,39 @@ module _ (before : ℕ → ℕ → Bool) (links : List (Option Step)) where
       let longer : length (way ++ place ∷ []) ≡ length way + 1 = length_push way place in
       record {
         long = length-set marks place (OnWay (length way)) ∙ w.long;
-        chained = subst (IsWay links (set marks place (OnWay (length way)))) (sym (reverse_push way place))
-        (mark-same marks place (OnWay (length way)) lt ∙ ap OnWay (sym (length-reverse way)), leads,
-        IsWay-set links marks place (OnWay (length way)) (reverse way) w.chained
-        (λ i h e. absurd (false≢true (sym (on_way_seen _ i e) ∙ new))));
+        chained = subst (IsWay links (set marks place (OnWay (length way)))) (sym (reverse_push way place)) (
+          mark-same marks place (OnWay (length way)) lt ∙ ap OnWay (sym (length-reverse way)),
+          leads,
+          IsWay-set links marks place (OnWay (length way)) (reverse way) w.chained
+              (λ i h e. absurd (false≢true (sym (on_way_seen _ i e) ∙ new))),
+        );
         only = λ p i e. ⊎_elim
-        (λ is.
-        let number : length way ≡ i = same_number (length way) i
-        (sym (mark-same marks place (OnWay (length way)) lt)
-        ∙ ap (mark_at (set marks place (OnWay (length way)))) (sym is) ∙ e) in
-        ap (slice_get (way ++ place ∷ [])) (sym number) ∙ slice_get-end way place ∙ ap Some (sym is))
-        (λ ne. slice_get-push way place i p (w.only p i
-        (sym (mark-other marks place p (OnWay (length way)) ne) ∙ e)))
-        (cases_eq p place);
+            (λ is.
+            let number : length way ≡ i = same_number (length way) i
+            (sym (mark-same marks place (OnWay (length way)) lt)
+            ∙ ap (mark_at (set marks place (OnWay (length way)))) (sym is) ∙ e) in
+            ap (slice_get (way ++ place ∷ [])) (sym number) ∙ slice_get-end way place ∙ ap Some (sym is))
+            (λ ne. slice_get-push way place i p (w.only p i
+            (sym (mark-other marks place p (OnWay (length way)) ne) ∙ e)))
+            (cases_eq p place);
         ended = λ p r e. ⊎_elim
-        (λ is. absurd (ended_not_on_way (length way) r
-        (sym (mark-same marks place (OnWay (length way)) lt)
-        ∙ ap (mark_at (set marks place (OnWay (length way)))) (sym is) ∙ e)))
-        (λ ne.
-        let own = w.ended p r (sym (mark-other marks place p (OnWay (length way)) ne) ∙ e) in
-        record {
-          steps = own.steps;
-          few = omega (arith, own.few, count, longer);
-          ends = own.ends;
-          closed = λ q t.
-          let s = own.closed q t in
-          (s.0, mark-other marks place q (OnWay (length way)) (λ is. false≢true
-          (sym (ended_seen _ s.0 s.1) ∙ ap (λ x. is_unseen (mark_at marks x)) is ∙ new)) ∙ s.1);
-        })
-        (cases_eq p place);
+            (λ is. absurd (ended_not_on_way (length way) r
+            (sym (mark-same marks place (OnWay (length way)) lt)
+            ∙ ap (mark_at (set marks place (OnWay (length way)))) (sym is) ∙ e)))
+            (λ ne.
+            let own = w.ended p r (sym (mark-other marks place p (OnWay (length way)) ne) ∙ e) in
+            record {
+              steps = own.steps;
+              few = omega (arith, own.few, count, longer);
+              ends = own.ends;
+              closed = λ q t.
+                  let s = own.closed q t in (
+                    s.0,
+                    mark-other marks place q (OnWay (length way)) (λ is. false≢true
+                        (sym (ended_seen _ s.0 s.1) ∙ ap (λ x. is_unseen (mark_at marks x)) is ∙ new)) ∙ s.1,
+                  );
+            })
+            (cases_eq p place);
         fits = omega (arith, w.fits, count, longer);
       }
 
@@ -155,34 +161,34 @@ module _ (before : ℕ → ℕ → Bool) (links : List (Option Step)) where
         walk = record {
           long = length-set marks place (Ended root) ∙ w.long;
           chained = IsWay-set links marks place (Ended root) (reverse way) chained.2
-          (λ i h e. absurd (omega (arith, same_number _ i (sym chained.0 ∙ e))));
+              (λ i h e. absurd (omega (arith, same_number _ i (sym chained.0 ∙ e))));
           only = λ p i e. ⊎_elim
-          (λ is. absurd (ended_not_on_way i root (sym e ∙ ap (mark_at (set marks place (Ended root))) is
-          ∙ mark-same marks place (Ended root) lt)))
-          (λ ne. ⊎_elim (λ left. left) (λ last. absurd (ne (sym last)))
-          (slice_get-before way place i p (w.only p i (sym (mark-other marks place p (Ended root) ne) ∙ e))))
-          (cases_eq p place);
+              (λ is. absurd (ended_not_on_way i root (sym e ∙ ap (mark_at (set marks place (Ended root))) is
+              ∙ mark-same marks place (Ended root) lt)))
+              (λ ne. ⊎_elim (λ left. left) (λ last. absurd (ne (sym last)))
+              (slice_get-before way place i p (w.only p i (sym (mark-other marks place p (Ended root) ne) ∙ e))))
+              (cases_eq p place);
           ended = λ p r e. ⊎_elim
-          (λ is.
-          let which : root ≡ r = same_root root r (sym (mark-same marks place (Ended root) lt)
-          ∙ ap (mark_at (set marks place (Ended root))) (sym is) ∙ e) in
-          record {
-            steps = own.0;
-            few = own.1;
-            ends = subst (λ y. Ends (cut_target before links) own.0 p y) which
-            (subst (λ y. Ends (cut_target before links) own.0 y root) (sym is) own.2);
-            closed = λ q t.
-            let s = own.3 q (ap (target links) (sym is) ∙ t) in (s.0, kept q s.0 s.1);
-          })
-          (λ ne.
-          let old = w.ended p r (sym (mark-other marks place p (Ended root) ne) ∙ e) in
-          record {
-            steps = old.steps;
-            few = omega (arith, old.few, count, longer);
-            ends = old.ends;
-            closed = λ q t. let s = old.closed q t in (s.0, kept q s.0 s.1);
-          })
-          (cases_eq p place);
+              (λ is.
+              let which : root ≡ r = same_root root r (sym (mark-same marks place (Ended root) lt)
+              ∙ ap (mark_at (set marks place (Ended root))) (sym is) ∙ e) in
+              record {
+                steps = own.0;
+                few = own.1;
+                ends = subst (λ y. Ends (cut_target before links) own.0 p y) which
+                    (subst (λ y. Ends (cut_target before links) own.0 y root) (sym is) own.2);
+                closed = λ q t.
+                    let s = own.3 q (ap (target links) (sym is) ∙ t) in (s.0, kept q s.0 s.1);
+              })
+              (λ ne.
+              let old = w.ended p r (sym (mark-other marks place p (Ended root) ne) ∙ e) in
+              record {
+                steps = old.steps;
+                few = omega (arith, old.few, count, longer);
+                ends = old.ends;
+                closed = λ q t. let s = old.closed q t in (s.0, kept q s.0 s.1);
+              })
+              (cases_eq p place);
           fits = omega (arith, w.fits, count, longer);
         };
         can_end = next_end marks place root lt (reverse way) chained.1;
@@ -190,11 +196,13 @@ module _ (before : ℕ → ℕ → Bool) (links : List (Option Step)) where
     where
       same_root : (r s : ℕ) → Ended r ≡ Ended s → r ≡ s
       same_root r s e = cc
+
       next_end : (marks : List Mark) (place root : ℕ) → place < length marks → (ws : List ℕ)
           → LeadsTo links ws (Some place) → CanEnd links (set marks place (Ended root)) ws root
       next_end marks place root lt [] l = tt
       next_end marks place root lt (q ∷ ws) l =
           subst (EndsAt (set marks place (Ended root)) root q) (sym l) (mark-same marks place (Ended root) lt)
+
       settled_end : (marks : List Mark) (way : List ℕ) (place root : ℕ)
           → IsWalk before links marks (way ++ place ∷ [])
           → unseen (set marks place (Ended root)) ≡ unseen marks
@@ -218,9 +226,12 @@ module _ (before : ℕ → ℕ → Bool) (links : List (Option Step)) where
           by (Some q) is e =
               let leads : (x : ℕ) → target links place ≡ Some x → (s : ℕ) × (mark_at marks x ≡ Ended s) =
               λ x t. (root, subst (λ y. mark_at marks y ≡ Ended root) (same_target q x (sym is ∙ t)) e) in
-              let old = w.ended q root e in
-              (suc old.steps, omega (arith, old.few, count, longer),
-              (q, cut-other before links place (none leads) ∙ is, old.ends), leads)
+              let old = w.ended q root e in (
+                suc old.steps,
+                omega (arith, old.few, count, longer),
+                (q, cut-other before links place (none leads) ∙ is, old.ends),
+                leads,
+              )
             where
               same_target : (a b : ℕ) → Some a ≡ Some b → a ≡ b
               same_target a b e = cc

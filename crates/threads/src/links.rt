@@ -28,7 +28,14 @@ fn add_holder(
     let Some(id) = &messages[place].message_id else {
         return Ok(());
     };
-    add_first(alloc, Order::Listed, messages, holders, id.as_slice(), place)
+    add_first(
+        alloc,
+        Order::Listed,
+        messages,
+        holders,
+        id.as_slice(),
+        place,
+    )
 }
 
 fn holders_of(alloc: Global, messages: &[Message]) -> Result<Firsts, NoMemory>

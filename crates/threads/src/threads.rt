@@ -96,8 +96,10 @@ impl Threads {
     ) -> Result<(), NoMemory>
         requires open { self.old.is_finished ≡ false }
         requires absent { spec.place_of self.old.messages id ≡ None }
-        ensures ok { OnOk result (self.new ≡ record self.old { messages = self.old.messages
-            ++ message.message id order key.now received (plain_header header.now) ∷ [] }) }
+        ensures ok { OnOk result (self.new ≡ record self.old {
+          messages = self.old.messages
+              ++ message.message id order key.now received (plain_header header.now) ∷ [];
+        }) }
         ensures err { OnErr result (self.new ≡ self.old) }
     {
         self.messages.reserve(1)?;
@@ -235,11 +237,7 @@ fn roots_above(
     Ok(above)
 }
 
-fn found_of(
-    alloc: Global,
-    options: ThreadOptions,
-    messages: &[Message],
-) -> Result<Found, NoMemory>
+fn found_of(alloc: Global, options: ThreadOptions, messages: &[Message]) -> Result<Found, NoMemory>
     requires { kept.AreDistinct (message.plain_messages messages.now) }
     ensures found { IfOk result (kept.IsFound options (message.plain_messages messages.now)) }
     ensures forest { OnOk result (IsForest (parents options (message.plain_messages messages.now))) }

@@ -153,7 +153,12 @@ fn close_cycle(
 }
 
 // The root at which the last place of a way ends, where a cycle that it makes is closed.
-fn close(messages: &[Message], marks: &mut [Mark], way: &mut Vec<usize>, met: Option<usize>) -> usize
+fn close(
+    messages: &[Message],
+    marks: &mut [Mark],
+    way: &mut Vec<usize>,
+    met: Option<usize>,
+) -> usize
     requires within { spec.Each (λ p. p < length messages.now) way.old.items }
     requires long { length marks.old ≡ length messages.now }
     requires only { spec.OnlyOnWay marks.old way.old.items }

@@ -69,9 +69,9 @@ returns-clause-found c =
     record {
       the_parents = all;
       the_roots = c.in_ok-roots.ensures
-      ∙ ap (λ l. map (root_above l) c.deref-5.result.now) (c.deref-6.ensures.value ∙ all)
-      ∙ ap (map (root_above (parents c.args.options ms))) c.deref-5.ensures.value
-      ∙ roots_are c.args.options ms c.in_ok-ends.ends.items ends;
+          ∙ ap (λ l. map (root_above l) c.deref-5.result.now) (c.deref-6.ensures.value ∙ all)
+          ∙ ap (map (root_above (parents c.args.options ms))) c.deref-5.ensures.value
+          ∙ roots_are c.args.options ms c.in_ok-ends.ends.items ends;
     }
 
 pub returns-clause-forest : goal.returns-clause-forest

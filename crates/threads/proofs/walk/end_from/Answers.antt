@@ -29,7 +29,7 @@ settle-requires c =
     (c.requires.links.long ∙ size) walk c.in_ok-met.ensures.met.leads in
     record {
       within = way_within c.args.links.now c.close-root.new.marks (reverse c.close-root.new.way.items)
-      closed.walk.chained;
+          closed.walk.chained;
     }
 
 pub returns-clause-ended : goal.returns-clause-ended
@@ -43,10 +43,10 @@ returns-clause-ended c =
     record {
       walk = c.settle.ensures.walk (is_listed_before ms) c.args.links.now closed;
       seen = λ p lt. ⊎_elim
-      (λ low. c.settle.ensures.keeps p (c.close-root.ensures.keeps p
-      (c.in_ok-met.ensures.keeps p (c.requires.before.seen p low))))
-      (λ high. subst (λ q. is_unseen (mark_at c.settle.new.marks q) ≡ false) (omega arith)
-      (c.settle.ensures.keeps c.args.start (c.close-root.ensures.keeps c.args.start
-      c.in_ok-met.ensures.met.start_seen)))
-      (cases_lt p c.args.start);
+          (λ low. c.settle.ensures.keeps p (c.close-root.ensures.keeps p
+          (c.in_ok-met.ensures.keeps p (c.requires.before.seen p low))))
+          (λ high. subst (λ q. is_unseen (mark_at c.settle.new.marks q) ≡ false) (omega arith)
+          (c.settle.ensures.keeps c.args.start (c.close-root.ensures.keeps c.args.start
+          c.in_ok-met.ensures.met.start_seen)))
+          (cases_lt p c.args.start);
     }

@@ -7,5 +7,5 @@ use Rattle.threads.proofs.walk.ends_of.Given as goal
 abbrev pub invariant-loop-start : goal.invariant-loop-start
 invariant-loop-start l = record {
   done : AreFollowed (is_listed_before (plain_messages l.messages)) l.links l.marks.items l.start;
-  left : l.way.items ≡ []
+  left : l.way.items ≡ [];
 }

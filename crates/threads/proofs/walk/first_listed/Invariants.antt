@@ -7,5 +7,5 @@ invariant-loop-place l = record {
   within : l.first < length l.messages;
   among : (i : ℕ) × (slice_get l.places i ≡ Some l.first);
   least : (i : ℕ) → i < l.place-index
-  → is_listed_before (plain_messages l.messages) (slice_index l.places i) l.first ≡ false
+      → is_listed_before (plain_messages l.messages) (slice_index l.places i) l.first ≡ false;
 }

@@ -27,19 +27,19 @@ loop-next-preserved c =
     subst (KeepsSeen marks) (sym c.in_ok-next.ensures.marks) (seen-mark marks place _ there refl) in
     record {
       walk = λ is_before walk.
-      subst (λ m. IsWalk is_before links m c.enter.new.way.items) (sym c.in_ok-next.ensures.marks)
-      (subst (IsWalk is_before links _) (sym c.in_ok-next.ensures.way)
-      (entered is_before links marks way place (inv.walk is_before walk) new there leads));
+          subst (λ m. IsWalk is_before links m c.enter.new.way.items) (sym c.in_ok-next.ensures.marks)
+          (subst (IsWalk is_before links _) (sym c.in_ok-next.ensures.way)
+          (entered is_before links marks way place (inv.walk is_before walk) new there leads));
       leads = subst (λ w. LeadsTo links (reverse w) c.in_ok-next.next) (sym c.in_ok-next.ensures.way)
-      (subst (λ r. LeadsTo links r c.in_ok-next.next) (sym (reverse_push way place))
-      (sym c.in_ok-next.ensures.next));
+          (subst (λ r. LeadsTo links r c.in_ok-next.next) (sym (reverse_push way place))
+          (sym c.in_ok-next.ensures.next));
       within = λ p e. c.requires.inside place p (sym c.in_ok-next.ensures.next ∙ e);
       start = inr (⊎_elim
-      (λ is. subst (λ s. is_unseen (mark_at c.enter.new.marks s) ≡ false) (start_is place c.args.start
-      (sym c.in-Some.is ∙ is))
-      (ap (λ m. is_unseen (mark_at m place)) c.in_ok-next.ensures.marks
-      ∙ ap is_unseen (mark-same marks place _ there)))
-      (λ seen. kept c.args.start seen) inv.start);
+          (λ is. subst (λ s. is_unseen (mark_at c.enter.new.marks s) ≡ false) (start_is place c.args.start
+          (sym c.in-Some.is ∙ is))
+          (ap (λ m. is_unseen (mark_at m place)) c.in_ok-next.ensures.marks
+          ∙ ap is_unseen (mark-same marks place _ there)))
+          (λ seen. kept c.args.start seen) inv.start);
       keeps = λ p s. kept p (inv.keeps p s);
     }
   where

@@ -16,12 +16,12 @@ loop-place-preserved c =
     record {
       within = within-set marks place (Ended c.args.root) (reverse way) within.1;
       walk = λ is_before links closed.
-      let before = c.loop-place.invariant.walk is_before links closed in
-      settled is_before links marks way place c.args.root
-      (subst (IsWalk is_before links marks) c.in-Some.ensures.items before.walk)
-      (subst (λ w. CanEnd links marks (reverse w) c.args.root) c.in-Some.ensures.items before.can_end);
+          let before = c.loop-place.invariant.walk is_before links closed in
+          settled is_before links marks way place c.args.root
+          (subst (IsWalk is_before links marks) c.in-Some.ensures.items before.walk)
+          (subst (λ w. CanEnd links marks (reverse w) c.args.root) c.in-Some.ensures.items before.can_end);
       keeps = λ p s. seen-mark marks place (Ended c.args.root) within.0 refl p
-      (c.loop-place.invariant.keeps p s);
+          (c.loop-place.invariant.keeps p s);
     }
 
 pub returns-clause-walk : goal.returns-clause-walk

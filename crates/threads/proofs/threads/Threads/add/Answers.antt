@@ -29,10 +29,10 @@ invariant_of-self-2 c =
     ∙ ap (λ (m : PlainMessage). numbers ms ++ m.id.0 ∷ []) c.in_ok-kept.ensures in
     record {
       the_numbers = c.in_ok-insert.ensures.keys
-      ∙ ap (λ l. if list_any (nat_eq c.args.id.0) l then l else l ++ c.args.id.0 ∷ []) c.self.invariant.the_numbers
-      ∙ ap (λ b. if b then numbers ms else numbers ms ++ c.args.id.0 ∷ []) (absent_number (numbers ms) c.args.id.0 absent)
-      ∙ sym all;
+          ∙ ap (λ l. if list_any (nat_eq c.args.id.0) l then l else l ++ c.args.id.0 ∷ []) c.self.invariant.the_numbers
+          ∙ ap (λ b. if b then numbers ms else numbers ms ++ c.args.id.0 ∷ []) (absent_number (numbers ms) c.args.id.0 absent)
+          ∙ sym all;
       distinct = c.in_ok-insert.ensures.unique;
       worked_out = λ f is. absurd (nothing_found c.self.inside.found f
-      (ap (λ t. t.is_finished) c.self.view_is ∙ c.requires.open) is);
+          (ap (λ t. t.is_finished) c.self.view_is ∙ c.requires.open) is);
     }

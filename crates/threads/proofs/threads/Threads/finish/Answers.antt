@@ -14,9 +14,9 @@ invariant_of-self c = record {
   the_numbers = c.self.invariant.the_numbers;
   distinct = c.self.invariant.distinct;
   worked_out = λ f e. subst (IsFound c.self.inside.options (plain_messages c.self.inside.messages.items))
-  (same_found c.in_ok-found.found f e)
-  (subst (λ l. IsFound c.self.inside.options (plain_messages l) c.in_ok-found.found) c.as_slice.ensures.value
-  c.in_ok-found.ensures.found);
+      (same_found c.in_ok-found.found f e)
+      (subst (λ l. IsFound c.self.inside.options (plain_messages l) c.in_ok-found.found) c.as_slice.ensures.value
+      c.in_ok-found.ensures.found);
 }
 
 pub returns-clause-forest : goal.returns-clause-forest
