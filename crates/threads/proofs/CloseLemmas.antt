@@ -1,18 +1,28 @@
 -- How a cycle is closed.
 use Rattle.std.proofs.Common.{◌≡◌, ◌∙◌, ℕ, zero, suc, ◌+◌, ◌-◌, ◌<◌, ◌≤◌, Bool, true, false, cond}
-use Rattle.std.proofs.Common.{List, [], ◌∷◌, ◌++◌, length, Option, Some, None, refl, sym, ap, subst, reverse}
-use Rattle.std.proofs.Common.{◌⊎◌, inl, inr, ⊎_elim, arith, get_or, set, slice_get, slice_index, slice_set, take, drop}
+use Rattle.std.proofs.Common.{List, [], ◌∷◌, ◌++◌, length, Option, Some, None, refl, sym, ap, subst}
+use Rattle.std.proofs.Common.{reverse}
+use Rattle.std.proofs.Common.{◌⊎◌, inl, inr, ⊎_elim, arith, get_or, set, slice_get, slice_index}
+use Rattle.std.proofs.Common.{slice_set, take, drop}
 use Rattle.std.proofs.lemmas.Bool.{cases_eq, cases_lt, false≢true}
-use Rattle.std.proofs.lemmas.List.{append_assoc, length-append, length-drop, length-reverse, length-set, length-take, reverse-append, reverse-reverse, take-append-drop}
+use Rattle.std.proofs.lemmas.List.{append_assoc, length-append, length-drop, length-reverse}
+use Rattle.std.proofs.lemmas.List.{length-set, length-take, reverse-append, reverse-reverse}
+use Rattle.std.proofs.lemmas.List.{take-append-drop}
 use Rattle.threads.specs.Cycles.{heads_cycle}
 use Rattle.threads.specs.Links.{target}
-use Rattle.threads.specs.Walk.{CanEnd, Closes, ClosesCycle, Each, Ends, EndsAt, Follows, IsClosed, IsEnded, IsOrder}
-use Rattle.threads.specs.Walk.{IsWalk, IsWay, KeepsSeen, LeadsTo, State, all_ended, cut_target, is_unseen, mark_at, unseen}
+use Rattle.threads.specs.Walk.{CanEnd, Closes, ClosesCycle, Each, Ends, EndsAt, Follows, IsClosed}
+use Rattle.threads.specs.Walk.{IsEnded, IsOrder}
+use Rattle.threads.specs.Walk.{IsWalk, IsWay, KeepsSeen, LeadsTo, State, all_ended, cut_target}
+use Rattle.threads.specs.Walk.{is_unseen, mark_at, unseen}
 use Rattle.threads.specs.declared.walk.Mark.{Mark}
 use Rattle.threads.specs.declared.walk.Mark.TheVariants.{Unseen, OnWay, Ended}
 use Rattle.threads.specs.declared.step.Step.{Step}
-use Rattle.threads.proofs.CycleLemmas.{Each-append, Each-join, Each-map, Follows-join, Follows-split, cut-head, cycle_ends, head_is, last_or, last_or-append, starts}
-use Rattle.threads.proofs.WalkLemmas.{IsWay-set, ended_not_on_way, mark-other, mark-same, on_way_seen, same_number, seen-mark, seen_within, unseen-mark, within-set}
+use Rattle.threads.proofs.CycleLemmas.{Each-append, Each-join, Each-map, Follows-join}
+use Rattle.threads.proofs.CycleLemmas.{Follows-split, cut-head, cycle_ends, head_is, last_or}
+use Rattle.threads.proofs.CycleLemmas.{last_or-append, starts}
+use Rattle.threads.proofs.WalkLemmas.{IsWay-set, ended_not_on_way, mark-other, mark-same}
+use Rattle.threads.proofs.WalkLemmas.{on_way_seen, same_number, seen-mark, seen_within, unseen-mark}
+use Rattle.threads.proofs.WalkLemmas.{within-set}
 
 -- a place is one of a list
 abbrev pub In : ℕ → List ℕ → Type 0
@@ -57,7 +67,8 @@ Each-reverse P [] e = tt
 Each-reverse P (x ∷ xs) e = subst (Each P) (sym (reverse_cons x xs))
     (Each-join P (reverse xs) (x ∷ []) (Each-reverse P xs e.1) (e.0, tt))
 
-pub Each-from : (P : ℕ → Type 0) (xs : List ℕ) → ((i : ℕ) → i < length xs → P (slice_index xs i)) → Each P xs
+pub Each-from : (P : ℕ → Type 0) (xs : List ℕ) → ((i : ℕ) → i < length xs
+    → P (slice_index xs i)) → Each P xs
 Each-from P [] h = tt
 Each-from P (x ∷ xs) h = (h 0 (omega arith), Each-from P xs (λ i lt. h (suc i) (omega arith)))
 
@@ -108,24 +119,28 @@ slice_get-within (x ∷ xs) zero p e = omega arith
 slice_get-within (x ∷ xs) (suc n) p e = omega (arith, slice_get-within xs n p e)
 
 -- marks once places end
-pub length-ended : (root : ℕ) (marks : List Mark) (xs : List ℕ) → length (all_ended root marks xs) ≡ length marks
+pub length-ended : (root : ℕ) (marks : List Mark) (xs : List ℕ)
+    → length (all_ended root marks xs) ≡ length marks
 length-ended root marks [] = refl
 length-ended root marks (x ∷ xs) =
     length-ended root (set marks x (Ended root)) xs ∙ length-set marks x (Ended root)
 
-pub mark-ended : (root : ℕ) (marks : List Mark) (xs : List ℕ) (p : ℕ) → Each (λ x. x < length marks) xs
+pub mark-ended : (root : ℕ) (marks : List Mark) (xs : List ℕ) (p : ℕ)
+    → Each (λ x. x < length marks) xs
     → (In p xs × (mark_at (all_ended root marks xs) p ≡ Ended root))
     ⊎ ((In p xs → ⊥) × (mark_at (all_ended root marks xs) p ≡ mark_at marks p))
 mark-ended root marks [] p e = inr (λ i. i, refl)
 mark-ended root marks (x ∷ xs) p e = ⊎_elim
     (λ a. inl (inr a.0, a.1))
     (λ b. ⊎_elim
-    (λ is. inl (inl (sym is), b.1 ∙ ap (mark_at (set marks x (Ended root))) is ∙ mark-same marks x (Ended root) e.0))
+    (λ is. inl (inl (sym is), b.1 ∙ ap (mark_at (set marks x (Ended root))) is
+        ∙ mark-same marks x (Ended root) e.0))
     (λ ne. inr (λ i. ⊎_elim (λ is. ne (sym is)) b.0 i, b.1 ∙ mark-other marks x p (Ended root) ne))
     (cases_eq p x))
     (mark-ended root (set marks x (Ended root)) xs p (within-set marks x (Ended root) xs e.1))
 
-pub unseen-ended : (root : ℕ) (marks : List Mark) (xs : List ℕ) → Each (λ x. is_unseen (mark_at marks x) ≡ false) xs
+pub unseen-ended : (root : ℕ) (marks : List Mark) (xs : List ℕ)
+    → Each (λ x. is_unseen (mark_at marks x) ≡ false) xs
     → unseen (all_ended root marks xs) ≡ unseen marks
 unseen-ended root marks [] e = refl
 unseen-ended root marks (x ∷ xs) e =
@@ -147,14 +162,17 @@ seen-ended root marks xs e p s = ⊎_elim (λ a. ap is_unseen a.1) (λ b. ap is_
 abbrev pub Off : List Mark → ℕ → ℕ → Type 0
 Off marks n x = (i : ℕ) → i < n → mark_at marks x ≡ OnWay i → ⊥
 
-Off-set : (marks : List Mark) (n r x y : ℕ) → x < length marks → Off marks n y → Off (set marks x (Ended r)) n y
+Off-set : (marks : List Mark) (n r x y : ℕ) → x < length marks → Off marks n y
+    → Off (set marks x (Ended r)) n y
 Off-set marks n r x y lt off i low e = ⊎_elim
-    (λ is. ended_not_on_way i r (sym e ∙ ap (mark_at (set marks x (Ended r))) is ∙ mark-same marks x (Ended r) lt))
+    (λ is. ended_not_on_way i r (sym e ∙ ap (mark_at (set marks x (Ended r))) is
+        ∙ mark-same marks x (Ended r) lt))
     (λ ne. off i low (sym (mark-other marks x y (Ended r) ne) ∙ e))
     (cases_eq y x)
 
 module _ (links : List (Option Step)) where
-  pub way_within : (marks : List Mark) (ws : List ℕ) → IsWay links marks ws → Each (λ p. p < length marks) ws
+  pub way_within : (marks : List Mark) (ws : List ℕ) → IsWay links marks ws
+      → Each (λ p. p < length marks) ws
   way_within marks [] w = tt
   way_within marks (p ∷ ws) w = (seen_within marks p (on_way_seen _ _ w.0), way_within marks ws w.2)
 
@@ -163,7 +181,8 @@ module _ (links : List (Option Step)) where
   way_seen marks [] w = tt
   way_seen marks (p ∷ ws) w = (on_way_seen _ _ w.0, way_seen marks ws w.2)
 
-  pub way_rest : (marks : List Mark) (xs ys : List ℕ) → IsWay links marks (xs ++ ys) → IsWay links marks ys
+  pub way_rest : (marks : List Mark) (xs ys : List ℕ) → IsWay links marks (xs ++ ys)
+      → IsWay links marks ys
   way_rest marks [] ys w = w
   way_rest marks (x ∷ xs) ys w = way_rest marks xs ys w.2
 
@@ -181,7 +200,8 @@ module _ (links : List (Option Step)) where
   )
 
   pub way_ended : (root : ℕ) (marks : List Mark) (xs ws : List ℕ) → Each (λ x. x < length marks) xs
-      → Each (Off marks (length ws)) xs → IsWay links marks ws → IsWay links (all_ended root marks xs) ws
+      → Each (Off marks (length ws)) xs → IsWay links marks ws
+          → IsWay links (all_ended root marks xs) ws
   way_ended root marks [] ws e off w = w
   way_ended root marks (x ∷ xs) ws e off w = way_ended root (set marks x (Ended root)) xs ws
       (within-set marks x (Ended root) xs e.1)
@@ -197,11 +217,13 @@ module _ (links : List (Option Step)) where
     (z, f.0, inl refl),
     Each-map (λ y. (q : ℕ) × (target links y ≡ Some q) × ((q ≡ x) ⊎ In q xs))
         (λ y. (q : ℕ) × (target links y ≡ Some q) × ((q ≡ z) ⊎ In q (x ∷ xs)))
-        (λ y t. (t.0, t.1, inr (⊎_elim (λ e. inl (sym e)) (λ i. inr i) t.2))) xs (follows_in x xs f.1),
+        (λ y t. (t.0, t.1, inr (⊎_elim (λ e. inl (sym e)) (λ i. inr i) t.2))) xs
+            (follows_in x xs f.1),
   )
 
 -- a cycle is left at its first place, which is the root of all its places
-module _ (before : ℕ → ℕ → Bool) (count : ℕ) (order : IsOrder before count) (links : List (Option Step)) where
+module _ (before : ℕ → ℕ → Bool) (count : ℕ) (order : IsOrder before count) (links : List
+    (Option Step)) where
   pub behind_head : (h : ℕ) (xs : List ℕ) → h < count
       → Each (λ x. before x h ≡ false) xs → Each (λ x. x < count) xs
       → Each (λ x. (x ≡ h) ⊎ (before h x ≡ true)) xs
@@ -222,9 +244,11 @@ module _ (before : ℕ → ℕ → Bool) (count : ℕ) (order : IsOrder before c
 
   pub cycle_steps : (h : ℕ) (front back : List ℕ) → h < count
       → Follows links (last_or h back) (front ++ h ∷ back)
-      → Each (λ x. before x h ≡ false) (front ++ h ∷ back) → Each (λ x. x < count) (front ++ h ∷ back)
+      → Each (λ x. before x h ≡ false) (front ++ h ∷ back)
+          → Each (λ x. x < count) (front ++ h ∷ back)
       → length (front ++ h ∷ back) ≤ length links
-      → Each (λ x. (e : ℕ) × (e < length (front ++ h ∷ back)) × Ends (cut_target before links) e x h)
+      → Each (λ x. (e : ℕ) × (e < length (front ++ h ∷ back)) × Ends
+          (cut_target before links) e x h)
       (front ++ h ∷ back)
   cycle_steps h front back lt f least within short =
       let least_parts = Each-append (λ x. before x h ≡ false) front (h ∷ back) least in
@@ -234,14 +258,17 @@ module _ (before : ℕ → ℕ → Bool) (count : ℕ) (order : IsOrder before c
       (behind_head h back lt least_parts.1.1 within_parts.1.1)
       (behind_head h front lt least_parts.0 within_parts.0) in
       let size : length (front ++ h ∷ back) ≡ length (back ++ front) + 1 =
-      length-append front (h ∷ back) ∙ (omega arith ∙ ap (λ n. n + 1) (sym (length-append back front))) in
+      length-append front (h ∷ back) ∙ (omega arith
+          ∙ ap (λ n. n + 1) (sym (length-append back front))) in
       let round = turned h front back f in
       let parts = Follows-split links h (back ++ front) (h ∷ []) round in
       let head : heads_cycle before links h ≡ true =
       head_is before links order h (back ++ front) round behind (omega (arith, size, short)) in
-      let P : ℕ → Type 0 = λ x. (e : ℕ) × (e < length (front ++ h ∷ back)) × Ends (cut_target before links) e x h in
+      let P : ℕ → Type 0 = λ x. (e : ℕ) × (e < length (front ++ h ∷ back)) × Ends
+          (cut_target before links) e x h in
       let all : Each P (back ++ front) =
-      Each-map (λ x. (e : ℕ) × (e ≤ 0 + length (back ++ front)) × Ends (cut_target before links) e x h) P
+      Each-map (λ x. (e : ℕ) × (e ≤ 0 + length (back ++ front)) × Ends
+          (cut_target before links) e x h) P
       (λ x s. (s.0, omega (arith, s.1, size), s.2)) (back ++ front)
       (cycle_ends before links order h head (back ++ front) 0 0 h parts.0 behind
       (starts before links order h) (refl, cut-head before links h head)) in
@@ -260,26 +287,34 @@ module _ (before : ℕ → ℕ → Bool) (count : ℕ) (order : IsOrder before c
       let begun = drop_at_place way number place (w.only place number at) in
       let whole : reverse way ≡ reverse cycle ++ reverse left =
       ap reverse (sym (take-append-drop number way)) ∙ reverse-append left cycle in
-      let chained : IsWay links marks (reverse cycle ++ reverse left) = subst (IsWay links marks) whole w.chained in
+      let chained : IsWay links marks (reverse cycle ++ reverse left) = subst
+          (IsWay links marks) whole w.chained in
       let leading : LeadsTo links (reverse cycle ++ reverse left) (Some place) =
       subst (λ l. LeadsTo links l (Some place)) whole leads in
-      let follows : Follows links place (reverse cycle) = way_follows links marks (reverse cycle) (reverse left) place chained leading in
-      let last : reverse cycle ≡ reverse begun.0 ++ place ∷ [] = ap reverse begun.1 ∙ reverse_cons place begun.0 in
+      let follows : Follows links place (reverse cycle) = way_follows links marks
+          (reverse cycle) (reverse left) place chained leading in
+      let last : reverse cycle ≡ reverse begun.0 ++ place ∷ [] = ap reverse begun.1
+          ∙ reverse_cons place begun.0 in
       let within_both : Each (λ p. p < length marks) (reverse cycle) =
-      (Each-append (λ p. p < length marks) (reverse cycle) (reverse left) (way_within links marks _ chained)).0 in
+      (Each-append (λ p. p < length marks) (reverse cycle) (reverse left)
+          (way_within links marks _ chained)).0 in
       let within : Each (λ x. x < count) (reverse cycle) =
       subst (λ n. Each (λ x. x < n) (reverse cycle)) (w.long ∙ count_is) within_both in
       let least : Each (λ x. before x root ≡ false) (reverse cycle) =
-      Each-reverse (λ x. before x root ≡ false) cycle (Each-from (λ x. before x root ≡ false) cycle closes.least) in
+      Each-reverse (λ x. before x root ≡ false) cycle (Each-from (λ x. before x root
+          ≡ false) cycle closes.least) in
       let sizes : length cycle + length left ≡ length way =
       omega (arith, ap length (take-append-drop number way), length-append left cycle) in
       let size : length (reverse cycle) ≡ length cycle = length-reverse cycle in
       let short : length (reverse cycle) ≤ length links = omega (arith, sizes, size, w.fits) in
-      let steps : Each (λ x. (e : ℕ) × (e < length (reverse cycle)) × Ends (cut_target before links) e x root) (reverse cycle) =
-      rounded marks place root cycle closes.among.0 closes.among.1 begun.0 last follows least within short in
+      let steps : Each (λ x. (e : ℕ) × (e < length (reverse cycle)) × Ends
+          (cut_target before links) e x root) (reverse cycle) =
+      rounded marks place root cycle closes.among.0 closes.among.1 begun.0 last follows least
+          within short in
       let forth : Each (λ p. p < length marks) cycle =
       Each-told (λ p. p < length marks) cycle
-      (λ p i. Each-in (λ p. p < length marks) (reverse cycle) p within_both (In-reverse p cycle i)) in
+      (λ p i. Each-in (λ p. p < length marks) (reverse cycle) p within_both
+          (In-reverse p cycle i)) in
       let seen : Each (λ p. is_unseen (mark_at marks p) ≡ false) cycle =
       Each-told (λ p. is_unseen (mark_at marks p) ≡ false) cycle
       (λ p i. Each-in (λ p. is_unseen (mark_at marks p) ≡ false) (reverse cycle) p
@@ -292,7 +327,8 @@ module _ (before : ℕ → ℕ → Bool) (count : ℕ) (order : IsOrder before c
       let after : List Mark = all_ended root marks cycle in
       let same_unseen : unseen after ≡ unseen marks = unseen-ended root marks cycle seen in
       let marked = λ (p : ℕ). mark-ended root marks cycle p forth in
-      let ended_still : (q s : ℕ) → mark_at marks q ≡ Ended s → (t : ℕ) × (mark_at after q ≡ Ended t) =
+      let ended_still : (q s : ℕ) → mark_at marks q ≡ Ended s
+          → (t : ℕ) × (mark_at after q ≡ Ended t) =
       λ q s e. ⊎_elim (λ a. (root, a.1)) (λ b. (s, b.1 ∙ e)) (marked q) in
       let to_cycle = follows_in links place (reverse cycle) follows in
       let place_in_cycle : In place cycle = subst (In place) (sym begun.1) (inl refl) in
@@ -303,14 +339,17 @@ module _ (before : ℕ → ℕ → Bool) (count : ℕ) (order : IsOrder before c
             (way_rest links marks (reverse cycle) (reverse left) chained);
         only = λ p i e. ⊎_elim
             (λ a. absurd (ended_not_on_way i root (sym e ∙ a.1)))
-            (λ b. ⊎_elim (λ t. t) (λ d. absurd (b.0 d)) (taken_or_dropped way number i p (w.only p i (sym b.1 ∙ e))))
+            (λ b. ⊎_elim (λ t. t) (λ d. absurd (b.0 d)) (taken_or_dropped way number i p
+                (w.only p i (sym b.1 ∙ e))))
             (marked p);
         ended = λ p r e. ⊎_elim
             (λ a.
             let which : root ≡ r = same_root root r (sym a.1 ∙ e) in
-            let s = Each-in (λ x. (e : ℕ) × (e < length (reverse cycle)) × Ends (cut_target before links) e x root)
+            let s = Each-in (λ x. (e : ℕ) × (e < length (reverse cycle)) × Ends
+                (cut_target before links) e x root)
             (reverse cycle) p steps (In-reverse p cycle a.0) in
-            let t = Each-in (λ x. (q : ℕ) × (target links x ≡ Some q) × ((q ≡ place) ⊎ In q (reverse cycle)))
+            let t = Each-in (λ x. (q : ℕ) × (target links x ≡ Some q) × ((q
+                ≡ place) ⊎ In q (reverse cycle)))
             (reverse cycle) p to_cycle (In-reverse p cycle a.0) in
             record {
               steps = s.0;
@@ -319,7 +358,8 @@ module _ (before : ℕ → ℕ → Bool) (count : ℕ) (order : IsOrder before c
               closed = λ q u.
                   let is : t.0 ≡ q = same_place_of t.0 q (sym t.1 ∙ u) in
                   let inside : In q cycle = subst (λ y. In y cycle) is
-                  (⊎_elim (λ h. subst (λ y. In y cycle) (sym h) place_in_cycle) (back_in t.0) t.2) in
+                  (⊎_elim (λ h. subst (λ y. In y cycle) (sym h) place_in_cycle)
+                      (back_in t.0) t.2) in
                   ⊎_elim (λ m. (root, m.1)) (λ m. absurd (m.0 inside)) (marked q);
             })
             (λ b.
@@ -334,7 +374,8 @@ module _ (before : ℕ → ℕ → Bool) (count : ℕ) (order : IsOrder before c
         fits = omega (arith, w.fits, sizes, same_unseen);
       } in
       let can_end : CanEnd links after (reverse left) root =
-      next_end after root place (⊎_elim (λ m. m.1) (λ m. absurd (m.0 place_in_cycle)) (marked place)) (reverse left)
+      next_end after root place (⊎_elim (λ m. m.1) (λ m. absurd (m.0 place_in_cycle))
+          (marked place)) (reverse left)
       (last_leads marks (reverse begun.0) place (reverse left)
       (subst (λ l. IsWay links marks (l ++ reverse left)) last chained)) in
       subst (λ m. IsClosed before links m new.way root) (sym closes.marks)
@@ -350,7 +391,8 @@ module _ (before : ℕ → ℕ → Bool) (count : ℕ) (order : IsOrder before c
       In-unreverse : (q : ℕ) (xs : List ℕ) → In q (reverse xs) → In q xs
       In-unreverse q xs i = subst (In q) (reverse-reverse xs) (In-reverse q (reverse xs) i)
 
-      next_end : (marks : List Mark) (root place : ℕ) → mark_at marks place ≡ Ended root → (ws : List ℕ)
+      next_end : (marks : List Mark) (root place : ℕ) → mark_at marks place ≡ Ended root
+          → (ws : List ℕ)
           → LeadsTo links ws (Some place) → CanEnd links marks ws root
       next_end marks root place e [] l = tt
       next_end marks root place e (q ∷ ws) l = subst (EndsAt marks root q) (sym l) e
@@ -360,11 +402,13 @@ module _ (before : ℕ → ℕ → Bool) (count : ℕ) (order : IsOrder before c
       last_leads marks [] place ys w = w.1
       last_leads marks (x ∷ xs) place ys w = last_leads marks xs place ys w.2
 
-      rounded : (marks : List Mark) (place root : ℕ) (cycle : List ℕ) (i : ℕ) → slice_get cycle i ≡ Some root
+      rounded : (marks : List Mark) (place root : ℕ) (cycle : List ℕ) (i : ℕ)
+          → slice_get cycle i ≡ Some root
           → (rest : List ℕ) → reverse cycle ≡ reverse rest ++ place ∷ []
           → Follows links place (reverse cycle) → Each (λ x. before x root ≡ false) (reverse cycle)
           → Each (λ x. x < count) (reverse cycle) → length (reverse cycle) ≤ length links
-          → Each (λ x. (e : ℕ) × (e < length (reverse cycle)) × Ends (cut_target before links) e x root) (reverse cycle)
+          → Each (λ x. (e : ℕ) × (e < length (reverse cycle)) × Ends
+              (cut_target before links) e x root) (reverse cycle)
       rounded marks place root cycle i among rest last follows least within short =
           let r = split_round cycle i root among in
           let front : List ℕ = reverse r.1 in
@@ -377,11 +421,15 @@ module _ (before : ℕ → ℕ → Bool) (count : ℕ) (order : IsOrder before c
           sym (last_or-append place (reverse rest) place []) ∙ ap (last_or place) (sym last ∙ is)
           ∙ last_or-append place front root back in
           let lt : root < count =
-          (Each-append (λ x. x < count) front (root ∷ back) (subst (Each (λ x. x < count)) is within)).1.0 in
-          subst (λ l. Each (λ x. (e : ℕ) × (e < length l) × Ends (cut_target before links) e x root) l) (sym is)
+          (Each-append (λ x. x < count) front (root ∷ back) (subst (Each
+              (λ x. x < count)) is within)).1.0 in
+          subst (λ l. Each (λ x. (e : ℕ) × (e < length l) × Ends
+              (cut_target before links) e x root) l) (sym is)
           (cycle_steps root front back lt
-          (subst (λ z. Follows links z (front ++ root ∷ back)) ends_at (subst (Follows links place) is follows))
-          (subst (Each (λ x. before x root ≡ false)) is least) (subst (Each (λ x. x < count)) is within)
+          (subst (λ z. Follows links z (front ++ root ∷ back)) ends_at (subst
+              (Follows links place) is follows))
+          (subst (Each (λ x. before x root
+              ≡ false)) is least) (subst (Each (λ x. x < count)) is within)
           (subst (λ l. length l ≤ length links) is short))
 
 pub drop_within : (P : ℕ → Type 0) (n : ℕ) (xs : List ℕ) → Each P xs → Each P (drop n xs)
@@ -390,8 +438,10 @@ drop_within P (suc n) [] e = e
 drop_within P (suc n) (x ∷ xs) e = drop_within P n xs e.1
 
 -- the places of a walk's way are places
-pub walk_within : (before : ℕ → ℕ → Bool) (links : List (Option Step)) (marks : List Mark) (way : List ℕ)
+pub walk_within : (before : ℕ → ℕ
+    → Bool) (links : List (Option Step)) (marks : List Mark) (way : List ℕ)
     → IsWalk before links marks way → Each (λ p. p < length marks) way
 walk_within before links marks way w = Each-told (λ p. p < length marks) way
-    (λ p i. Each-in (λ p. p < length marks) (reverse way) p (way_within links marks (reverse way) w.chained)
+    (λ p i. Each-in (λ p. p < length marks) (reverse way) p (way_within links marks
+        (reverse way) w.chained)
     (In-reverse p way i))

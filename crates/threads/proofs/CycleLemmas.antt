@@ -1,6 +1,8 @@
 -- Which places head a cycle, and where links lead once cycles are cut.
-use Rattle.std.proofs.Common.{◌≡◌, ◌∙◌, ℕ, zero, suc, ◌+◌, ◌<◌, ◌≤◌, Bool, true, false, cond, ◌&&◌, ◌||◌, ◌==◌}
-use Rattle.std.proofs.Common.{List, [], ◌∷◌, ◌++◌, length, Option, Some, None, option_map, refl, sym, ap, subst}
+use Rattle.std.proofs.Common.{◌≡◌, ◌∙◌, ℕ, zero, suc, ◌+◌, ◌<◌, ◌≤◌, Bool, true, false, cond, ◌&&◌}
+use Rattle.std.proofs.Common.{◌||◌, ◌==◌}
+use Rattle.std.proofs.Common.{List, [], ◌∷◌, ◌++◌, length, Option, Some, None, option_map, refl}
+use Rattle.std.proofs.Common.{sym, ap, subst}
 use Rattle.std.proofs.Common.{◌⊎◌, inl, inr, ⊎_elim, arith, get_or, length-append, eq-eqb}
 use Rattle.std.specs.Prelude.{if◌then◌else◌}
 use Rattle.std.proofs.lemmas.Bool.{cases_Bool, cases_eq, false_from_ne_true, false≢true}
@@ -27,11 +29,13 @@ abbrev pub last_or : ℕ → List ℕ → ℕ
 last_or p [] = p
 last_or p (x ∷ xs) = last_or x xs
 
-pub last_or-append : (p : ℕ) (xs : List ℕ) (h : ℕ) (ys : List ℕ) → last_or p (xs ++ h ∷ ys) ≡ last_or h ys
+pub last_or-append : (p : ℕ) (xs : List ℕ) (h : ℕ) (ys : List ℕ)
+    → last_or p (xs ++ h ∷ ys) ≡ last_or h ys
 last_or-append p [] h ys = refl
 last_or-append p (x ∷ xs) h ys = last_or-append x xs h ys
 
-pub Follows-split : (links : List (Option Step)) (p : ℕ) (xs ys : List ℕ) → Follows links p (xs ++ ys)
+pub Follows-split : (links : List (Option Step)) (p : ℕ) (xs ys : List ℕ)
+    → Follows links p (xs ++ ys)
     → Follows links p xs × Follows links (last_or p xs) ys
 Follows-split links p [] ys f = (tt, f)
 Follows-split links p (x ∷ xs) ys f = let r = Follows-split links x xs ys f.1 in ((f.0, r.0), r.1)
@@ -74,10 +78,12 @@ module _ (before : ℕ → ℕ → Bool) (links : List (Option Step)) where
   heads p = heads_cycle before links p
 
   pub cut-head : (p : ℕ) → heads p ≡ true → cut p ≡ None
-  cut-head p e = ap (λ b. option_map (λ (s : Step). s.place) (if b then None else get_or links p None)) e
+  cut-head p e = ap (λ b. option_map (λ (s : Step). s.place)
+      (if b then None else get_or links p None)) e
 
   pub cut-other : (p : ℕ) → heads p ≡ false → cut p ≡ target links p
-  cut-other p e = ap (λ b. option_map (λ (s : Step). s.place) (if b then None else get_or links p None)) e
+  cut-other p e = ap (λ b. option_map (λ (s : Step). s.place)
+      (if b then None else get_or links p None)) e
 
   -- no place outside is met from within what links do not leave
   module _ (S : ℕ → Type 0) (closed : (p q : ℕ) → S p → target links p ≡ Some q → S q) (w : ℕ)
@@ -87,7 +93,8 @@ module _ (before : ℕ → ℕ → Bool) (links : List (Option Step)) where
         → meets before (comes_to before links w n) w t ≡ false
     stays_by n more None s = refl
     stays_by n more (Some q) s =
-        let apart : (q == w) ≡ false = false_from_ne_true (q == w) (λ e. out (subst S (is_place q w e) (s q refl))) in
+        let apart : (q == w) ≡ false = false_from_ne_true (q == w) (λ e. out (subst S
+            (is_place q w e) (s q refl))) in
         let never : comes_to before links w n q ≡ false = more q (s q refl) in
         ap (λ b. b || (before w q && comes_to before links w n q)) apart
         ∙ ap (λ b. before w q && b) never
@@ -105,7 +112,8 @@ module _ (before : ℕ → ℕ → Bool) (links : List (Option Step)) where
         by (suc n) = stays_by n (stays n) (target links w) s
 
   -- more steps do no harm
-  more_steps_by : (h m n : ℕ) → ((p : ℕ) → comes_to before links h m p ≡ true → comes_to before links h n p ≡ true)
+  more_steps_by : (h m n : ℕ) → ((p : ℕ) → comes_to before links h m p ≡ true
+      → comes_to before links h n p ≡ true)
       → (t : Option ℕ) → meets before (comes_to before links h m) h t ≡ true
       → meets before (comes_to before links h n) h t ≡ true
   more_steps_by h m n more None e = e
@@ -118,7 +126,8 @@ module _ (before : ℕ → ℕ → Bool) (links : List (Option Step)) where
       (more q (and_second (before h q) _ rest))))
       (cases_Bool (q == h))
 
-  pub more_steps : (h m n p : ℕ) → m ≤ n → comes_to before links h m p ≡ true → comes_to before links h n p ≡ true
+  pub more_steps : (h m n p : ℕ) → m ≤ n → comes_to before links h m p ≡ true
+      → comes_to before links h n p ≡ true
   more_steps h zero n p le e = absurd (false≢true e)
   more_steps h (suc m) zero p le e = absurd (omega arith)
   more_steps h (suc m) (suc n) p le e =
@@ -130,13 +139,15 @@ module _ (before : ℕ → ℕ → Bool) (links : List (Option Step)) where
 
     -- no cycle has two heads
     one_head_by : (m q k' : ℕ) → before m q ≡ true → comes_to before links q k' q ≡ true
-        → (n k : ℕ) → ((j p : ℕ) → comes_to before links m n p ≡ true → comes_to before links q j p ≡ true → ⊥)
+        → (n k : ℕ) → ((j p : ℕ) → comes_to before links m n p ≡ true
+            → comes_to before links q j p ≡ true → ⊥)
         → (t : Option ℕ) → meets before (comes_to before links m n) m t ≡ true
         → meets before (comes_to before links q k) q t ≡ true → ⊥
     one_head_by m q k' lt own n k more None a b = false≢true a
     one_head_by m q k' lt own n k more (Some x) a b = ⊎_elim
         (λ at_m. ⊎_elim
-        (λ at_q. irreflexive m (subst (λ y. before m y ≡ true) (sym (is_place x q at_q) ∙ is_place x m at_m) lt))
+        (λ at_q. irreflexive m (subst (λ y. before m y ≡ true) (sym (is_place x q at_q)
+            ∙ is_place x m at_m) lt))
         (λ off_q.
         let rest : before q x && comes_to before links q k x ≡ true =
         sym (ap (λ b. b || (before q x && comes_to before links q k x)) off_q) ∙ b in
@@ -182,7 +193,8 @@ module _ (before : ℕ → ℕ → Bool) (links : List (Option Step)) where
           (λ is. or_left (x == h) _ (eq-eqb x h is))
           (λ lt. or_right (x == h) _ (and_both (before h x) _ lt c)) b
 
-      pub round : (xs : List ℕ) (n p : ℕ) → Follows links p (xs ++ h ∷ []) → Each IsBehind xs → Meets n p
+      pub round : (xs : List ℕ) (n p : ℕ) → Follows links p (xs ++ h ∷ []) → Each IsBehind xs
+          → Meets n p
           → (m : ℕ) × (m ≤ n + length xs + 1) × (comes_to before links h m h ≡ true)
       round [] n p f e m = (suc n, omega arith, step_back n p h f.0 m)
       round (x ∷ xs) n p f e m =
@@ -200,7 +212,8 @@ module _ (before : ℕ → ℕ → Bool) (links : List (Option Step)) where
           more_steps h r.0 (length links) h (omega (arith, r.1)) r.2
 
       -- and each place of the cycle ends there
-      pub cycle_ends : heads h ≡ true → (xs : List ℕ) (n d p : ℕ) → Follows links p xs → Each IsBehind xs
+      pub cycle_ends : heads h ≡ true → (xs : List ℕ) (n d p : ℕ) → Follows links p xs
+          → Each IsBehind xs
           → Meets n p → Ends cut d p h
           → Each (λ x. (e : ℕ) × (e ≤ d + length xs) × Ends cut e x h) xs
       cycle_ends first [] n d p f e m ends = tt
@@ -215,12 +228,14 @@ module _ (before : ℕ → ℕ → Bool) (links : List (Option Step)) where
             (
               p,
               cut-other x (false_from_ne_true (heads x)
-                  (λ other. one_head h x (length links) lt other (suc n) (length links) x come other))
+                  (λ other. one_head h x (length links) lt other (suc n)
+                      (length links) x come other))
                   ∙ f.0,
               ends,
             ),
           )) e.0 in
-          let rest = cycle_ends first xs (suc n) own.0 x f.1 e.1 (meets_next (suc n) x e.0 come) own.2 in (
+          let rest = cycle_ends first xs (suc n) own.0 x f.1 e.1 (meets_next
+              (suc n) x e.0 come) own.2 in (
             (own.0, omega (arith, own.1), own.2),
             Each-map (λ y. (k : ℕ) × (k ≤ own.0 + length xs) × Ends cut k y h)
                 (λ y. (k : ℕ) × (k ≤ d + length (x ∷ xs)) × Ends cut k y h)

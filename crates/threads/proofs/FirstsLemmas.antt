@@ -1,5 +1,6 @@
 -- How a table of places grows.
-use Rattle.std.proofs.Common.{◌≡◌, ◌∙◌, ℕ, zero, suc, ◌+◌, ◌<◌, Bool, true, false, cond, List, [], ◌∷◌, Vec, Option, Some, None}
+use Rattle.std.proofs.Common.{◌≡◌, ◌∙◌, ℕ, zero, suc, ◌+◌, ◌<◌, Bool, true, false, cond, List, []}
+use Rattle.std.proofs.Common.{◌∷◌, Vec, Option, Some, None}
 use Rattle.std.proofs.Common.{refl, sym, ap, ⊎_elim, arith, length, get_or, add-one}
 use Rattle.std.proofs.lemmas.List.{get_or-map}
 use Rattle.std.specs.Prelude.{if◌then◌else◌}
@@ -66,12 +67,14 @@ place_put (e ∷ entries) k v other = ⊎_elim
     (cases_Bool (bytes_eq other e.0.items)))
     (cases_Bool (bytes_eq k.items e.0.items))
 
-first_below_by : (is_before : ℕ → ℕ → Bool) (n f : ℕ) (o : Option ℕ) → ((g : ℕ) → o ≡ Some g → g < n)
+first_below_by : (is_before : ℕ → ℕ → Bool) (n f : ℕ) (o : Option ℕ) → ((g : ℕ) → o ≡ Some g
+    → g < n)
     → earlier is_before o n ≡ Some f → f < suc n
 first_below_by is_before n f None more e = omega (arith, same_place n f e)
 first_below_by is_before n f (Some g) more e = ⊎_elim
     (λ early. omega (arith, same_place n f (sym (ap (λ b. Some (if b then n else g)) early) ∙ e)))
-    (λ late. omega (arith, same_place g f (sym (ap (λ b. Some (if b then n else g)) late) ∙ e), more g refl))
+    (λ late. omega (arith, same_place g f (sym (ap (λ b. Some (if b then n else g)) late)
+        ∙ e), more g refl))
     (cases_Bool (is_before n g))
 
 -- the first of places stands below their number
@@ -79,7 +82,8 @@ pub first_below : (is_before : ℕ → ℕ → Bool) (passes : ℕ → Bool) (n 
     → first_of is_before passes n ≡ Some f → f < n
 first_below is_before passes zero f e = cc
 first_below is_before passes (suc n) f e = ⊎_elim
-    (λ pass. first_below_by is_before n f (first_of is_before passes n) (first_below is_before passes n)
+    (λ pass. first_below_by is_before n f (first_of is_before passes n)
+        (first_below is_before passes n)
     (sym (ap (λ b. if b then earlier is_before (first_of is_before passes n) n
     else first_of is_before passes n) pass) ∙ e))
     (λ fail. omega (
@@ -99,5 +103,6 @@ at_place messages m place lt e =
 -- a function of places, one further
 pub first_more : (is_before : ℕ → ℕ → Bool) (passes : ℕ → Bool) (n : ℕ)
     → first_of is_before passes (n + 1)
-    ≡ (if passes n then earlier is_before (first_of is_before passes n) n else first_of is_before passes n)
+    ≡ (if passes n then earlier is_before
+        (first_of is_before passes n) n else first_of is_before passes n)
 first_more is_before passes n = rw add-one

@@ -1,16 +1,21 @@
 -- Listing order and the order by date are orders.
-use Rattle.std.proofs.Common.{◌≡◌, ◌∙◌, ℕ, zero, suc, ◌+◌, ◌<◌, ◌≤◌, Bool, true, false, List, [], ◌∷◌, length, map, Some}
-use Rattle.std.proofs.Common.{refl, sym, ap, subst, ◌⊎◌, inl, inr, ⊎_elim, arith, get_or, nat_eq, eq-eqb, slice_get, slice_index}
+use Rattle.std.proofs.Common.{◌≡◌, ◌∙◌, ℕ, zero, suc, ◌+◌, ◌<◌, ◌≤◌, Bool, true, false, List, []}
+use Rattle.std.proofs.Common.{◌∷◌, length, map, Some}
+use Rattle.std.proofs.Common.{refl, sym, ap, subst, ◌⊎◌, inl, inr, ⊎_elim, arith, get_or, nat_eq}
+use Rattle.std.proofs.Common.{eq-eqb, slice_get, slice_index}
 use Rattle.std.proofs.lemmas.Bool.{cases_eq, cases_lt, false_from_ne_true, false≢true, cases_Bool}
-use Rattle.std.proofs.lemmas.Cmp.{nat_cmp_total, int_cmp_total, on_total, then_total, nat_list_cmp_total}
+use Rattle.std.proofs.lemmas.Cmp.{nat_cmp_total, int_cmp_total, on_total, then_total}
+use Rattle.std.proofs.lemmas.Cmp.{nat_list_cmp_total}
 use Rattle.std.proofs.lemmas.List.{get_or-map, length-map}
 use Rattle.std.proofs.lemmas.Map.Keys.{apart_from_distinct}
 use Rattle.std.specs.Cmp.{IsTotalOrder, tied_itself, ranks}
 use Rattle.std.specs.List.{IsDistinct}
-use Rattle.std.specs.Ordering.{MatchOrdering, is_lt, is_eq, ordering_then, ordering_reverse, nat_cmp}
+use Rattle.std.specs.Ordering.{MatchOrdering, is_lt, is_eq, ordering_then, ordering_reverse}
+use Rattle.std.specs.Ordering.{nat_cmp}
 use Rattle.std.specs.declared.cmp.Ordering.{Ordering}
 use Rattle.std.specs.declared.cmp.Ordering.TheVariants.{Less, Equal, Greater}
-use Rattle.threads.specs.Message.{PlainMessage, at, is_listed_before, listing_cmp, no_message, numbers, sent_cmp}
+use Rattle.threads.specs.Message.{PlainMessage, at, is_listed_before, listing_cmp, no_message}
+use Rattle.threads.specs.Message.{numbers, sent_cmp}
 use Rattle.threads.specs.Walk.{Each, IsOrder}
 
 pub listing_total : IsTotalOrder listing_cmp
@@ -30,10 +35,12 @@ module _ {X : Type 0} {R : X → X → Ordering} (o : IsTotalOrder R) where
   pub never_before : (a : X) → is_lt (R a a) ≡ false
   never_before a = ap is_lt (tied_itself o a)
 
-  pub chain_before : (a b c : X) → is_lt (R a b) ≡ true → is_lt (R b c) ≡ true → is_lt (R a c) ≡ true
+  pub chain_before : (a b c : X) → is_lt (R a b) ≡ true → is_lt (R b c) ≡ true
+      → is_lt (R a c) ≡ true
   chain_before a b c p q = ap is_lt (o.trans a b c (less_from (R a b) p) (less_from (R b c) q))
 
-  turned_by : (r s : Ordering) → r ≡ ordering_reverse s → is_lt r ≡ false → (r ≡ Equal → ⊥) → is_lt s ≡ true
+  turned_by : (r s : Ordering) → r ≡ ordering_reverse s → is_lt r ≡ false → (r ≡ Equal → ⊥)
+      → is_lt s ≡ true
   turned_by Less s e n ne = absurd (false≢true (sym n))
   turned_by Equal s e n ne = absurd (ne refl)
   turned_by Greater Less e n ne = refl
@@ -55,7 +62,8 @@ equal_numbers i j e = subst (λ r. MatchOrdering r (i < j) (i ≡ j) (j < i)) e 
 apart : (messages : List PlainMessage) → IsDistinct nat_eq (numbers messages) → (a b : ℕ) → a < b
     → b < length messages → (at messages a).id.0 ≡ (at messages b).id.0 → ⊥
 apart messages distinct a b lt within e =
-    let there : b < length (numbers messages) = subst (λ n. b < n) (sym (length-map messages (λ m. m.id.0))) within in
+    let there : b < length (numbers messages) = subst (λ n. b < n) (sym (length-map messages
+        (λ m. m.id.0))) within in
     let differ = apart_from_distinct nat_eq (numbers messages) a b 0 distinct lt there in
     let one = get_or-map (λ (m : PlainMessage). m.id.0) messages a no_message 0 (omega arith) in
     let other = get_or-map (λ (m : PlainMessage). m.id.0) messages b no_message 0 within in
@@ -79,16 +87,20 @@ pub not_before : (messages : List PlainMessage) (x first next : ℕ)
     → is_listed_before messages x first ≡ false → is_listed_before messages next first ≡ true
     → is_listed_before messages x next ≡ false
 not_before messages x first next late early = false_from_ne_true (is_listed_before messages x next)
-    (λ e. false≢true (sym late ∙ chain_before listing_total (at messages x) (at messages next) (at messages first) e early))
+    (λ e. false≢true (sym late ∙ chain_before listing_total (at messages x) (at messages next)
+        (at messages first) e early))
 
 -- the step of a search for the first
 pub first_step : (messages : List PlainMessage) (places : List ℕ) (n first : ℕ) → n < length places
     → is_listed_before messages (slice_index places n) first ≡ true
     → ((i : ℕ) → i < n → is_listed_before messages (slice_index places i) first ≡ false)
-    → (i : ℕ) → i < n + 1 → is_listed_before messages (slice_index places i) (slice_index places n) ≡ false
+    → (i : ℕ) → i < n + 1 → is_listed_before messages (slice_index places i)
+        (slice_index places n) ≡ false
 first_step messages places n first within early before i lt = ⊎_elim
-    (λ low. not_before messages (slice_index places i) first (slice_index places n) (before i low) early)
-    (λ high. ap (λ k. is_listed_before messages (slice_index places k) (slice_index places n)) (omega arith)
+    (λ low. not_before messages (slice_index places i) first (slice_index places n)
+        (before i low) early)
+    (λ high. ap (λ k. is_listed_before messages (slice_index places k) (slice_index places n))
+        (omega arith)
     ∙ never_before listing_total (at messages (slice_index places n)))
     (cases_lt i n)
 
@@ -100,12 +112,14 @@ first_kept messages places n first late before i lt = ⊎_elim (before i)
     (λ high. ap (λ k. is_listed_before messages (slice_index places k) first) (omega arith) ∙ late)
     (cases_lt i n)
 
-pub slice_get-index : (xs : List ℕ) (i : ℕ) → i < length xs → slice_get xs i ≡ Some (slice_index xs i)
+pub slice_get-index : (xs : List ℕ) (i : ℕ) → i < length xs
+    → slice_get xs i ≡ Some (slice_index xs i)
 slice_get-index [] i lt = absurd (omega arith)
 slice_get-index (x ∷ xs) zero lt = refl
 slice_get-index (x ∷ xs) (suc i) lt = slice_get-index xs i (omega arith)
 
-pub Each-at : (P : ℕ → Type 0) (xs : List ℕ) (i : ℕ) → Each P xs → i < length xs → P (slice_index xs i)
+pub Each-at : (P : ℕ → Type 0) (xs : List ℕ) (i : ℕ) → Each P xs → i < length xs
+    → P (slice_index xs i)
 Each-at P [] i e lt = absurd (omega arith)
 Each-at P (x ∷ xs) zero e lt = e.0
 Each-at P (x ∷ xs) (suc i) e lt = Each-at P xs i e.1 (omega arith)

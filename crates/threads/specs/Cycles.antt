@@ -18,7 +18,8 @@ comes_to is_before links head zero place = false
 comes_to is_before links head (suc n) place =
     meets is_before (comes_to is_before links head n) head (target links place)
 
--- a place is reached again from itself, and is the first of that cycle; no cycle has more places than there are
+-- a place is reached again from itself, and is the first of that cycle; no cycle has more places
+-- than there are
 abbrev pub heads_cycle : (ℕ → ℕ → Bool) → List (Option Step) → ℕ → Bool
 heads_cycle is_before links place = comes_to is_before links place (length links) place
 

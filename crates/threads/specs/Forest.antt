@@ -9,7 +9,8 @@ abbrev pub Ends : (ℕ → Option ℕ) → ℕ → ℕ → ℕ → Type 0
 Ends on zero p r = (p ≡ r) × (on p ≡ None)
 Ends on (suc d) p r = (q : ℕ) × (on p ≡ Some q) × Ends on d q r
 
--- steps lead from each place to its root, which has no parent, so no place is reached again; and no way has more
+-- steps lead from each place to its root, which has no parent, so no place is reached again; and
+-- no way has more
 -- steps than there are places
 abbrev pub IsForest : List (Option Step) → Type 0
 IsForest parents = (p : ℕ) → p < length parents

@@ -1,5 +1,6 @@
 -- For the code alone: what is worked out once, and kept.
-use Rattle.std.specs.Prelude.{◌≡◌, ◌==◌, ◌<◌, ℕ, List, length, map, Option, Some, None, nat_eq, slice_index, slice_index_or}
+use Rattle.std.specs.Prelude.{◌≡◌, ◌==◌, ◌<◌, ℕ, List, length, map, Option, Some, None, nat_eq}
+use Rattle.std.specs.Prelude.{slice_index, slice_index_or}
 use Rattle.std.specs.Prelude.{if◌then◌else◌}
 use Rattle.std.specs.List.{IsDistinct, range_with_len}
 use Rattle.threads.specs.Message.{PlainMessage, numbers}
@@ -14,13 +15,15 @@ abbrev pub AreDistinct : List PlainMessage → Type 0
 AreDistinct messages = IsDistinct nat_eq (numbers messages)
 
 -- the parents and the roots of the definitions
-pub record IsFound (options : ThreadOptions) (messages : List PlainMessage) (found : Found) : Type 0 where
+pub record IsFound (options : ThreadOptions) (messages : List PlainMessage)
+    (found : Found) : Type 0 where
   pub the_parents : found.parents.items ≡ parents options messages
   pub the_roots : found.roots.items
       ≡ map (root_of (parents options messages)) (range_with_len 0 (length messages))
 
 -- the table of numbers is that of the messages, and what was worked out is that of the definitions
-pub record AreKept (options : ThreadOptions) (messages : List PlainMessage) (keys : List ℕ) (found : Option Found)
+pub record AreKept (options : ThreadOptions) (messages : List PlainMessage) (keys : List ℕ)
+    (found : Option Found)
     : Type 0 where
   pub the_numbers : keys ≡ numbers messages
   pub distinct : IsDistinct nat_eq keys

@@ -65,7 +65,8 @@ at messages place = slice_index_or messages place no_message
 abbrev pub is_listed_before : List PlainMessage → ℕ → ℕ → Bool
 is_listed_before messages a b = is_lt (listing_cmp (at messages a) (at messages b))
 
--- the message at one place was sent before that at another, or at the same moment and is listed before it
+-- the message at one place was sent before that at another, or at the same moment and is listed
+-- before it
 abbrev pub is_sent_before : List PlainMessage → ℕ → ℕ → Bool
 is_sent_before messages a b = is_lt (sent_cmp (at messages a) (at messages b))
 

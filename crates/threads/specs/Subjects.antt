@@ -1,5 +1,6 @@
 -- Parents by subject, for messages that have none by the ids of headers.
-use Rattle.std.specs.Prelude.{◌==◌, ◌&&◌, ◌||◌, ℕ, Bool, not, List, length, map, Option, None, is_none}
+use Rattle.std.specs.Prelude.{◌==◌, ◌&&◌, ◌||◌, ℕ, Bool, not, List, length, map, Option, None}
+use Rattle.std.specs.Prelude.{is_none}
 use Rattle.std.specs.Prelude.{option_map, slice_index_or, if◌then◌else◌}
 use Rattle.std.specs.List.{range_with_len}
 use Rattle.std.specs.Option.{option_or}
@@ -24,7 +25,8 @@ first_with messages parents subject =
     first_of (is_sent_before messages) (begins_subject messages parents subject)
     (length messages)
 
--- a message is linked by its subject: it has one, and begins with a reply prefix where that is asked for
+-- a message is linked by its subject: it has one, and begins with a reply prefix where that is
+-- asked for
 abbrev pub may_follow : ThreadOptions → PlainMessage → Bool
 may_follow options m =
     not options.strict && (not (length m.base_subject == 0)
@@ -43,7 +45,8 @@ parent_of options messages parents place = option_or (slice_index_or parents pla
     (followed (first_with messages parents) options (at messages place) place)
 
 -- each message's parent, by the ids of headers or by its subject
-abbrev pub with_subjects : ThreadOptions → List PlainMessage → List (Option Step) → List (Option Step)
+abbrev pub with_subjects : ThreadOptions → List PlainMessage → List (Option Step)
+    → List (Option Step)
 with_subjects options messages parents =
     map (parent_of options messages parents) (range_with_len 0 (length messages))
 

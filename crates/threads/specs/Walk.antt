@@ -1,9 +1,11 @@
 -- For the code alone: what holds while links are followed.
-use Rattle.std.specs.Prelude.{◌≡◌, ◌+◌, ◌<◌, ◌≤◌, ℕ, zero, suc, Bool, true, false, List, [], ◌∷◌, length, map}
+use Rattle.std.specs.Prelude.{◌≡◌, ◌+◌, ◌<◌, ◌≤◌, ℕ, zero, suc, Bool, true, false, List, [], ◌∷◌}
+use Rattle.std.specs.Prelude.{length, map}
 use Rattle.std.specs.Prelude.{take, drop, nat_eq}
 use Rattle.std.specs.List.{IsDistinct}
 use Rattle.threads.specs.Message.{PlainMessage, numbers}
-use Rattle.std.specs.Prelude.{Option, Some, None, option_map, reverse, count_by, fold, slice_get, slice_index, slice_index_or, slice_set}
+use Rattle.std.specs.Prelude.{Option, Some, None, option_map, reverse, count_by, fold, slice_get}
+use Rattle.std.specs.Prelude.{slice_index, slice_index_or, slice_set}
 use Rattle.threads.specs.Cycles.{cut_link}
 use Rattle.threads.specs.Links.{target}
 pub use Rattle.threads.specs.Forest.{Ends}
@@ -60,7 +62,8 @@ IsWay links marks (p ∷ rest) =
     × IsWay links marks rest
 
 -- a place leads to a root in few steps, and all that it leads to does
-pub record IsEnded (before : ℕ → ℕ → Bool) (links : List (Option Step)) (marks : List Mark) (room p r : ℕ)
+pub record IsEnded (before : ℕ → ℕ
+    → Bool) (links : List (Option Step)) (marks : List Mark) (room p r : ℕ)
     : Type 0 where
   pub steps : ℕ
   pub few : steps + room < length links
@@ -72,7 +75,8 @@ abbrev pub OnlyOnWay : List Mark → List ℕ → Type 0
 OnlyOnWay marks way = (p i : ℕ) → mark_at marks p ≡ OnWay i → slice_get way i ≡ Some p
 
 -- the marks tell a way that is followed, and where all places that were left lead
-pub record IsWalk (before : ℕ → ℕ → Bool) (links : List (Option Step)) (marks : List Mark) (way : List ℕ)
+pub record IsWalk (before : ℕ → ℕ
+    → Bool) (links : List (Option Step)) (marks : List Mark) (way : List ℕ)
     : Type 0 where
   pub long : length marks ≡ length links
   pub chained : IsWay links marks (reverse way)
@@ -86,7 +90,8 @@ abbrev pub KeepsSeen : List Mark → List Mark → Type 0
 KeepsSeen old new = (p : ℕ) → is_unseen (mark_at old p) ≡ false → is_unseen (mark_at new p) ≡ false
 
 -- what is told where a way was followed to its end
-pub record IsMet (links : List (Option Step)) (marks : List Mark) (way : List ℕ) (start : ℕ) (next : Option ℕ)
+pub record IsMet (links : List (Option Step)) (marks : List Mark) (way : List ℕ) (start : ℕ)
+    (next : Option ℕ)
     : Type 0 where
   pub leads : LeadsTo links (reverse way) next
   pub seen : (p : ℕ) → next ≡ Some p → is_unseen (mark_at marks p) ≡ false
@@ -118,13 +123,15 @@ root_in (OnWay i) = 0
 root_in (Ended r) = r
 
 -- nothing is on a way, and the places below a number were seen
-pub record AreFollowed (before : ℕ → ℕ → Bool) (links : List (Option Step)) (marks : List Mark) (count : ℕ)
+pub record AreFollowed (before : ℕ → ℕ
+    → Bool) (links : List (Option Step)) (marks : List Mark) (count : ℕ)
     : Type 0 where
   pub walk : IsWalk before links marks []
   pub seen : (p : ℕ) → p < count → is_unseen (mark_at marks p) ≡ false
 
 -- each place ends at its root
-pub record AreEnds (before : ℕ → ℕ → Bool) (links : List (Option Step)) (roots : List ℕ) : Type 0 where
+pub record AreEnds (before : ℕ → ℕ
+    → Bool) (links : List (Option Step)) (roots : List ℕ) : Type 0 where
   pub long : length roots ≡ length links
   pub each : (p : ℕ) → p < length links
       → (d : ℕ) × (d < length links) × Ends (cut_target before links) d p (slice_index roots p)
@@ -135,13 +142,15 @@ pub record State : Type 0 where
   pub way : List ℕ
 
 -- a walk whose way ends at a root
-pub record IsClosed (before : ℕ → ℕ → Bool) (links : List (Option Step)) (marks : List Mark) (way : List ℕ)
+pub record IsClosed (before : ℕ → ℕ
+    → Bool) (links : List (Option Step)) (marks : List Mark) (way : List ℕ)
     (root : ℕ) : Type 0 where
   pub walk : IsWalk before links marks way
   pub can_end : CanEnd links marks (reverse way) root
 
 -- the way from a number on is left, and ends at its first place
-pub record ClosesCycle (before : ℕ → ℕ → Bool) (number : ℕ) (old new : State) (root : ℕ) : Type 0 where
+pub record ClosesCycle (before : ℕ → ℕ
+    → Bool) (number : ℕ) (old new : State) (root : ℕ) : Type 0 where
   pub marks : new.marks ≡ all_ended root old.marks (drop number old.way)
   pub way : new.way ≡ take number old.way
   pub among : (i : ℕ) × (slice_get (drop number old.way) i ≡ Some root)
@@ -152,7 +161,8 @@ abbrev pub IsSeen : List Mark → Option ℕ → Type 0
 IsSeen marks met = (p : ℕ) → met ≡ Some p → is_unseen (mark_at marks p) ≡ false
 
 -- the way was closed where it met a place that was seen
-pub record Closes (before : ℕ → ℕ → Bool) (count : ℕ) (old new : State) (met : Option ℕ) (root : ℕ) : Type 0 where
+pub record Closes (before : ℕ → ℕ
+    → Bool) (count : ℕ) (old new : State) (met : Option ℕ) (root : ℕ) : Type 0 where
   pub closed : (links : List (Option Step)) → IsOrder before count → length links ≡ count
       → IsWalk before links old.marks old.way → LeadsTo links (reverse old.way) met
       → IsClosed before links new.marks new.way root

@@ -77,7 +77,8 @@ pub fn add_first(
     requires below { IsBelow firsts.old (length messages.now) }
     ensures { OnOk result ((other : List ℕ) → place_in firsts.new other
         ≡ (if bytes_eq other text.now
-        then earlier (is_before order (plain_messages messages.now)) (place_in firsts.old other) place
+        then earlier (is_before order (plain_messages messages.now)) (place_in firsts.old other)
+        place
         else place_in firsts.old other)) }
 {
     let first = firsts.find(text);

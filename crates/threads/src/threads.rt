@@ -54,7 +54,8 @@ impl Model for Threads {
       is_finished = is_some t.found;
     } };
 
-    ghost invariant = { λ t. AreKept t.options (plain_messages t.messages.items) t.numbers.keys t.found };
+    ghost invariant = { λ t. AreKept t.options (plain_messages t.messages.items) t.numbers.keys
+        t.found };
 }
 
 impl Threads {
@@ -193,7 +194,8 @@ fn cut_at(links: &[Option<Step>], roots: &[usize], place: usize) -> Option<Step>
     requires link { place < length links.now }
     requires root { place < length roots.now }
     ensures { result
-        ≡ (if slice_index roots.now place == place then None else slice_index_or links.now place None) }
+        ≡ (if slice_index roots.now place == place then None
+        else slice_index_or links.now place None) }
 {
     if roots[place] == place {
         None
@@ -240,7 +242,8 @@ fn roots_above(
 fn found_of(alloc: Global, options: ThreadOptions, messages: &[Message]) -> Result<Found, NoMemory>
     requires { kept.AreDistinct (message.plain_messages messages.now) }
     ensures found { IfOk result (kept.IsFound options (message.plain_messages messages.now)) }
-    ensures forest { OnOk result (IsForest (parents options (message.plain_messages messages.now))) }
+    ensures forest { OnOk result
+        (IsForest (parents options (message.plain_messages messages.now))) }
 {
     let links = links_of(alloc, options, messages)?;
     let ends = ends_of(alloc, messages, &links)?;

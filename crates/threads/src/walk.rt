@@ -187,7 +187,8 @@ fn end_from(
 ) -> Result<(), NoMemory>
     requires start { start < length links.now }
     requires links { spec.FitsMessages (plain_messages messages.now) links.now }
-    requires before { spec.AreFollowed (before (plain_messages messages.now)) links.now marks.old start }
+    requires before { spec.AreFollowed (before (plain_messages messages.now)) links.now marks.old
+        start }
     requires empty { way.old.items ≡ [] }
     ensures ended { OnOk result
         (spec.AreFollowed (before (plain_messages messages.now)) links.now marks.new (start + 1)) }
@@ -219,7 +220,8 @@ pub fn ends_of(
     links: &[Option<Step>],
 ) -> Result<Vec<usize>, NoMemory>
     requires { spec.FitsMessages (plain_messages messages.now) links.now }
-    ensures { IfOk result (λ r. spec.AreEnds (before (plain_messages messages.now)) links.now r.items) }
+    ensures { IfOk result
+        (λ r. spec.AreEnds (before (plain_messages messages.now)) links.now r.items) }
 {
     let mut marks = vec![in alloc; Mark::Unseen; messages.len()]?;
     let mut way = Vec::new(alloc);

@@ -1,4 +1,5 @@
-use Rattle.std.proofs.Common.{◌≡◌, ◌∙◌, ◌++◌, ◌∷◌, ◌<◌, [], length, map, ap, subst, sym, refl, arith}
+use Rattle.std.proofs.Common.{◌≡◌, ◌∙◌, ◌++◌, ◌∷◌, ◌<◌, [], length, map, ap, subst, sym, refl}
+use Rattle.std.proofs.Common.{arith}
 use Rattle.std.specs.List.{range_with_len}
 use Rattle.std.proofs.lemmas.List.{length-map}
 use Rattle.std.proofs.lemmas.List.FromFn.{map-range_with_len_more}
@@ -16,9 +17,11 @@ loop-place-preserved c =
     ∙ ap (λ l. l ++ c.link_of.result ∷ []) c.loop-place.invariant
     ∙ ap (λ s. map (link_of c.args.options ms) (range_with_len 0 place) ++ s ∷ [])
     (c.link_of.ensures
-    ∙ ap (λ f. link_by f c.args.options (plain_message c.index-messages-place.result) place) c.in_ok-holders.ensures
+    ∙ ap (λ f. link_by f c.args.options
+        (plain_message c.index-messages-place.result) place) c.in_ok-holders.ensures
     ∙ ap (λ m. link_by (holder ms) c.args.options m place)
-    (sym (at_place messages c.index-messages-place.result place c.loop-place-test.true c.index-messages-place.is)))
+    (sym (at_place messages c.index-messages-place.result place c.loop-place-test.true
+        c.index-messages-place.is)))
     ∙ sym (map-range_with_len_more (link_of c.args.options ms) 0 place place (omega arith))
 
 pub returns : goal.returns

@@ -1,4 +1,5 @@
-use Rattle.std.proofs.Common.{◌≡◌, ◌∙◌, ℕ, ◌+◌, ◌<◌, [], false, length, reverse, ap, subst, sym, arith, ⊎_elim}
+use Rattle.std.proofs.Common.{◌≡◌, ◌∙◌, ℕ, ◌+◌, ◌<◌, [], false, length, reverse, ap, subst, sym}
+use Rattle.std.proofs.Common.{arith, ⊎_elim}
 use Rattle.std.proofs.lemmas.Bool.{cases_lt}
 use Rattle.std.proofs.lemmas.List.{length-map}
 use Rattle.threads.specs.Message.{is_listed_before, plain_message, plain_messages}
@@ -17,7 +18,8 @@ close-root-requires-clause-within c =
 
 pub close-root-requires-clause-only : goal.close-root-requires-clause-only
 close-root-requires-clause-only c =
-    (c.in_ok-met.ensures.walk (is_listed_before (plain_messages c.args.messages.now)) c.requires.before.walk).only
+    (c.in_ok-met.ensures.walk (is_listed_before
+        (plain_messages c.args.messages.now)) c.requires.before.walk).only
 
 pub settle-requires : goal.settle-requires
 settle-requires c =
@@ -28,7 +30,8 @@ settle-requires c =
     (subst (IsOrder (is_listed_before ms)) size (listing_order ms c.requires.links.distinct))
     (c.requires.links.long ∙ size) walk c.in_ok-met.ensures.met.leads in
     record {
-      within = way_within c.args.links.now c.close-root.new.marks (reverse c.close-root.new.way.items)
+      within = way_within c.args.links.now c.close-root.new.marks
+          (reverse c.close-root.new.way.items)
           closed.walk.chained;
     }
 

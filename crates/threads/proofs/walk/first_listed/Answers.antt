@@ -1,4 +1,5 @@
-use Rattle.std.proofs.Common.{◌≡◌, ◌∙◌, ◌+◌, ◌<◌, ℕ, Some, ap, false, length, slice_get, slice_index, subst, sym}
+use Rattle.std.proofs.Common.{◌≡◌, ◌∙◌, ◌+◌, ◌<◌, ℕ, Some, ap, false, length, slice_get}
+use Rattle.std.proofs.Common.{slice_index, subst, sym}
 use Rattle.threads.specs.Message.{is_listed_before, plain_messages}
 use Rattle.threads.proofs.OrderLemmas.{Each-at, first_kept, first_step, slice_get-index}
 use Rattle.threads.proofs.walk.first_listed.Goals as goal
@@ -13,16 +14,19 @@ loop-place-preserved c =
     elim c.if-is_listed_before.branch [
       | then-is_listed_before w ↦ record {
         within = subst (λ f. f < length c.args.messages.now) (sym w.first-is)
-            (Each-at (λ p. p < length c.args.messages.now) places n c.requires.within c.loop-place-test.true);
+            (Each-at (λ p. p < length c.args.messages.now) places n c.requires.within
+                c.loop-place-test.true);
         among = (n, slice_get-index places n c.loop-place-test.true ∙ ap Some (sym w.first-is));
-        least = subst (λ f. (i : ℕ) → i < n + 1 → is_listed_before ms (slice_index places i) f ≡ false)
+        least = subst (λ f. (i : ℕ) → i < n + 1
+            → is_listed_before ms (slice_index places i) f ≡ false)
             (sym w.first-is) (first_step ms places n c.loop-place.first c.loop-place-test.true
             (sym c.is_listed_before.ensures ∙ w.if-is_listed_before.true) inv.least);
       }
       | else-is_listed_before w ↦ record {
         within = subst (λ f. f < length c.args.messages.now) (sym w.first-is) inv.within;
         among = (inv.among.0, inv.among.1 ∙ ap Some (sym w.first-is));
-        least = subst (λ f. (i : ℕ) → i < n + 1 → is_listed_before ms (slice_index places i) f ≡ false)
+        least = subst (λ f. (i : ℕ) → i < n + 1
+            → is_listed_before ms (slice_index places i) f ≡ false)
             (sym w.first-is) (first_kept ms places n c.loop-place.first
             (sym c.is_listed_before.ensures ∙ w.if-is_listed_before.false) inv.least);
       }

@@ -1,4 +1,5 @@
-use Rattle.std.proofs.Common.{◌≡◌, ◌∙◌, ℕ, ◌<◌, Bool, true, false, not, Some, length, reverse, sym, subst, refl, ap, arith, inl, inr, ⊎_elim}
+use Rattle.std.proofs.Common.{◌≡◌, ◌∙◌, ℕ, ◌<◌, Bool, true, false, not, Some, length, reverse, sym}
+use Rattle.std.proofs.Common.{subst, refl, ap, arith, inl, inr, ⊎_elim}
 use Rattle.std.proofs.lemmas.Bool.{cases_Bool, false≢true}
 use Rattle.threads.specs.Links.{target}
 use Rattle.threads.specs.Walk.{IsWalk, KeepsSeen, LeadsTo, is_unseen, mark_at}
@@ -18,7 +19,8 @@ loop-next-preserved c =
     let place = c.in-Some.place in
     let inv = c.loop-next.invariant in
     let new : is_unseen (mark_at marks place) ≡ true =
-    true_from_not (is_unseen (mark_at marks place)) c.is_seen.result c.is_seen.ensures c.if-is_seen.false in
+    true_from_not (is_unseen (mark_at marks place)) c.is_seen.result c.is_seen.ensures
+        c.if-is_seen.false in
     let lt = inv.within place c.in-Some.is in
     let there = subst (λ n. place < n) (sym (c.loop-next.auto.marks ∙ c.requires.long)) lt in
     let leads : LeadsTo links (reverse way) (Some place) =
@@ -27,15 +29,18 @@ loop-next-preserved c =
     subst (KeepsSeen marks) (sym c.in_ok-next.ensures.marks) (seen-mark marks place _ there refl) in
     record {
       walk = λ is_before walk.
-          subst (λ m. IsWalk is_before links m c.enter.new.way.items) (sym c.in_ok-next.ensures.marks)
+          subst (λ m. IsWalk is_before links m c.enter.new.way.items)
+              (sym c.in_ok-next.ensures.marks)
           (subst (IsWalk is_before links _) (sym c.in_ok-next.ensures.way)
           (entered is_before links marks way place (inv.walk is_before walk) new there leads));
-      leads = subst (λ w. LeadsTo links (reverse w) c.in_ok-next.next) (sym c.in_ok-next.ensures.way)
+      leads = subst (λ w. LeadsTo links (reverse w) c.in_ok-next.next)
+          (sym c.in_ok-next.ensures.way)
           (subst (λ r. LeadsTo links r c.in_ok-next.next) (sym (reverse_push way place))
           (sym c.in_ok-next.ensures.next));
       within = λ p e. c.requires.inside place p (sym c.in_ok-next.ensures.next ∙ e);
       start = inr (⊎_elim
-          (λ is. subst (λ s. is_unseen (mark_at c.enter.new.marks s) ≡ false) (start_is place c.args.start
+          (λ is. subst (λ s. is_unseen (mark_at c.enter.new.marks s)
+              ≡ false) (start_is place c.args.start
           (sym c.in-Some.is ∙ is))
           (ap (λ m. is_unseen (mark_at m place)) c.in_ok-next.ensures.marks
           ∙ ap is_unseen (mark-same marks place _ there)))

@@ -13,14 +13,17 @@ pub invariant_of-self : goal.invariant_of-self
 invariant_of-self c = record {
   the_numbers = c.self.invariant.the_numbers;
   distinct = c.self.invariant.distinct;
-  worked_out = λ f e. subst (IsFound c.self.inside.options (plain_messages c.self.inside.messages.items))
+  worked_out = λ f e. subst (IsFound c.self.inside.options
+      (plain_messages c.self.inside.messages.items))
       (same_found c.in_ok-found.found f e)
-      (subst (λ l. IsFound c.self.inside.options (plain_messages l) c.in_ok-found.found) c.as_slice.ensures.value
+      (subst (λ l. IsFound c.self.inside.options
+          (plain_messages l) c.in_ok-found.found) c.as_slice.ensures.value
       c.in_ok-found.ensures.found);
 }
 
 pub returns-clause-forest : goal.returns-clause-forest
 returns-clause-forest c =
     subst (λ t. IsForest (parents t.options t.messages)) c.self.view_is
-    (subst (λ l. IsForest (parents c.self.inside.options (plain_messages l))) c.as_slice.ensures.value
+    (subst (λ l. IsForest (parents c.self.inside.options
+        (plain_messages l))) c.as_slice.ensures.value
     c.in_ok-found.ensures.forest)
