@@ -82,12 +82,7 @@ fn add(alloc: Global, threads: &mut Threads, entry: &Entry) -> Result<(), CaseFa
     Ok(())
 }
 
-fn tell(
-    alloc: Global,
-    case: &Case,
-    threads: &Threads,
-    answer: &mut Answer,
-) -> Result<(), CaseFault>
+fn tell(alloc: Global, case: &Case, threads: &Threads, answer: &mut Answer) -> Result<(), CaseFault>
     requires { threads.now.is_finished ≡ true }
 {
     for entry in case.entries.as_slice() {
@@ -98,12 +93,7 @@ fn tell(
     Ok(())
 }
 
-fn tell_one(
-    alloc: Global,
-    threads: &Threads,
-    id: Id,
-    answer: &mut Answer,
-) -> Result<(), CaseFault>
+fn tell_one(alloc: Global, threads: &Threads, id: Id, answer: &mut Answer) -> Result<(), CaseFault>
     requires { threads.now.is_finished ≡ true }
 {
     if !threads.holds(id) {

@@ -133,8 +133,11 @@ mark-ended root marks [] p e = inr (λ i. i, refl)
 mark-ended root marks (x ∷ xs) p e = ⊎_elim
     (λ a. inl (inr a.0, a.1))
     (λ b. ⊎_elim
-    (λ is. inl (inl (sym is), b.1 ∙ ap (mark_at (set marks x (Ended root))) is
-        ∙ mark-same marks x (Ended root) e.0))
+    (λ is. inl (
+      inl (sym is),
+      b.1 ∙ ap (mark_at (set marks x (Ended root))) is
+          ∙ mark-same marks x (Ended root) e.0,
+    ))
     (λ ne. inr (λ i. ⊎_elim (λ is. ne (sym is)) b.0 i, b.1 ∙ mark-other marks x p (Ended root) ne))
     (cases_eq p x))
     (mark-ended root (set marks x (Ended root)) xs p (within-set marks x (Ended root) xs e.1))
@@ -166,7 +169,7 @@ Off-set : (marks : List Mark) (n r x y : ℕ) → x < length marks → Off marks
     → Off (set marks x (Ended r)) n y
 Off-set marks n r x y lt off i low e = ⊎_elim
     (λ is. ended_not_on_way i r (sym e ∙ ap (mark_at (set marks x (Ended r))) is
-        ∙ mark-same marks x (Ended r) lt))
+    ∙ mark-same marks x (Ended r) lt))
     (λ ne. off i low (sym (mark-other marks x y (Ended r) ne) ∙ e))
     (cases_eq y x)
 
@@ -201,7 +204,7 @@ module _ (links : List (Option Step)) where
 
   pub way_ended : (root : ℕ) (marks : List Mark) (xs ws : List ℕ) → Each (λ x. x < length marks) xs
       → Each (Off marks (length ws)) xs → IsWay links marks ws
-          → IsWay links (all_ended root marks xs) ws
+      → IsWay links (all_ended root marks xs) ws
   way_ended root marks [] ws e off w = w
   way_ended root marks (x ∷ xs) ws e off w = way_ended root (set marks x (Ended root)) xs ws
       (within-set marks x (Ended root) xs e.1)
@@ -218,7 +221,7 @@ module _ (links : List (Option Step)) where
     Each-map (λ y. (q : ℕ) × (target links y ≡ Some q) × ((q ≡ x) ⊎ In q xs))
         (λ y. (q : ℕ) × (target links y ≡ Some q) × ((q ≡ z) ⊎ In q (x ∷ xs)))
         (λ y t. (t.0, t.1, inr (⊎_elim (λ e. inl (sym e)) (λ i. inr i) t.2))) xs
-            (follows_in x xs f.1),
+        (follows_in x xs f.1),
   )
 
 -- a cycle is left at its first place, which is the root of all its places
@@ -245,10 +248,10 @@ module _ (before : ℕ → ℕ → Bool) (count : ℕ) (order : IsOrder before c
   pub cycle_steps : (h : ℕ) (front back : List ℕ) → h < count
       → Follows links (last_or h back) (front ++ h ∷ back)
       → Each (λ x. before x h ≡ false) (front ++ h ∷ back)
-          → Each (λ x. x < count) (front ++ h ∷ back)
+      → Each (λ x. x < count) (front ++ h ∷ back)
       → length (front ++ h ∷ back) ≤ length links
       → Each (λ x. (e : ℕ) × (e < length (front ++ h ∷ back)) × Ends
-          (cut_target before links) e x h)
+      (cut_target before links) e x h)
       (front ++ h ∷ back)
   cycle_steps h front back lt f least within short =
       let least_parts = Each-append (λ x. before x h ≡ false) front (h ∷ back) least in
@@ -259,16 +262,16 @@ module _ (before : ℕ → ℕ → Bool) (count : ℕ) (order : IsOrder before c
       (behind_head h front lt least_parts.0 within_parts.0) in
       let size : length (front ++ h ∷ back) ≡ length (back ++ front) + 1 =
       length-append front (h ∷ back) ∙ (omega arith
-          ∙ ap (λ n. n + 1) (sym (length-append back front))) in
+      ∙ ap (λ n. n + 1) (sym (length-append back front))) in
       let round = turned h front back f in
       let parts = Follows-split links h (back ++ front) (h ∷ []) round in
       let head : heads_cycle before links h ≡ true =
       head_is before links order h (back ++ front) round behind (omega (arith, size, short)) in
       let P : ℕ → Type 0 = λ x. (e : ℕ) × (e < length (front ++ h ∷ back)) × Ends
-          (cut_target before links) e x h in
+      (cut_target before links) e x h in
       let all : Each P (back ++ front) =
       Each-map (λ x. (e : ℕ) × (e ≤ 0 + length (back ++ front)) × Ends
-          (cut_target before links) e x h) P
+      (cut_target before links) e x h) P
       (λ x s. (s.0, omega (arith, s.1, size), s.2)) (back ++ front)
       (cycle_ends before links order h head (back ++ front) 0 0 h parts.0 behind
       (starts before links order h) (refl, cut-head before links h head)) in
@@ -288,33 +291,33 @@ module _ (before : ℕ → ℕ → Bool) (count : ℕ) (order : IsOrder before c
       let whole : reverse way ≡ reverse cycle ++ reverse left =
       ap reverse (sym (take-append-drop number way)) ∙ reverse-append left cycle in
       let chained : IsWay links marks (reverse cycle ++ reverse left) = subst
-          (IsWay links marks) whole w.chained in
+      (IsWay links marks) whole w.chained in
       let leading : LeadsTo links (reverse cycle ++ reverse left) (Some place) =
       subst (λ l. LeadsTo links l (Some place)) whole leads in
       let follows : Follows links place (reverse cycle) = way_follows links marks
-          (reverse cycle) (reverse left) place chained leading in
+      (reverse cycle) (reverse left) place chained leading in
       let last : reverse cycle ≡ reverse begun.0 ++ place ∷ [] = ap reverse begun.1
-          ∙ reverse_cons place begun.0 in
+      ∙ reverse_cons place begun.0 in
       let within_both : Each (λ p. p < length marks) (reverse cycle) =
       (Each-append (λ p. p < length marks) (reverse cycle) (reverse left)
-          (way_within links marks _ chained)).0 in
+      (way_within links marks _ chained)).0 in
       let within : Each (λ x. x < count) (reverse cycle) =
       subst (λ n. Each (λ x. x < n) (reverse cycle)) (w.long ∙ count_is) within_both in
       let least : Each (λ x. before x root ≡ false) (reverse cycle) =
       Each-reverse (λ x. before x root ≡ false) cycle (Each-from (λ x. before x root
-          ≡ false) cycle closes.least) in
+      ≡ false) cycle closes.least) in
       let sizes : length cycle + length left ≡ length way =
       omega (arith, ap length (take-append-drop number way), length-append left cycle) in
       let size : length (reverse cycle) ≡ length cycle = length-reverse cycle in
       let short : length (reverse cycle) ≤ length links = omega (arith, sizes, size, w.fits) in
       let steps : Each (λ x. (e : ℕ) × (e < length (reverse cycle)) × Ends
-          (cut_target before links) e x root) (reverse cycle) =
+      (cut_target before links) e x root) (reverse cycle) =
       rounded marks place root cycle closes.among.0 closes.among.1 begun.0 last follows least
-          within short in
+      within short in
       let forth : Each (λ p. p < length marks) cycle =
       Each-told (λ p. p < length marks) cycle
       (λ p i. Each-in (λ p. p < length marks) (reverse cycle) p within_both
-          (In-reverse p cycle i)) in
+      (In-reverse p cycle i)) in
       let seen : Each (λ p. is_unseen (mark_at marks p) ≡ false) cycle =
       Each-told (λ p. is_unseen (mark_at marks p) ≡ false) cycle
       (λ p i. Each-in (λ p. is_unseen (mark_at marks p) ≡ false) (reverse cycle) p
@@ -328,7 +331,7 @@ module _ (before : ℕ → ℕ → Bool) (count : ℕ) (order : IsOrder before c
       let same_unseen : unseen after ≡ unseen marks = unseen-ended root marks cycle seen in
       let marked = λ (p : ℕ). mark-ended root marks cycle p forth in
       let ended_still : (q s : ℕ) → mark_at marks q ≡ Ended s
-          → (t : ℕ) × (mark_at after q ≡ Ended t) =
+      → (t : ℕ) × (mark_at after q ≡ Ended t) =
       λ q s e. ⊎_elim (λ a. (root, a.1)) (λ b. (s, b.1 ∙ e)) (marked q) in
       let to_cycle = follows_in links place (reverse cycle) follows in
       let place_in_cycle : In place cycle = subst (In place) (sym begun.1) (inl refl) in
@@ -340,16 +343,16 @@ module _ (before : ℕ → ℕ → Bool) (count : ℕ) (order : IsOrder before c
         only = λ p i e. ⊎_elim
             (λ a. absurd (ended_not_on_way i root (sym e ∙ a.1)))
             (λ b. ⊎_elim (λ t. t) (λ d. absurd (b.0 d)) (taken_or_dropped way number i p
-                (w.only p i (sym b.1 ∙ e))))
+            (w.only p i (sym b.1 ∙ e))))
             (marked p);
         ended = λ p r e. ⊎_elim
             (λ a.
             let which : root ≡ r = same_root root r (sym a.1 ∙ e) in
             let s = Each-in (λ x. (e : ℕ) × (e < length (reverse cycle)) × Ends
-                (cut_target before links) e x root)
+            (cut_target before links) e x root)
             (reverse cycle) p steps (In-reverse p cycle a.0) in
             let t = Each-in (λ x. (q : ℕ) × (target links x ≡ Some q) × ((q
-                ≡ place) ⊎ In q (reverse cycle)))
+            ≡ place) ⊎ In q (reverse cycle)))
             (reverse cycle) p to_cycle (In-reverse p cycle a.0) in
             record {
               steps = s.0;
@@ -359,7 +362,7 @@ module _ (before : ℕ → ℕ → Bool) (count : ℕ) (order : IsOrder before c
                   let is : t.0 ≡ q = same_place_of t.0 q (sym t.1 ∙ u) in
                   let inside : In q cycle = subst (λ y. In y cycle) is
                   (⊎_elim (λ h. subst (λ y. In y cycle) (sym h) place_in_cycle)
-                      (back_in t.0) t.2) in
+                  (back_in t.0) t.2) in
                   ⊎_elim (λ m. (root, m.1)) (λ m. absurd (m.0 inside)) (marked q);
             })
             (λ b.
@@ -375,7 +378,7 @@ module _ (before : ℕ → ℕ → Bool) (count : ℕ) (order : IsOrder before c
       } in
       let can_end : CanEnd links after (reverse left) root =
       next_end after root place (⊎_elim (λ m. m.1) (λ m. absurd (m.0 place_in_cycle))
-          (marked place)) (reverse left)
+      (marked place)) (reverse left)
       (last_leads marks (reverse begun.0) place (reverse left)
       (subst (λ l. IsWay links marks (l ++ reverse left)) last chained)) in
       subst (λ m. IsClosed before links m new.way root) (sym closes.marks)
@@ -408,7 +411,7 @@ module _ (before : ℕ → ℕ → Bool) (count : ℕ) (order : IsOrder before c
           → Follows links place (reverse cycle) → Each (λ x. before x root ≡ false) (reverse cycle)
           → Each (λ x. x < count) (reverse cycle) → length (reverse cycle) ≤ length links
           → Each (λ x. (e : ℕ) × (e < length (reverse cycle)) × Ends
-              (cut_target before links) e x root) (reverse cycle)
+          (cut_target before links) e x root) (reverse cycle)
       rounded marks place root cycle i among rest last follows least within short =
           let r = split_round cycle i root among in
           let front : List ℕ = reverse r.1 in
@@ -422,14 +425,14 @@ module _ (before : ℕ → ℕ → Bool) (count : ℕ) (order : IsOrder before c
           ∙ last_or-append place front root back in
           let lt : root < count =
           (Each-append (λ x. x < count) front (root ∷ back) (subst (Each
-              (λ x. x < count)) is within)).1.0 in
+          (λ x. x < count)) is within)).1.0 in
           subst (λ l. Each (λ x. (e : ℕ) × (e < length l) × Ends
-              (cut_target before links) e x root) l) (sym is)
+          (cut_target before links) e x root) l) (sym is)
           (cycle_steps root front back lt
           (subst (λ z. Follows links z (front ++ root ∷ back)) ends_at (subst
-              (Follows links place) is follows))
+          (Follows links place) is follows))
           (subst (Each (λ x. before x root
-              ≡ false)) is least) (subst (Each (λ x. x < count)) is within)
+          ≡ false)) is least) (subst (Each (λ x. x < count)) is within)
           (subst (λ l. length l ≤ length links) is short))
 
 pub drop_within : (P : ℕ → Type 0) (n : ℕ) (xs : List ℕ) → Each P xs → Each P (drop n xs)
@@ -443,5 +446,5 @@ pub walk_within : (before : ℕ → ℕ
     → IsWalk before links marks way → Each (λ p. p < length marks) way
 walk_within before links marks way w = Each-told (λ p. p < length marks) way
     (λ p i. Each-in (λ p. p < length marks) (reverse way) p (way_within links marks
-        (reverse way) w.chained)
+    (reverse way) w.chained)
     (In-reverse p way i))

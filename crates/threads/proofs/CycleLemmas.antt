@@ -94,7 +94,7 @@ module _ (before : ℕ → ℕ → Bool) (links : List (Option Step)) where
     stays_by n more None s = refl
     stays_by n more (Some q) s =
         let apart : (q == w) ≡ false = false_from_ne_true (q == w) (λ e. out (subst S
-            (is_place q w e) (s q refl))) in
+        (is_place q w e) (s q refl))) in
         let never : comes_to before links w n q ≡ false = more q (s q refl) in
         ap (λ b. b || (before w q && comes_to before links w n q)) apart
         ∙ ap (λ b. before w q && b) never
@@ -140,14 +140,14 @@ module _ (before : ℕ → ℕ → Bool) (links : List (Option Step)) where
     -- no cycle has two heads
     one_head_by : (m q k' : ℕ) → before m q ≡ true → comes_to before links q k' q ≡ true
         → (n k : ℕ) → ((j p : ℕ) → comes_to before links m n p ≡ true
-            → comes_to before links q j p ≡ true → ⊥)
+        → comes_to before links q j p ≡ true → ⊥)
         → (t : Option ℕ) → meets before (comes_to before links m n) m t ≡ true
         → meets before (comes_to before links q k) q t ≡ true → ⊥
     one_head_by m q k' lt own n k more None a b = false≢true a
     one_head_by m q k' lt own n k more (Some x) a b = ⊎_elim
         (λ at_m. ⊎_elim
         (λ at_q. irreflexive m (subst (λ y. before m y ≡ true) (sym (is_place x q at_q)
-            ∙ is_place x m at_m) lt))
+        ∙ is_place x m at_m) lt))
         (λ off_q.
         let rest : before q x && comes_to before links q k x ≡ true =
         sym (ap (λ b. b || (before q x && comes_to before links q k x)) off_q) ∙ b in
@@ -229,13 +229,13 @@ module _ (before : ℕ → ℕ → Bool) (links : List (Option Step)) where
               p,
               cut-other x (false_from_ne_true (heads x)
                   (λ other. one_head h x (length links) lt other (suc n)
-                      (length links) x come other))
+                  (length links) x come other))
                   ∙ f.0,
               ends,
             ),
           )) e.0 in
           let rest = cycle_ends first xs (suc n) own.0 x f.1 e.1 (meets_next
-              (suc n) x e.0 come) own.2 in (
+          (suc n) x e.0 come) own.2 in (
             (own.0, omega (arith, own.1), own.2),
             Each-map (λ y. (k : ℕ) × (k ≤ own.0 + length xs) × Ends cut k y h)
                 (λ y. (k : ℕ) × (k ≤ d + length (x ∷ xs)) × Ends cut k y h)

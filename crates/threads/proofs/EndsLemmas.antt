@@ -17,7 +17,7 @@ nothing_seen : (n p : ℕ) → mark_at (replicate n Unseen) p ≡ Unseen
 nothing_seen n p = ⊎_elim
     (λ lt. get_or-replicate n p Unseen Unseen lt)
     (λ past. get_or_past (replicate n Unseen) p Unseen (subst (λ m. m ≤ p) (sym
-        (length-replicate n Unseen)) past))
+    (length-replicate n Unseen)) past))
     (cases_lt p n)
 
 pub none_followed : (before : ℕ → ℕ → Bool) (links : List (Option Step)) (n : ℕ) → length links ≡ n
@@ -28,8 +28,12 @@ none_followed before links n size = record {
     chained = tt;
     only = λ p i e. cc (nothing_seen n p);
     ended = λ p r e. absurd (not_ended r (sym (nothing_seen n p) ∙ e));
-    fits = omega (arith, count_by-le-length is_unseen
-        (replicate n Unseen), length-replicate n Unseen);
+    fits = omega (
+      arith,
+      count_by-le-length is_unseen
+          (replicate n Unseen),
+      length-replicate n Unseen,
+    );
   };
   seen = λ p lt. absurd (omega arith);
 }
@@ -48,12 +52,15 @@ all_end before links marks done = record {
   long = length-map marks root_in ∙ done.walk.long;
   each = λ p lt.
       let e = ended_from (mark_at marks p) (done.seen p lt) (λ i e. no_way p
-          (done.walk.only p i e)) in
+      (done.walk.only p i e)) in
       let own = done.walk.ended p (root_in (mark_at marks p)) e in
       let there : slice_index (map root_in marks) p ≡ root_in (mark_at marks p) =
-      get_or-map root_in marks p Unseen 0 (omega (arith, done.walk.long)) in
-      (own.steps, omega (arith, own.few), subst (Ends (cut_target before links) own.steps p)
-          (sym there) own.ends);
+      get_or-map root_in marks p Unseen 0 (omega (arith, done.walk.long)) in (
+        own.steps,
+        omega (arith, own.few),
+        subst (Ends (cut_target before links) own.steps p)
+            (sym there) own.ends,
+      );
 }
   where
     no_way : (p : ℕ) → None ≡ Some p → ⊥

@@ -73,8 +73,12 @@ first_below_by : (is_before : ℕ → ℕ → Bool) (n f : ℕ) (o : Option ℕ)
 first_below_by is_before n f None more e = omega (arith, same_place n f e)
 first_below_by is_before n f (Some g) more e = ⊎_elim
     (λ early. omega (arith, same_place n f (sym (ap (λ b. Some (if b then n else g)) early) ∙ e)))
-    (λ late. omega (arith, same_place g f (sym (ap (λ b. Some (if b then n else g)) late)
-        ∙ e), more g refl))
+    (λ late. omega (
+      arith,
+      same_place g f (sym (ap (λ b. Some (if b then n else g)) late)
+          ∙ e),
+      more g refl,
+    ))
     (cases_Bool (is_before n g))
 
 -- the first of places stands below their number
@@ -83,7 +87,7 @@ pub first_below : (is_before : ℕ → ℕ → Bool) (passes : ℕ → Bool) (n 
 first_below is_before passes zero f e = cc
 first_below is_before passes (suc n) f e = ⊎_elim
     (λ pass. first_below_by is_before n f (first_of is_before passes n)
-        (first_below is_before passes n)
+    (first_below is_before passes n)
     (sym (ap (λ b. if b then earlier is_before (first_of is_before passes n) n
     else first_of is_before passes n) pass) ∙ e))
     (λ fail. omega (
@@ -104,5 +108,5 @@ at_place messages m place lt e =
 pub first_more : (is_before : ℕ → ℕ → Bool) (passes : ℕ → Bool) (n : ℕ)
     → first_of is_before passes (n + 1)
     ≡ (if passes n then earlier is_before
-        (first_of is_before passes n) n else first_of is_before passes n)
+    (first_of is_before passes n) n else first_of is_before passes n)
 first_more is_before passes n = rw add-one

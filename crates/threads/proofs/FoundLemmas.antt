@@ -81,7 +81,7 @@ step_below n link (Some x) b = b
 
 or_step_below : (n : ℕ) (a b : Option Step) → Below n (option_map (λ (s : Step). s.place) a)
     → Below n (option_map (λ (s : Step). s.place) b)
-        → Below n (option_map (λ (s : Step). s.place) (option_or a b))
+    → Below n (option_map (λ (s : Step). s.place) (option_or a b))
 or_step_below n None b x y = y
 or_step_below n (Some a) b x y = x
 
@@ -104,7 +104,7 @@ link_below options ms p =
     let m = at ms p in
     or_step_below n _ _
     (if_below n options.duplicates (option_map (step Link.Duplicate) (duplicated
-        (holder ms) p m.message_id))
+    (holder ms) p m.message_id))
     (step_below n Link.Duplicate (duplicated (holder ms) p m.message_id)
     (duplicated_below n p (holder ms) find m.message_id)))
     (step_below n Link.Reference (referred (holder ms) p m.candidates)
@@ -169,7 +169,7 @@ module _ (before : ℕ → ℕ → Bool) (links : List (Option Step)) (roots : L
     (ends : AreEnds before links roots) where
   cut_same : (p : ℕ) → p < length links
       → (if slice_index roots p == p then None else slice_index_or links p None)
-          ≡ cut_link before links p
+      ≡ cut_link before links p
   cut_same p lt =
       let own = ends.each p lt in
       ⊎_elim
@@ -198,19 +198,19 @@ module _ (before : ℕ → ℕ → Bool) (links : List (Option Step)) (roots : L
       (without_cycles before links) (length links) None
       (length-map-range_with_len (cut_link before links) 0 (length links))
       (λ k lt. get_or-map-range_with_len (cut_link before links) 0 (length links) k k None lt
-          (omega arith)
+      (omega arith)
       ∙ sym (cut_same k lt)))
 
 -- what passes is found
 first_passes_by : (is_before : ℕ → ℕ → Bool) (passes : ℕ → Bool) (n f : ℕ) (o : Option ℕ)
     → ((g : ℕ) → o ≡ Some g → passes g ≡ true) → passes n ≡ true
-        → earlier is_before o n ≡ Some f → passes f ≡ true
+    → earlier is_before o n ≡ Some f → passes f ≡ true
 first_passes_by is_before passes n f None more pass e = ap passes (sym (same_place n f e)) ∙ pass
 first_passes_by is_before passes n f (Some g) more pass e = ⊎_elim
     (λ early. ap passes (sym (same_place n f (sym (ap (λ b. Some (if b then n else g)) early)
-        ∙ e))) ∙ pass)
+    ∙ e))) ∙ pass)
     (λ late. ap passes (sym (same_place g f (sym (ap (λ b. Some (if b then n else g)) late)
-        ∙ e))) ∙ more g refl)
+    ∙ e))) ∙ more g refl)
     (cases_Bool (is_before n g))
 
 pub first_passes : (is_before : ℕ → ℕ → Bool) (passes : ℕ → Bool) (n f : ℕ)
@@ -218,7 +218,7 @@ pub first_passes : (is_before : ℕ → ℕ → Bool) (passes : ℕ → Bool) (n
 first_passes is_before passes zero f e = cc
 first_passes is_before passes (suc n) f e = ⊎_elim
     (λ pass. first_passes_by is_before passes n f (first_of is_before passes n)
-        (first_passes is_before passes n) pass
+    (first_passes is_before passes n) pass
     (sym (ap (λ b. if b then earlier is_before (first_of is_before passes n) n
     else first_of is_before passes n) pass) ∙ e))
     (λ fail. first_passes is_before passes n f
@@ -250,27 +250,27 @@ not_other place = ap (λ t. if t then None else Some place) (same_itself place)
 
 followed_none : (find : List ℕ → Option ℕ) (options : ThreadOptions) (m : PlainMessage) (p : ℕ)
     → find m.base_subject ≡ Some p
-        → option_map (λ (s : Step). s.place) (followed find options m p) ≡ None
+    → option_map (λ (s : Step). s.place) (followed find options m p) ≡ None
 followed_none find options m p e = by (may_follow options m) (other_than p
     (find m.base_subject)) (ap (other_than p) e ∙ not_other p)
   where
     by : (b : Bool) (o : Option ℕ) → o ≡ None
         → option_map (λ (s : Step). s.place) (if b then option_map
-            (step Link.Subject) o else None) ≡ None
+        (step Link.Subject) o else None) ≡ None
     by true None e = refl
     by true (Some x) e = cc
     by false o e = refl
 
 followed_is : (find : List ℕ → Option ℕ) (options : ThreadOptions) (m : PlainMessage) (p q : ℕ)
     → option_map (λ (s : Step). s.place) (followed find options m p) ≡ Some q
-        → find m.base_subject ≡ Some q
+    → find m.base_subject ≡ Some q
 followed_is find options m p q e =
     other_is p (find m.base_subject) q (by (may_follow options m) (other_than p
-        (find m.base_subject)) e)
+    (find m.base_subject)) e)
   where
     by : (b : Bool) (o : Option ℕ)
         → option_map (λ (s : Step). s.place) (if b then option_map
-            (step Link.Subject) o else None) ≡ Some q → o ≡ Some q
+        (step Link.Subject) o else None) ≡ Some q → o ≡ Some q
     by true None e = e
     by true (Some x) e = e
     by false o e = absurd (none_some q e)
@@ -290,7 +290,7 @@ module _ (options : ThreadOptions) (ms : List PlainMessage) (refs : List (Option
     (long : length refs ≡ length ms) where
   parent_at : (p : ℕ) → p < length ms
       → target (with_subjects options ms refs) p
-          ≡ option_map (λ s. s.place) (parent_of options ms refs p)
+      ≡ option_map (λ s. s.place) (parent_of options ms refs p)
   parent_at p lt = target_at (parent_of options ms refs) (length ms) p lt
 
   linked_below : (p q : ℕ) → target refs p ≡ Some q → p < length ms
@@ -306,7 +306,7 @@ module _ (options : ThreadOptions) (ms : List PlainMessage) (refs : List (Option
   -- a root by the ids of headers has the first of its subject as its parent, which has none
   pub subject_end : (r : ℕ) → r < length ms → target refs r ≡ None
       → (e : ℕ) × (e ≤ 1) × Ends (target (with_subjects options ms refs)) e r (root_above
-          (with_subjects options ms refs) r)
+      (with_subjects options ms refs) r)
   subject_end r lt none = by (target (with_subjects options ms refs) r) refl
     where
       own : (p : ℕ) → p < length ms → target refs p ≡ None
@@ -317,7 +317,7 @@ module _ (options : ThreadOptions) (ms : List PlainMessage) (refs : List (Option
 
       by : (t : Option ℕ) → target (with_subjects options ms refs) r ≡ t
           → (e : ℕ) × (e ≤ 1) × Ends (target (with_subjects options ms refs)) e r (onward
-              (λ next. next) r t)
+          (λ next. next) r t)
       by None is = (0, omega arith, (refl, is))
       by (Some f) is =
           let found : first_with ms refs (at ms r).base_subject ≡ Some f =
@@ -325,11 +325,11 @@ module _ (options : ThreadOptions) (ms : List PlainMessage) (refs : List (Option
           let within : f < length ms = first_below (is_sent_before ms)
           (begins_subject ms refs (at ms r).base_subject) (length ms) f found in
           let passes = first_passes (is_sent_before ms) (begins_subject ms refs
-              (at ms r).base_subject) (length ms) f found in
+          (at ms r).base_subject) (length ms) f found in
           let free : target refs f ≡ None = ap (option_map (λ (s : Step). s.place))
           (none_from (slice_index_or refs f None) (and_left _ _ passes)) in
           let same : (at ms r).base_subject
-              ≡ (at ms f).base_subject = bytes_same _ _ (and_right _ _ passes) in
+          ≡ (at ms f).base_subject = bytes_same _ _ (and_right _ _ passes) in
           let last : target (with_subjects options ms refs) f ≡ None =
           own f within free ∙ followed_none (first_with ms refs) options (at ms f) f
           (ap (first_with ms refs) (sym same) ∙ found) in
@@ -377,12 +377,12 @@ module _ (options : ThreadOptions) (ms : List PlainMessage) (roots : List ℕ)
       Ends-below (cut_target before ls) (length ms)
       (λ x. subst (λ n. Below n (cut_target before ls x)) (length-links options ms)
       (cut_below before ls (subst (λ n. LeadsBelow n ls) (sym (length-links options ms))
-          (links_below options ms)) x))
+      (links_below options ms)) x))
       own.0 p (slice_index roots p) lt own.2
 
   pub chain : (p : ℕ) → p < length ms → (d : ℕ) × (d ≤ length ms)
       × Ends (target (parents options ms)) d p (root_above (parents options ms)
-          (slice_index roots p))
+      (slice_index roots p))
   chain p lt =
       let before = is_listed_before ms in
       let ls = links options ms in
@@ -392,7 +392,7 @@ module _ (options : ThreadOptions) (ms : List PlainMessage) (roots : List ℕ)
       let within : r < length ms = roots_below p lt in
       let none : target refs r ≡ None =
       target_at (cut_link before ls) (length ls) r (subst (λ n. r < n) (sym
-          (length-links options ms)) within)
+      (length-links options ms)) within)
       ∙ Ends-none (cut_target before ls) own.0 p r own.2 in
       let last = subject_end options ms refs refs_long r within none in
       let few : own.0 < length ms = subst (λ n. own.0 < n) (length-links options ms) own.1 in (
@@ -422,7 +422,7 @@ module _ (options : ThreadOptions) (ms : List PlainMessage) (roots : List ℕ)
       let c = chain k lt in
       let le : c.0 ≤ length (parents options ms) = subst (λ n. c.0 ≤ n) (sym parents_long) c.1 in
       get_or-map (root_above (parents options ms)) roots k 0 0 (subst (λ n. k < n)
-          (sym roots_long) lt)
+      (sym roots_long) lt)
       ∙ sym (end_is (parents options ms) c.0 (length (parents options ms)) k _ le c.2))
 
 -- parents and roots are messages
@@ -444,7 +444,7 @@ parents_below options ms =
     (step_below (length ms) Link.Subject (other_than p (first_with ms refs (at ms p).base_subject))
     (other_below (length ms) p (first_with ms refs (at ms p).base_subject)
     (λ q e. first_below (is_sent_before ms) (begins_subject ms refs (at ms p).base_subject)
-        (length ms) q e)))))
+    (length ms) q e)))))
 
 onward_below : (n : ℕ) (more : ℕ → ℕ) (p : ℕ) (t : Option ℕ) → p < n → ((q : ℕ) → t ≡ Some q
     → more q < n)
@@ -457,7 +457,7 @@ end_below : (links : List (Option Step)) (n : ℕ) → LeadsBelow n links → (k
 end_below links n b zero p lt = lt
 end_below links n b (suc k) p lt =
     onward_below n (end_from links k) p (target links p) lt (λ q e. end_below links n b k q
-        (b p q e))
+    (b p q e))
 
 pub all_roots_below : (options : ThreadOptions) (ms : List PlainMessage)
     → AreWithin (map (root_of (parents options ms)) (range_with_len 0 (length ms))) (length ms)
@@ -466,9 +466,9 @@ all_roots_below options ms i lt =
     (length-map-range_with_len (root_of (parents options ms)) 0 (length ms)) lt in
     subst (λ r. r < length ms)
     (sym (get_or-map-range_with_len (root_of (parents options ms)) 0 (length ms) i i 0 within
-        (omega arith)))
+    (omega arith)))
     (end_below (parents options ms) (length ms) (parents_below options ms) (length
-        (parents options ms)) i within)
+    (parents options ms)) i within)
 
 pub all_roots_long : (options : ThreadOptions) (ms : List PlainMessage)
     → length (map (root_of (parents options ms)) (range_with_len 0 (length ms))) ≡ length ms
@@ -481,7 +481,7 @@ all_parents_long options ms =
 
 pub root_there : (options : ThreadOptions) (ms : List PlainMessage) (p : ℕ) → p < length ms
     → slice_index (map (root_of (parents options ms)) (range_with_len 0 (length ms))) p
-        ≡ root_of (parents options ms) p
+    ≡ root_of (parents options ms) p
 root_there options ms p lt =
     get_or-map-range_with_len (root_of (parents options ms)) 0 (length ms) p p 0 lt (omega arith)
 
@@ -511,8 +511,8 @@ pub absent_number : (xs : List ℕ) (k : ℕ) → position (nat_eq k) xs ≡ Non
 absent_number [] k e = refl
 absent_number (x ∷ xs) k e = ⊎_elim
     (λ same. absurd (none_some 0 (sym e
-        ∙ ap (first_or (position_or_len (nat_eq k) xs) (length xs)) same ∙ zero_first (length xs))))
+    ∙ ap (first_or (position_or_len (nat_eq k) xs) (length xs)) same ∙ zero_first (length xs))))
     (λ ne. ap (λ b. b || list_any (nat_eq k) xs) ne
     ∙ absent_number xs k (next_none (position_or_len (nat_eq k) xs) (length xs) (sym (ap
-        (first_or (position_or_len (nat_eq k) xs) (length xs)) ne) ∙ e)))
+    (first_or (position_or_len (nat_eq k) xs) (length xs)) ne) ∙ e)))
     (cases_Bool (nat_eq k x))

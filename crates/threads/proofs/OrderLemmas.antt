@@ -63,7 +63,7 @@ apart : (messages : List PlainMessage) → IsDistinct nat_eq (numbers messages) 
     → b < length messages → (at messages a).id.0 ≡ (at messages b).id.0 → ⊥
 apart messages distinct a b lt within e =
     let there : b < length (numbers messages) = subst (λ n. b < n) (sym (length-map messages
-        (λ m. m.id.0))) within in
+    (λ m. m.id.0))) within in
     let differ = apart_from_distinct nat_eq (numbers messages) a b 0 distinct lt there in
     let one = get_or-map (λ (m : PlainMessage). m.id.0) messages a no_message 0 (omega arith) in
     let other = get_or-map (λ (m : PlainMessage). m.id.0) messages b no_message 0 within in
@@ -88,19 +88,19 @@ pub not_before : (messages : List PlainMessage) (x first next : ℕ)
     → is_listed_before messages x next ≡ false
 not_before messages x first next late early = false_from_ne_true (is_listed_before messages x next)
     (λ e. false≢true (sym late ∙ chain_before listing_total (at messages x) (at messages next)
-        (at messages first) e early))
+    (at messages first) e early))
 
 -- the step of a search for the first
 pub first_step : (messages : List PlainMessage) (places : List ℕ) (n first : ℕ) → n < length places
     → is_listed_before messages (slice_index places n) first ≡ true
     → ((i : ℕ) → i < n → is_listed_before messages (slice_index places i) first ≡ false)
     → (i : ℕ) → i < n + 1 → is_listed_before messages (slice_index places i)
-        (slice_index places n) ≡ false
+    (slice_index places n) ≡ false
 first_step messages places n first within early before i lt = ⊎_elim
     (λ low. not_before messages (slice_index places i) first (slice_index places n)
-        (before i low) early)
+    (before i low) early)
     (λ high. ap (λ k. is_listed_before messages (slice_index places k) (slice_index places n))
-        (omega arith)
+    (omega arith)
     ∙ never_before listing_total (at messages (slice_index places n)))
     (cases_lt i n)
 

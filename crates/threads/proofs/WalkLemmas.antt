@@ -61,7 +61,7 @@ pub IsWay-set : (links : List (Option Step)) (marks : List Mark) (p : ℕ) (m : 
 IsWay-set links marks p m [] w off = tt
 IsWay-set links marks p m (x ∷ ws) w off =
     let ne : (x ≡ p → ⊥) = λ e. off (length ws) (omega arith) (ap (mark_at marks) (sym e)
-        ∙ w.0) in (
+    ∙ w.0) in (
       mark-other marks p x m ne ∙ w.0,
       w.1,
       IsWay-set links marks p m ws w.2 (λ i lt e. off i (omega arith) e),
@@ -72,7 +72,7 @@ pub unseen-mark : (marks : List Mark) (p : ℕ) (m : Mark) → p < length marks 
     → unseen (set marks p m) + cond (is_unseen (mark_at marks p)) 1 0 ≡ unseen marks
 unseen-mark marks p m lt seen =
     let e : unseen (set marks p m) + cond (is_unseen (mark_at marks p)) 1 0
-        ≡ unseen marks + cond (is_unseen m) 1 0 =
+    ≡ unseen marks + cond (is_unseen m) 1 0 =
     sum_by-set (λ x. cond (is_unseen x) 1 0) marks p m Unseen lt in
     e ∙ (ap (λ b. unseen marks + cond b 1 0) seen ∙ omega arith)
 
@@ -110,18 +110,18 @@ module _ (before : ℕ → ℕ → Bool) (links : List (Option Step)) where
         long = length-set marks place (OnWay (length way)) ∙ w.long;
         chained = subst (IsWay links (set marks place (OnWay (length way)))) (sym
             (reverse_push way place)) (
-          mark-same marks place (OnWay (length way)) lt ∙ ap OnWay (sym (length-reverse way)),
-          leads,
-          IsWay-set links marks place (OnWay (length way)) (reverse way) w.chained
-              (λ i h e. absurd (false≢true (sym (on_way_seen _ i e) ∙ new))),
-        );
+              mark-same marks place (OnWay (length way)) lt ∙ ap OnWay (sym (length-reverse way)),
+              leads,
+              IsWay-set links marks place (OnWay (length way)) (reverse way) w.chained
+                  (λ i h e. absurd (false≢true (sym (on_way_seen _ i e) ∙ new))),
+            );
         only = λ p i e. ⊎_elim
             (λ is.
             let number : length way ≡ i = same_number (length way) i
             (sym (mark-same marks place (OnWay (length way)) lt)
             ∙ ap (mark_at (set marks place (OnWay (length way)))) (sym is) ∙ e) in
             ap (slice_get (way ++ place ∷ [])) (sym number) ∙ slice_get-end way place
-                ∙ ap Some (sym is))
+            ∙ ap Some (sym is))
             (λ ne. slice_get-push way place i p (w.only p i
             (sym (mark-other marks place p (OnWay (length way)) ne) ∙ e)))
             (cases_eq p place);
@@ -140,7 +140,7 @@ module _ (before : ℕ → ℕ → Bool) (links : List (Option Step)) where
                     s.0,
                     mark-other marks place q (OnWay (length way)) (λ is. false≢true
                         (sym (ended_seen _ s.0 s.1) ∙ ap (λ x. is_unseen (mark_at marks x)) is
-                            ∙ new)) ∙ s.1,
+                        ∙ new)) ∙ s.1,
                   );
             })
             (cases_eq p place);
@@ -166,11 +166,11 @@ module _ (before : ℕ → ℕ → Bool) (links : List (Option Step)) where
       let S : ℕ → Type 0 = λ p. (s : ℕ) × (mark_at marks p ≡ Ended s) in
       let out : (S place → ⊥) = λ s. ended_not_on_way _ s.0 (sym chained.0 ∙ s.1) in
       let whole : (p q : ℕ) → S p → target links p ≡ Some q
-          → S q = λ p q s t. (w.ended p s.0 s.1).closed q t in
+      → S q = λ p q s t. (w.ended p s.0 s.1).closed q t in
       let own = settled_end marks way place root w count longer ending
       (λ leads. heads_none before links S whole place out leads) in
       let kept : (q r : ℕ) → mark_at marks q ≡ Ended r
-          → mark_at (set marks place (Ended root)) q ≡ Ended r =
+      → mark_at (set marks place (Ended root)) q ≡ Ended r =
       λ q r e. mark-other marks place q (Ended root) (λ is. ended_not_on_way _ r
       (sym chained.0 ∙ ap (mark_at marks) (sym is) ∙ e)) ∙ e in
       record {
@@ -180,11 +180,11 @@ module _ (before : ℕ → ℕ → Bool) (links : List (Option Step)) where
               (λ i h e. absurd (omega (arith, same_number _ i (sym chained.0 ∙ e))));
           only = λ p i e. ⊎_elim
               (λ is. absurd (ended_not_on_way i root (sym e
-                  ∙ ap (mark_at (set marks place (Ended root))) is
+              ∙ ap (mark_at (set marks place (Ended root))) is
               ∙ mark-same marks place (Ended root) lt)))
               (λ ne. ⊎_elim (λ left. left) (λ last. absurd (ne (sym last)))
               (slice_get-before way place i p (w.only p i (sym (mark-other marks place p
-                  (Ended root) ne) ∙ e))))
+              (Ended root) ne) ∙ e))))
               (cases_eq p place);
           ended = λ p r e. ⊎_elim
               (λ is.
@@ -220,7 +220,7 @@ module _ (before : ℕ → ℕ → Bool) (links : List (Option Step)) where
       next_end marks place root lt [] l = tt
       next_end marks place root lt (q ∷ ws) l =
           subst (EndsAt (set marks place (Ended root)) root q) (sym l) (mark-same marks place
-              (Ended root) lt)
+          (Ended root) lt)
 
       settled_end : (marks : List Mark) (way : List ℕ) (place root : ℕ)
           → IsWalk before links marks (way ++ place ∷ [])
@@ -240,15 +240,25 @@ module _ (before : ℕ → ℕ → Bool) (links : List (Option Step)) where
               × ((q : ℕ) → target links place ≡ Some q → (s : ℕ) × (mark_at marks q ≡ Ended s))
           by None is e =
               let leads : (q : ℕ) → target links place ≡ Some q
-                  → (s : ℕ) × (mark_at marks q ≡ Ended s) =
-              λ q t. cc (is, t) in
-              (0, omega (arith, w.fits, count, longer), (e, cut-other before links place
-                  (none leads) ∙ is), leads)
+              → (s : ℕ) × (mark_at marks q ≡ Ended s) =
+              λ q t. cc (is, t) in (
+                0,
+                omega (arith, w.fits, count, longer),
+                (
+                  e,
+                  cut-other before links place
+                      (none leads) ∙ is,
+                ),
+                leads,
+              )
           by (Some q) is e =
               let leads : (x : ℕ) → target links place ≡ Some x
-                  → (s : ℕ) × (mark_at marks x ≡ Ended s) =
-              λ x t. (root, subst (λ y. mark_at marks y ≡ Ended root) (same_target q x (sym is
-                  ∙ t)) e) in
+              → (s : ℕ) × (mark_at marks x ≡ Ended s) =
+              λ x t. (
+                root,
+                subst (λ y. mark_at marks y ≡ Ended root) (same_target q x (sym is
+                    ∙ t)) e,
+              ) in
               let old = w.ended q root e in (
                 suc old.steps,
                 omega (arith, old.few, count, longer),
@@ -264,7 +274,7 @@ pub seen-mark : (marks : List Mark) (p : ℕ) (m : Mark) → p < length marks �
     → KeepsSeen marks (set marks p m)
 seen-mark marks p m lt seen q s = ⊎_elim
     (λ is. ap (λ x. is_unseen (mark_at (set marks p m) x)) is
-        ∙ ap is_unseen (mark-same marks p m lt) ∙ seen)
+    ∙ ap is_unseen (mark-same marks p m lt) ∙ seen)
     (λ ne. ap is_unseen (mark-other marks p q m ne) ∙ s)
     (cases_eq q p)
 

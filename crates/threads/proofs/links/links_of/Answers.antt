@@ -18,10 +18,10 @@ loop-place-preserved c =
     ∙ ap (λ s. map (link_of c.args.options ms) (range_with_len 0 place) ++ s ∷ [])
     (c.link_of.ensures
     ∙ ap (λ f. link_by f c.args.options
-        (plain_message c.index-messages-place.result) place) c.in_ok-holders.ensures
+    (plain_message c.index-messages-place.result) place) c.in_ok-holders.ensures
     ∙ ap (λ m. link_by (holder ms) c.args.options m place)
     (sym (at_place messages c.index-messages-place.result place c.loop-place-test.true
-        c.index-messages-place.is)))
+    c.index-messages-place.is)))
     ∙ sym (map-range_with_len_more (link_of c.args.options ms) 0 place place (omega arith))
 
 pub returns : goal.returns

@@ -19,10 +19,10 @@ loop-place-preserved c =
     ∙ ap (λ s. map (parent_of c.args.options ms parents) (range_with_len 0 place) ++ s ∷ [])
     (c.parent_of.ensures
     ∙ ap (λ f. option_or own (followed f c.args.options
-        (plain_message c.index-messages-place.result) place))
+    (plain_message c.index-messages-place.result) place))
     c.in_ok-firsts.ensures
     ∙ ap (λ m. option_or own (followed (first_with ms parents) c.args.options m place))
     (sym (at_place messages c.index-messages-place.result place c.loop-place-test.true
-        c.index-messages-place.is)))
+    c.index-messages-place.is)))
     ∙ sym (map-range_with_len_more (parent_of c.args.options ms parents) 0 place place
-        (omega arith))
+    (omega arith))

@@ -7,4 +7,4 @@ use Rattle.threads.proofs.subjects.with_subjects.Given as goal
 abbrev pub invariant-loop-place : goal.invariant-loop-place
 invariant-loop-place l =
     l.all.items ≡ map (parent_of l.options (plain_messages l.messages) l.parents)
-        (range_with_len 0 l.place)
+    (range_with_len 0 l.place)

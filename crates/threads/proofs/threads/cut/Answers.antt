@@ -9,7 +9,7 @@ pub loop-place-preserved : goal.loop-place-preserved
 loop-place-preserved c =
     let place = c.loop-place.place in
     let f = λ (p : ℕ). if slice_index c.args.roots.now p == p then None else slice_index_or
-        c.args.links.now p None in
+    c.args.links.now p None in
     c.in_ok-push.ensures.items
     ∙ ap (λ l. l ++ c.cut_at.result ∷ []) c.loop-place.invariant
     ∙ ap (λ s. map f (range_with_len 0 place) ++ s ∷ []) c.cut_at.ensures

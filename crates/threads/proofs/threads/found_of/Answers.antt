@@ -16,7 +16,7 @@ ends_of-requires c =
     let ms = plain_messages c.args.messages.now in
     let links_are : c.in_ok-links.links.items ≡ links c.args.options ms = c.in_ok-links.ensures in
     subst (FitsMessages ms) (sym (c.deref.ensures.value
-        ∙ links_are)) (fits c.args.options ms c.requires)
+    ∙ links_are)) (fits c.args.options ms c.requires)
 
 pub with_subjects-requires : goal.with_subjects-requires
 with_subjects-requires c =
@@ -24,7 +24,7 @@ with_subjects-requires c =
     let links_are : c.in_ok-links.links.items ≡ links c.args.options ms = c.in_ok-links.ensures in
     let ends : AreEnds (is_listed_before ms) (links c.args.options ms) c.in_ok-ends.ends.items =
     subst (λ l. AreEnds (is_listed_before ms) l c.in_ok-ends.ends.items) (c.deref.ensures.value
-        ∙ links_are)
+    ∙ links_are)
     c.in_ok-ends.ensures in
     let references : c.in_ok-references.references.items ≡ reference_parents c.args.options ms =
     c.in_ok-references.ensures
@@ -41,7 +41,7 @@ roots_above-requires c =
     let links_are : c.in_ok-links.links.items ≡ links c.args.options ms = c.in_ok-links.ensures in
     let ends : AreEnds (is_listed_before ms) (links c.args.options ms) c.in_ok-ends.ends.items =
     subst (λ l. AreEnds (is_listed_before ms) l c.in_ok-ends.ends.items) (c.deref.ensures.value
-        ∙ links_are)
+    ∙ links_are)
     c.in_ok-ends.ensures in
     let references : c.in_ok-references.references.items ≡ reference_parents c.args.options ms =
     c.in_ok-references.ensures
@@ -50,11 +50,11 @@ roots_above-requires c =
     ∙ cut_is (is_listed_before ms) (links c.args.options ms) c.in_ok-ends.ends.items ends in
     let all : c.in_ok-parents.parents.items ≡ parents c.args.options ms =
     c.in_ok-parents.ensures ∙ ap (with_subjects c.args.options ms) (c.deref-4.ensures.value
-        ∙ references) in
+    ∙ references) in
     let size = parents_long c.args.options ms c.in_ok-ends.ends.items ends in
     subst (λ r. AreWithin r (length c.deref-6.result.now)) (sym c.deref-5.ensures.value)
     (subst (AreWithin c.in_ok-ends.ends.items) (sym (ap length (c.deref-6.ensures.value ∙ all)
-        ∙ size))
+    ∙ size))
     (λ i lt. roots_below c.args.options ms c.in_ok-ends.ends.items ends i
     (subst (λ n. i < n) (roots_long c.args.options ms c.in_ok-ends.ends.items ends) lt)))
 
@@ -64,7 +64,7 @@ returns-clause-found c =
     let links_are : c.in_ok-links.links.items ≡ links c.args.options ms = c.in_ok-links.ensures in
     let ends : AreEnds (is_listed_before ms) (links c.args.options ms) c.in_ok-ends.ends.items =
     subst (λ l. AreEnds (is_listed_before ms) l c.in_ok-ends.ends.items) (c.deref.ensures.value
-        ∙ links_are)
+    ∙ links_are)
     c.in_ok-ends.ensures in
     let references : c.in_ok-references.references.items ≡ reference_parents c.args.options ms =
     c.in_ok-references.ensures
@@ -73,7 +73,7 @@ returns-clause-found c =
     ∙ cut_is (is_listed_before ms) (links c.args.options ms) c.in_ok-ends.ends.items ends in
     let all : c.in_ok-parents.parents.items ≡ parents c.args.options ms =
     c.in_ok-parents.ensures ∙ ap (with_subjects c.args.options ms) (c.deref-4.ensures.value
-        ∙ references) in
+    ∙ references) in
     record {
       the_parents = all;
       the_roots = c.in_ok-roots.ensures
@@ -88,6 +88,6 @@ returns-clause-forest c =
     let links_are : c.in_ok-links.links.items ≡ links c.args.options ms = c.in_ok-links.ensures in
     let ends : AreEnds (is_listed_before ms) (links c.args.options ms) c.in_ok-ends.ends.items =
     subst (λ l. AreEnds (is_listed_before ms) l c.in_ok-ends.ends.items) (c.deref.ensures.value
-        ∙ links_are)
+    ∙ links_are)
     c.in_ok-ends.ensures in
     forest c.args.options ms c.in_ok-ends.ends.items ends

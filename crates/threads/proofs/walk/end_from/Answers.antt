@@ -19,7 +19,7 @@ close-root-requires-clause-within c =
 pub close-root-requires-clause-only : goal.close-root-requires-clause-only
 close-root-requires-clause-only c =
     (c.in_ok-met.ensures.walk (is_listed_before
-        (plain_messages c.args.messages.now)) c.requires.before.walk).only
+    (plain_messages c.args.messages.now)) c.requires.before.walk).only
 
 pub settle-requires : goal.settle-requires
 settle-requires c =

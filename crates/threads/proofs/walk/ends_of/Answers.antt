@@ -11,10 +11,10 @@ returns c =
     let ms = c.args.messages.now in
     let before = is_listed_before (plain_messages ms) in
     let size : length c.args.links.now ≡ length ms = c.requires.long
-        ∙ length-map ms plain_message in
+    ∙ length-map ms plain_message in
     let all : c.loop-start.start ≡ length ms = omega arith in
     let done : AreFollowed before c.args.links.now c.loop-start.marks.items
-        (length c.args.links.now) =
+    (length c.args.links.now) =
     subst (AreFollowed before c.args.links.now c.loop-start.marks.items) (all ∙ sym size)
     c.loop-start.invariant.done in
     IfOk-weaker c.roots_in.result _ (λ r. AreEnds before c.args.links.now r.items)

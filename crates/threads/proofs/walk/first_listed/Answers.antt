@@ -15,7 +15,7 @@ loop-place-preserved c =
       | then-is_listed_before w ↦ record {
         within = subst (λ f. f < length c.args.messages.now) (sym w.first-is)
             (Each-at (λ p. p < length c.args.messages.now) places n c.requires.within
-                c.loop-place-test.true);
+            c.loop-place-test.true);
         among = (n, slice_get-index places n c.loop-place-test.true ∙ ap Some (sym w.first-is));
         least = subst (λ f. (i : ℕ) → i < n + 1
             → is_listed_before ms (slice_index places i) f ≡ false)

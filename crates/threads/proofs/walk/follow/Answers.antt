@@ -20,7 +20,7 @@ loop-next-preserved c =
     let inv = c.loop-next.invariant in
     let new : is_unseen (mark_at marks place) ≡ true =
     true_from_not (is_unseen (mark_at marks place)) c.is_seen.result c.is_seen.ensures
-        c.if-is_seen.false in
+    c.if-is_seen.false in
     let lt = inv.within place c.in-Some.is in
     let there = subst (λ n. place < n) (sym (c.loop-next.auto.marks ∙ c.requires.long)) lt in
     let leads : LeadsTo links (reverse way) (Some place) =
@@ -30,7 +30,7 @@ loop-next-preserved c =
     record {
       walk = λ is_before walk.
           subst (λ m. IsWalk is_before links m c.enter.new.way.items)
-              (sym c.in_ok-next.ensures.marks)
+          (sym c.in_ok-next.ensures.marks)
           (subst (IsWalk is_before links _) (sym c.in_ok-next.ensures.way)
           (entered is_before links marks way place (inv.walk is_before walk) new there leads));
       leads = subst (λ w. LeadsTo links (reverse w) c.in_ok-next.next)
@@ -40,7 +40,7 @@ loop-next-preserved c =
       within = λ p e. c.requires.inside place p (sym c.in_ok-next.ensures.next ∙ e);
       start = inr (⊎_elim
           (λ is. subst (λ s. is_unseen (mark_at c.enter.new.marks s)
-              ≡ false) (start_is place c.args.start
+          ≡ false) (start_is place c.args.start
           (sym c.in-Some.is ∙ is))
           (ap (λ m. is_unseen (mark_at m place)) c.in_ok-next.ensures.marks
           ∙ ap is_unseen (mark-same marks place _ there)))

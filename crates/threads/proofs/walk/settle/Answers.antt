@@ -20,7 +20,7 @@ loop-place-preserved c =
           settled is_before links marks way place c.args.root
           (subst (IsWalk is_before links marks) c.in-Some.ensures.items before.walk)
           (subst (λ w. CanEnd links marks
-              (reverse w) c.args.root) c.in-Some.ensures.items before.can_end);
+          (reverse w) c.args.root) c.in-Some.ensures.items before.can_end);
       keeps = λ p s. seen-mark marks place (Ended c.args.root) within.0 refl p
           (c.loop-place.invariant.keeps p s);
     }

@@ -21,11 +21,11 @@ invariant_of-self-2 c =
     let ms = plain_messages old in
     let kept = c.in_ok-kept.kept in
     let absent : place_of ms c.args.id
-        ≡ None = ap (λ t. place_of t.messages c.args.id) c.self.view_is ∙ c.requires.absent in
+    ≡ None = ap (λ t. place_of t.messages c.args.id) c.self.view_is ∙ c.requires.absent in
     let items : c.push_reserved.new.self.items ≡ old ++ kept ∷ [] =
     c.push_reserved.ensures.items ∙ ap (λ l. l ++ kept ∷ []) c.in_ok-reserve.ensures.items in
     let all : numbers (plain_messages c.push_reserved.new.self.items)
-        ≡ numbers ms ++ c.args.id.0 ∷ [] =
+    ≡ numbers ms ++ c.args.id.0 ∷ [] =
     ap (λ l. numbers (plain_messages l)) items
     ∙ ap numbers (map_push plain_message old kept)
     ∙ map_push (λ (m : PlainMessage). m.id.0) ms (plain_message kept)
@@ -33,9 +33,9 @@ invariant_of-self-2 c =
     record {
       the_numbers = c.in_ok-insert.ensures.keys
           ∙ ap (λ l. if list_any (nat_eq c.args.id.0) l then l else l ++ c.args.id.0 ∷ [])
-              c.self.invariant.the_numbers
+          c.self.invariant.the_numbers
           ∙ ap (λ b. if b then numbers ms else numbers ms ++ c.args.id.0 ∷ []) (absent_number
-              (numbers ms) c.args.id.0 absent)
+          (numbers ms) c.args.id.0 absent)
           ∙ sym all;
       distinct = c.in_ok-insert.ensures.unique;
       worked_out = λ f is. absurd (nothing_found c.self.inside.found f

@@ -17,7 +17,7 @@ invariant_of-self c = record {
       (plain_messages c.self.inside.messages.items))
       (same_found c.in_ok-found.found f e)
       (subst (λ l. IsFound c.self.inside.options
-          (plain_messages l) c.in_ok-found.found) c.as_slice.ensures.value
+      (plain_messages l) c.in_ok-found.found) c.as_slice.ensures.value
       c.in_ok-found.ensures.found);
 }
 
@@ -25,5 +25,5 @@ pub returns-clause-forest : goal.returns-clause-forest
 returns-clause-forest c =
     subst (λ t. IsForest (parents t.options t.messages)) c.self.view_is
     (subst (λ l. IsForest (parents c.self.inside.options
-        (plain_messages l))) c.as_slice.ensures.value
+    (plain_messages l))) c.as_slice.ensures.value
     c.in_ok-found.ensures.forest)

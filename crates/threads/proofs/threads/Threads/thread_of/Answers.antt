@@ -15,7 +15,7 @@ root_at-requires-clause-within c =
     let kept = c.self.invariant.worked_out c.in-Some-found.found c.in-Some-found.is in
     let lt : c.in-Some.place < length ms =
     subst (λ t. c.in-Some.place < length t.messages)
-        (sym c.self.view_is) c.in-Some.ensures.within in
+    (sym c.self.view_is) c.in-Some.ensures.within in
     subst (λ n. c.in-Some.place < n)
     (sym (ap length kept.the_roots ∙ all_roots_long c.self.inside.options ms)) lt
 
@@ -25,10 +25,10 @@ root_at-requires-clause-below c =
     let kept = c.self.invariant.worked_out c.in-Some-found.found c.in-Some-found.is in
     let size : length ms ≡ length c.as_slice.result.now =
     length-map c.self.inside.messages.items plain_message
-        ∙ ap length (sym c.as_slice.ensures.value) in
+    ∙ ap length (sym c.as_slice.ensures.value) in
     subst (λ l. AreWithin l (length c.as_slice.result.now)) (sym kept.the_roots)
     (subst (AreWithin (map (root_of (parents c.self.inside.options ms)) (range_with_len 0
-        (length ms)))) size
+    (length ms)))) size
     (all_roots_below c.self.inside.options ms))
 
 pub returns-in-Some-found : goal.returns-in-Some-found
@@ -43,7 +43,7 @@ returns-in-Some-found c =
     c.in-Some.ensures.value ∙ ap (λ t. place_of t.messages c.args.id) (sym c.self.view_is) in
     ap Some (c.root_at.ensures
     ∙ ap (λ l. (at (plain_messages l)
-        (slice_index c.in-Some-found.found.roots.items place)).id) c.as_slice.ensures.value
+    (slice_index c.in-Some-found.found.roots.items place)).id) c.as_slice.ensures.value
     ∙ ap (λ l. (at ms (slice_index l place)).id) kept.the_roots
     ∙ ap (λ r. (at ms r).id) (root_there c.self.inside.options ms place lt))
     ∙ ap (option_map (λ p. (at ms (root_of all p)).id)) there
