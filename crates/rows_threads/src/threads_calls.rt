@@ -9,8 +9,8 @@ use std::alloc::Global;
 use threads::{Link, Parent, ThreadOptions, Threads};
 
 /// `options` are words of `strict`, `reply_only` and `duplicates`. Each `message ID` is a header,
-/// and stands in the listing by the number behind its id, or else by its id; it was received at that
-/// second. `parent` is the parent of each message, in the order of the case, and `root` its root.
+/// and stands in the listing by the number behind its id, or else by its id; it was received at
+/// that second. `parent` is the parent of each message, in the order of the case, and `root` its root.
 pub struct ThreadCalls;
 
 impl Subject for ThreadCalls {
