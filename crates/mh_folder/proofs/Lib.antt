@@ -3,3 +3,4 @@ pub mod RisingLemmas
 pub mod HoldingLemmas
 pub mod ChangeLemmas
 pub mod UprightLemmas
+pub mod WrittenLemmas

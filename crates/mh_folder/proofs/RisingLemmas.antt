@@ -233,7 +233,7 @@ ordered_rises (r ∷ ranges) all =
     (omega arith))
     (ordered_rises ranges both.1)
 
-ordered_holds : (n : ℕ) (ranges : List Range) → all_up ranges ≡ true
+pub ordered_holds : (n : ℕ) (ranges : List Range) → all_up ranges ≡ true
     → any_holds n (added_to [] ranges) ≡ any_holds n ranges
 ordered_holds n [] all = refl
 ordered_holds n (r ∷ ranges) all =

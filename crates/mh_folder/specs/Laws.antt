@@ -3,6 +3,7 @@ use Rattle.std.specs.Prelude.{◌≡◌, ◌==◌, ◌&&◌, ℕ, Bool, true, no
 use Rattle.std.specs.Prelude.{if◌then◌else◌}
 use Rattle.std.specs.List.{list_all}
 use Rattle.std.specs.Str.{bytes_eq}
+use Rattle.folder_core.specs.MhSequences.{in_sequence}
 use Rattle.mh_folder.specs.declared.range.Range.{Range}
 use Rattle.mh_folder.specs.SequenceLine.{PlainLine, Kept, Named}
 use Rattle.mh_folder.specs.Sequences.{holds, put, sequences_of, without_number}
@@ -41,3 +42,7 @@ StaysUpright =
     → are_upright lines ≡ true → are_upright (put name n member lines) ≡ true)
     × ((lines : List PlainLine) (n : ℕ)
     → are_upright lines ≡ true → are_upright (without_number n lines) ≡ true)
+
+-- a number is in a sequence that is read exactly where a range of the file writes it there
+abbrev pub HoldsWritten : Type 0
+HoldsWritten = (bytes name : List ℕ) (n : ℕ) → holds name n (sequences_of bytes) ≡ in_sequence name n bytes

@@ -16,3 +16,8 @@ pub fn drop_takes_one()
 pub fn ranges_stay_upright()
     ensures { spec.StaysUpright }
 {}
+
+/// A number is in a sequence that is read exactly where a range of the file writes it there.
+pub fn sequences_hold_what_is_written()
+    ensures { spec.HoldsWritten }
+{}

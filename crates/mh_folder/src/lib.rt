@@ -8,6 +8,8 @@ mod range;
 mod sequence_line;
 mod sequences;
 
-pub use laws::{drop_takes_one, put_changes_one, ranges_stay_upright};
+pub use laws::{
+    drop_takes_one, put_changes_one, ranges_stay_upright, sequences_hold_what_is_written,
+};
 pub use range::{Range, Ranges};
 pub use sequences::Sequences;
