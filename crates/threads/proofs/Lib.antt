@@ -5,3 +5,5 @@ pub mod OrderLemmas
 pub mod CloseLemmas
 pub mod EndsLemmas
 pub mod FoundLemmas
+pub mod SortLemmas
+pub mod TreeLemmas

@@ -14,6 +14,7 @@ use Rattle.std.specs.Ordering.{MatchOrdering, is_lt, is_eq, ordering_then, order
 use Rattle.std.specs.Ordering.{nat_cmp}
 use Rattle.std.specs.declared.cmp.Ordering.{Ordering}
 use Rattle.std.specs.declared.cmp.Ordering.TheVariants.{Less, Equal, Greater}
+use Rattle.mail_base.specs.declared.kind.Id.{Id}
 use Rattle.threads.specs.Message.{PlainMessage, at, is_listed_before, listing_cmp, no_message}
 use Rattle.threads.specs.Message.{numbers, sent_cmp}
 use Rattle.threads.specs.Walk.{Each, IsOrder}
@@ -68,6 +69,17 @@ apart messages distinct a b lt within e =
     let one = get_or-map (λ (m : PlainMessage). m.id.0) messages a no_message 0 (omega arith) in
     let other = get_or-map (λ (m : PlainMessage). m.id.0) messages b no_message 0 within in
     false≢true (sym differ ∙ eq-eqb _ _ (one ∙ e ∙ sym other))
+
+-- messages with the same id are the same
+pub same_id : (messages : List PlainMessage) → IsDistinct nat_eq (numbers messages) → (a b : ℕ)
+    → a < length messages → b < length messages → (at messages a).id ≡ (at messages b).id → a ≡ b
+same_id messages distinct a b one other e = ⊎_elim
+    (λ lt. absurd (apart messages distinct a b lt other (ap (λ (i : Id). i.0) e)))
+    (λ le. ⊎_elim
+    (λ lt. absurd (apart messages distinct b a lt one (ap (λ (i : Id). i.0) (sym e))))
+    (λ ge. omega arith)
+    (cases_lt b a))
+    (cases_lt a b)
 
 pub listing_order : (messages : List PlainMessage) → IsDistinct nat_eq (numbers messages)
     → IsOrder (is_listed_before messages) (length messages)

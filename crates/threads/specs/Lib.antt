@@ -8,3 +8,5 @@ pub mod Inner
 pub mod Forest
 pub mod Walk
 pub mod Found
+pub mod Order
+pub mod Families

@@ -7,6 +7,7 @@ mod firsts;
 mod links;
 mod message;
 mod options;
+mod order;
 mod step;
 mod subjects;
 mod threads;
