@@ -7,3 +7,5 @@ pub mod EndsLemmas
 pub mod FoundLemmas
 pub mod SortLemmas
 pub mod TreeLemmas
+pub mod FamilyLemmas
+pub mod OnceLemmas

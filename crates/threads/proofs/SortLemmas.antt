@@ -317,7 +317,7 @@ map_places messages (e ∷ es) all =
     let there = map_places messages es (λ k d low. all (suc k) d (omega arith)) in
     λ i. here i ∷ there i
 
-places_within : (messages : List PlainMessage) (es : List Entry) → AreEntries messages es
+pub places_within : (messages : List PlainMessage) (es : List Entry) → AreEntries messages es
     → Each (λ p. p < length messages) (places es)
 places_within messages [] all = tt
 places_within messages (e ∷ es) all =

@@ -3,7 +3,8 @@ use Rattle.std.specs.Prelude.{◌≡◌, ◌<◌, ℕ, List, [], ◌∷◌, leng
 use Rattle.std.specs.Prelude.{slice_index_or}
 use Rattle.std.specs.List.{All, filter, flat_map, range_with_len}
 use Rattle.std.specs.declared.alloc.Global.{Global}
-use Rattle.threads.specs.Links.{target}
+use Rattle.threads.specs.Forest.{IsForest}
+use Rattle.threads.specs.Found.{AreDistinct, LeadsBelow}
 use Rattle.threads.specs.Message.{PlainMessage}
 use Rattle.threads.specs.Order.{id_at, is_child, is_root, tree_of}
 use Rattle.threads.specs.Walk.{Each}
@@ -47,3 +48,10 @@ pub record CanWalk (children : ℕ → List ℕ) (n : ℕ) : Type 0 where
   pub within : (p : ℕ) → p < n → Each (λ q. q < n) (children p)
   pub unfolds : (p : ℕ) → p < n
       → tree_of children n p ≡ p ∷ flat_map (tree_of children n) (children p)
+
+-- messages that are told apart, and parents without a cycle
+pub record CanOrder (messages : List PlainMessage) (parents : List (Option Step)) : Type 0 where
+  pub distinct : AreDistinct messages
+  pub long : length parents ≡ length messages
+  pub leads : LeadsBelow (length parents) parents
+  pub forest : IsForest parents

@@ -20,6 +20,8 @@ pub record IsFound (options : ThreadOptions) (messages : List PlainMessage)
   pub the_parents : found.parents.items ≡ parents options messages
   pub the_roots : found.roots.items
       ≡ map (root_of (parents options messages)) (range_with_len 0 (length messages))
+  pub the_ends : (p : ℕ) → p < length (parents options messages)
+      → target (parents options messages) (root_of (parents options messages) p) ≡ None
 
 -- the table of numbers is that of the messages, and what was worked out is that of the definitions
 pub record AreKept (options : ThreadOptions) (messages : List PlainMessage) (keys : List ℕ)

@@ -7,7 +7,7 @@ ghost use Rattle.mail_base.specs.declared.kind.Id as id;
 ghost use Rattle.threads.specs.Families as spec;
 ghost use Rattle.threads.specs.Found.{AreDistinct, LeadsBelow};
 ghost use Rattle.threads.specs.Message.{plain_messages};
-ghost use Rattle.threads.specs.Order.{Answers, IsStrictOrder, by_id, id_at, in_order_by, tree_of};
+ghost use Rattle.threads.specs.Order.{Answers, IsStrictOrder, by_id, id_at, in_order_by, thread_order, tree_of};
 ghost use Rattle.threads.specs.Walk.{Each};
 
 use crate::message::Message;
@@ -161,4 +161,24 @@ pub fn walk(
         put_all(&mut stack, &children[place])?;
     }
     Ok(Ids::from_vec(order))
+}
+
+/// The ids of all messages in the order of threads, where siblings and roots stand by `before`.
+pub fn ordered<B: Fn(Id, Id) -> bool>(
+    alloc: Global,
+    messages: &[Message],
+    parents: &[Option<Step>],
+    before: &B,
+) -> Result<Ids, NoMemory>
+    requires callable { B.IsAlwaysCallable before.now }
+    requires parents { spec.CanOrder (plain_messages messages.now) parents.now }
+    ensures order { (order : id.Id → id.Id → Bool) → IsStrictOrder order
+        → Answers B.Fn before.now order
+        → IfOk result (λ ids. ids.items ≡ map (id_at (plain_messages messages.now))
+        (thread_order (by_id order (plain_messages messages.now)) parents.now)) }
+{
+    let mut entries = sorted(alloc, messages, before)?;
+    entries.reverse();
+    let families = families_of(alloc, parents, &entries)?;
+    walk(alloc, messages, families)
 }

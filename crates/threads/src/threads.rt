@@ -1,22 +1,25 @@
 //! Threads of messages, worked out once from a whole listing.
 
-ghost use Rattle.std.specs.Prelude.{◌≡◌, ◌==◌, ◌<◌, ◌++◌, ◌∷◌, [], length, map, slice_index, slice_index_or, true, false, None, is_some, option_map, Some, IsSome, IfSome, OnOk, OnErr, IfOk, if◌then◌else◌};
+ghost use Rattle.std.specs.Prelude.{◌≡◌, ◌==◌, ◌<◌, ◌++◌, ◌∷◌, [], length, map, slice_index, slice_index_or, true, false, None, is_some, option_map, Some, IsSome, IfSome, OnOk, OnErr, IfOk, if◌then◌else◌, Bool};
 ghost use Rattle.headers.specs.Header.{plain_header};
+ghost use Rattle.mail_base.specs.declared.kind.Id as id;
 ghost use Rattle.threads.specs.Message as message;
 ghost use Rattle.threads.specs.Forest.{IsForest};
 ghost use Rattle.threads.specs.Found as kept;
 ghost use Rattle.threads.specs.Subjects.{parents};
+ghost use Rattle.threads.specs.Order as order;
 ghost use Rattle.threads.specs.Threads as spec;
 
 use crate::links::links_of;
 use crate::message::{Message, kept_of};
+use crate::order::ordered;
 use crate::options::{Parent, ThreadOptions};
 use crate::step::Step;
 use crate::subjects::with_subjects;
 use crate::walk::ends_of;
 use headers::Header;
 use indexmap::IndexSet;
-use mail_base::{Id, NoMemory};
+use mail_base::{Id, Ids, NoMemory};
 use std::alloc::Global;
 use std::marker::Model;
 
@@ -148,6 +151,27 @@ impl Threads {
         match &self.found {
             Some(found) => root_at(self.messages.as_slice(), found, place),
             None => id,
+        }
+    }
+
+    /// The ids of all messages, each root followed by the trees of its children. `before` tells
+    /// whether one id comes before another, for roots and for the children of one message.
+    pub fn order_from<B: Fn(Id, Id) -> bool>(
+        &self,
+        alloc: Global,
+        before: &B,
+    ) -> Result<Ids, NoMemory>
+        requires finished { self.now.is_finished ≡ true }
+        requires callable { B.IsAlwaysCallable before.now }
+        ensures order { (by : id.Id → id.Id → Bool) → order.IsStrictOrder by
+            → order.Answers B.Fn before.now by
+            → IfOk result (λ ids. ids.items ≡ order.order_from by self.now) }
+    {
+        match &self.found {
+            Some(found) => {
+                ordered(alloc, self.messages.as_slice(), found.parents.as_slice(), before)
+            }
+            None => Ok(Ids::new(alloc)),
         }
     }
 }

@@ -3,11 +3,12 @@ use Rattle.std.proofs.lemmas.List.{length-map}
 use Rattle.std.proofs.lemmas.Result.{IfOk-weaker}
 use Rattle.threads.specs.Cycles.{reference_parents}
 use Rattle.threads.specs.Found.{AreWithin, cut_at_roots, root_above}
-use Rattle.threads.specs.Links.{links}
+use Rattle.threads.specs.Links.{links, target}
+use Rattle.threads.specs.Threads.{root_of}
 use Rattle.threads.specs.Message.{is_listed_before, plain_message, plain_messages}
 use Rattle.threads.specs.Subjects.{parents, with_subjects}
 use Rattle.threads.specs.Walk.{AreEnds, FitsMessages}
-use Rattle.threads.proofs.FoundLemmas.{cut_is, fits, forest, parents_long, refs_long, roots_are}
+use Rattle.threads.proofs.FoundLemmas.{Ends-none, cut_is, fits, forest, parents_long, refs_long, roots_are}
 use Rattle.threads.proofs.FoundLemmas.{roots_below, roots_long}
 use Rattle.threads.proofs.threads.found_of.Goals as goal
 
@@ -80,6 +81,10 @@ returns-clause-found c =
           ∙ ap (λ l. map (root_above l) c.deref-5.result.now) (c.deref-6.ensures.value ∙ all)
           ∙ ap (map (root_above (parents c.args.options ms))) c.deref-5.ensures.value
           ∙ roots_are c.args.options ms c.in_ok-ends.ends.items ends;
+      the_ends = λ p lt.
+          let own = forest c.args.options ms c.in_ok-ends.ends.items ends p lt in
+          Ends-none (target (parents c.args.options ms)) own.0 p
+          (root_of (parents c.args.options ms) p) own.2;
     }
 
 pub returns-clause-forest : goal.returns-clause-forest
