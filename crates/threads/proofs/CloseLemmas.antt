@@ -1,21 +1,21 @@
 -- How a cycle is closed.
-use Rattle.std.proofs.Common.{◌≡◌, ◌∙◌, ℕ, zero, suc, ◌+◌, ◌-◌, ◌<◌, ◌≤◌, Bool, true, false, cond}
-use Rattle.std.proofs.Common.{List, [], ◌∷◌, ◌++◌, length, Option, Some, None, refl, sym, ap, subst}
+use Rattle.std.proofs.Common.{◌≡◌, ◌∙◌, ℕ, zero, suc, ◌+◌, ◌<◌, ◌≤◌, Bool, true, false, cond}
+use Rattle.std.proofs.Common.{List, [], ◌∷◌, ◌++◌, length, Option, Some, refl, sym, ap, subst}
 use Rattle.std.proofs.Common.{reverse}
-use Rattle.std.proofs.Common.{◌⊎◌, inl, inr, ⊎_elim, arith, get_or, set, slice_get, slice_index}
-use Rattle.std.proofs.Common.{slice_set, take, drop}
-use Rattle.std.proofs.lemmas.Bool.{cases_eq, cases_lt, false≢true}
-use Rattle.std.proofs.lemmas.List.{append_assoc, length-append, length-drop, length-reverse}
-use Rattle.std.proofs.lemmas.List.{length-set, length-take, reverse-append, reverse-reverse}
+use Rattle.std.proofs.Common.{◌⊎◌, inl, inr, ⊎_elim, arith, set, slice_get, slice_index}
+use Rattle.std.proofs.Common.{take, drop}
+use Rattle.std.proofs.lemmas.Bool.{cases_eq}
+use Rattle.std.proofs.lemmas.List.{append_assoc, length-append, length-reverse}
+use Rattle.std.proofs.lemmas.List.{length-set, reverse-append, reverse-reverse}
 use Rattle.std.proofs.lemmas.List.{take-append-drop}
 use Rattle.threads.specs.Cycles.{heads_cycle}
 use Rattle.threads.specs.Links.{target}
-use Rattle.threads.specs.Walk.{CanEnd, Closes, ClosesCycle, Each, Ends, EndsAt, Follows, IsClosed}
-use Rattle.threads.specs.Walk.{IsEnded, IsOrder}
+use Rattle.threads.specs.Walk.{CanEnd, ClosesCycle, Each, Ends, EndsAt, Follows, IsClosed}
+use Rattle.threads.specs.Walk.{IsOrder}
 use Rattle.threads.specs.Walk.{IsWalk, IsWay, KeepsSeen, LeadsTo, State, all_ended, cut_target}
 use Rattle.threads.specs.Walk.{is_unseen, mark_at, unseen}
 use Rattle.threads.specs.declared.walk.Mark.{Mark}
-use Rattle.threads.specs.declared.walk.Mark.TheVariants.{Unseen, OnWay, Ended}
+use Rattle.threads.specs.declared.walk.Mark.TheVariants.{OnWay, Ended}
 use Rattle.threads.specs.declared.step.Step.{Step}
 use Rattle.threads.proofs.CycleLemmas.{Each-append, Each-join, Each-map, Follows-join}
 use Rattle.threads.proofs.CycleLemmas.{Follows-split, cut-head, cycle_ends, head_is, last_or}

@@ -1,13 +1,13 @@
 -- Which places head a cycle, and where links lead once cycles are cut.
-use Rattle.std.proofs.Common.{◌≡◌, ◌∙◌, ℕ, zero, suc, ◌+◌, ◌<◌, ◌≤◌, Bool, true, false, cond, ◌&&◌}
+use Rattle.std.proofs.Common.{◌≡◌, ◌∙◌, ℕ, zero, suc, ◌+◌, ◌≤◌, Bool, true, false, ◌&&◌}
 use Rattle.std.proofs.Common.{◌||◌, ◌==◌}
 use Rattle.std.proofs.Common.{List, [], ◌∷◌, ◌++◌, length, Option, Some, None, option_map, refl}
 use Rattle.std.proofs.Common.{sym, ap, subst}
-use Rattle.std.proofs.Common.{◌⊎◌, inl, inr, ⊎_elim, arith, get_or, length-append, eq-eqb}
+use Rattle.std.proofs.Common.{◌⊎◌, ⊎_elim, arith, get_or, eq-eqb}
 use Rattle.std.specs.Prelude.{if◌then◌else◌}
-use Rattle.std.proofs.lemmas.Bool.{cases_Bool, cases_eq, false_from_ne_true, false≢true}
+use Rattle.std.proofs.lemmas.Bool.{cases_Bool, false_from_ne_true, false≢true}
 use Rattle.std.proofs.lemmas.Bool.Decides.{nat_tests}
-use Rattle.threads.specs.Cycles.{meets, comes_to, heads_cycle, cut_link}
+use Rattle.threads.specs.Cycles.{meets, comes_to, heads_cycle}
 use Rattle.threads.specs.Links.{target}
 use Rattle.threads.specs.Walk.{Each, Ends, Follows, IsOrder, cut_target}
 use Rattle.threads.specs.declared.step.Step.{Step}

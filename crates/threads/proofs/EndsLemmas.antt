@@ -1,14 +1,14 @@
 -- The marks before the first walk and behind the last.
-use Rattle.std.proofs.Common.{◌≡◌, ◌∙◌, ℕ, zero, suc, ◌+◌, ◌<◌, ◌≤◌, Bool, false, true, List, []}
+use Rattle.std.proofs.Common.{◌≡◌, ◌∙◌, ℕ, ◌≤◌, Bool, false, List}
 use Rattle.std.proofs.Common.{length, map}
-use Rattle.std.proofs.Common.{Option, None, Some, refl, sym, ap, subst, ◌⊎◌, inl, inr, ⊎_elim}
-use Rattle.std.proofs.Common.{arith, get_or, replicate, slice_index}
+use Rattle.std.proofs.Common.{Option, None, Some, refl, sym, subst, ⊎_elim}
+use Rattle.std.proofs.Common.{arith, replicate, slice_index}
 use Rattle.std.proofs.lemmas.Bool.{cases_lt, false≢true}
 use Rattle.std.proofs.lemmas.List.{get_or-map, get_or-replicate, get_or_past, length-map}
 use Rattle.std.proofs.lemmas.List.{length-replicate}
 use Rattle.std.proofs.lemmas.List.Sums.{count_by-le-length}
-use Rattle.threads.specs.Walk.{AreEnds, AreFollowed, Ends, IsEnded, IsWalk, cut_target, is_unseen}
-use Rattle.threads.specs.Walk.{mark_at, root_in, unseen}
+use Rattle.threads.specs.Walk.{AreEnds, AreFollowed, Ends, cut_target, is_unseen}
+use Rattle.threads.specs.Walk.{mark_at, root_in}
 use Rattle.threads.specs.declared.walk.Mark.{Mark}
 use Rattle.threads.specs.declared.walk.Mark.TheVariants.{Unseen, OnWay, Ended}
 use Rattle.threads.specs.declared.step.Step.{Step}

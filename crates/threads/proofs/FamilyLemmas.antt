@@ -1,19 +1,22 @@
 -- Families of places that are in order, and the walk over them.
-use Rattle.std.proofs.Common.{◌≡◌, ◌∙◌, ℕ, zero, suc, ◌+◌, ◌<◌, ◌≤◌, Bool, true, false, List, []}
+use Rattle.std.proofs.Common.{◌≡◌, ◌∙◌, ℕ, ◌<◌, Bool, true, false, List, []}
 use Rattle.std.proofs.Common.{◌∷◌, ◌++◌, length, map, reverse, Option, Some, None, Vec}
-use Rattle.std.proofs.Common.{refl, sym, ap, subst, ◌⊎◌, inl, inr, ⊎_elim, arith, get_or}
+use Rattle.std.proofs.Common.{refl, sym, ap, subst, ⊎_elim, arith}
 use Rattle.std.proofs.Common.{if◌then◌else◌}
 use Rattle.std.proofs.lemmas.Bool.{cases_lt}
-use Rattle.std.proofs.lemmas.List.{append-nil, get_or_past, length-map, reverse-append}
+use Rattle.std.proofs.lemmas.List.{append-nil, get_or-map, get_or_past, length-map, reverse-append}
 use Rattle.std.proofs.lemmas.List.{reverse-reverse}
 use Rattle.std.proofs.lemmas.List.Elements.{filter-append}
+use Rattle.std.proofs.lemmas.List.FromFn.{fill_by_all}
+use Rattle.std.proofs.lemmas.List.Sorted.{IsPermutation-map}
+use Rattle.std.specs.List.Sorted.{IsPermutation}
 use Rattle.std.specs.Cmp.{IsStrictWeakOrder}
-use Rattle.std.specs.List.{All, filter, flat_map, range_with_len}
+use Rattle.std.specs.List.{filter, flat_map, range_with_len}
 use Rattle.std.specs.declared.alloc.Global.{Global}
 use Rattle.mail_base.specs.declared.kind.Id.{Id}
 use Rattle.threads.specs.Families.{AreEntries, AreFamilies, CanOrder, CanWalk, below, lists, places}
 use Rattle.threads.specs.Links.{target}
-use Rattle.threads.specs.Message.{PlainMessage}
+use Rattle.threads.specs.Message.{PlainMessage, no_message}
 use Rattle.threads.specs.Order.{IsStrictOrder, by_id, children, id_at, in_order_by, is_child}
 use Rattle.threads.specs.Order.{is_root, roots, thread_order, tree_of}
 use Rattle.threads.specs.Walk.{Each}
@@ -25,6 +28,8 @@ use Rattle.threads.specs.Subjects.{parents}
 use Rattle.threads.specs.Threads.{root_of}
 use Rattle.threads.specs.declared.options.ThreadOptions.{ThreadOptions}
 use Rattle.threads.proofs.FoundLemmas.{all_parents_long, parents_below}
+use Rattle.threads.proofs.CloseLemmas.{Each-both}
+use Rattle.threads.proofs.OnceLemmas.{all_once}
 use Rattle.threads.proofs.SortLemmas.{in_order_filter, places_within}
 use Rattle.threads.proofs.TreeLemmas.{can_walk, children_follow, ends_there, filter_within, none_below}
 
@@ -63,6 +68,13 @@ turned test es =
     ap (λ l. reverse (filter test l)) (places-reverse es)
     ∙ ap reverse (filter-reverse test (places es))
     ∙ reverse-reverse (filter test (places es))
+
+all_ids : (messages : List PlainMessage)
+    → map (λ m. m.id) messages ≡ map (id_at messages) (range_with_len 0 (length messages))
+all_ids messages =
+    fill_by_all (id_at messages) (map (λ m. m.id) messages) (length messages) no_message.id
+    (length-map messages (λ m. m.id))
+    (λ k lt. get_or-map (λ (m : PlainMessage). m.id) messages k no_message no_message.id lt)
 
 module _ (messages : List PlainMessage) (above : List (Option Step)) (es : List Entry)
     (families : Families) (fits : CanOrder messages above) (entries : AreEntries messages es)
@@ -128,6 +140,37 @@ module _ (messages : List PlainMessage) (above : List (Option Step)) (es : List 
       all_kids
       ∙ ap (λ n. map (id_at messages) (flat_map (tree_of (children by above) n)
       (roots by above))) (sym fits.long)
+
+  pub once : IsPermutation (range_with_len 0 (length messages)) (places es)
+      → IsPermutation (map (λ m. m.id) messages)
+      (map (id_at messages) (flat_map (tree_of (below families.children.items) (length messages))
+      (reverse families.roots.items)))
+  unfolding kids
+  once moved =
+      let kids = below families.children.items in
+      let within : Each (λ p. p < length above) (places es) =
+      subst (λ n. Each (λ p. p < n) (places es)) (sym fits.long)
+      (places_within messages es entries) in
+      let leads : (p : ℕ) → Each (λ c. (c < length above) × (target above c ≡ Some p)) (kids p) =
+      λ p. Each-both (λ c. c < length above) (λ c. target above c ≡ Some p) (kids p)
+      (subst (Each (λ c. c < length above)) (sym (kids_are p))
+      (filter_within (is_child above p) (length above) (places es) within)) (follow p) in
+      let all : IsPermutation (range_with_len 0 (length above))
+          (flat_map (tree_of kids (length above)) (filter (is_root above) (places es))) =
+      all_once above kids leads fits.forest fits.leads (places es)
+      (subst (λ n. IsPermutation (range_with_len 0 n) (places es)) (sym fits.long) moved)
+      within kids_are in
+      let here : IsPermutation (range_with_len 0 (length messages))
+          (flat_map (tree_of kids (length messages)) (reverse families.roots.items)) =
+      subst (λ n. IsPermutation (range_with_len 0 n)
+      (flat_map (tree_of kids n) (reverse families.roots.items))) fits.long
+      (subst (λ r. IsPermutation (range_with_len 0 (length above))
+      (flat_map (tree_of kids (length above)) r)) (sym roots_are) all) in
+      subst (λ l. IsPermutation l (map (id_at messages)
+      (flat_map (tree_of kids (length messages)) (reverse families.roots.items))))
+      (sym (all_ids messages))
+      (IsPermutation-map (id_at messages) (range_with_len 0 (length messages))
+      (flat_map (tree_of kids (length messages)) (reverse families.roots.items)) here)
 
 -- what was worked out can be put in order
 pub can_order : (options : ThreadOptions) (messages : List PlainMessage) → AreDistinct messages

@@ -3,28 +3,27 @@ use Rattle.std.proofs.Common.{◌≡◌, ◌∙◌, ℕ, zero, suc, ◌+◌, ◌
 use Rattle.std.proofs.Common.{cond, not}
 use Rattle.std.proofs.Common.{List, [], ◌∷◌, length, map, Option, Some, None, option_map, is_none}
 use Rattle.std.proofs.Common.{refl, sym, ap, subst}
-use Rattle.std.proofs.Common.{◌⊎◌, inl, inr, ⊎_elim, arith, get_or, slice_index, slice_index_or}
+use Rattle.std.proofs.Common.{⊎_elim, arith, slice_index, slice_index_or}
 use Rattle.std.proofs.Common.{nat_eq, nat_lt, position, eq-eqb, ◌||◌}
-use Rattle.std.specs.Prelude.{if◌then◌else◌, option_and_then}
+use Rattle.std.specs.Prelude.{if◌then◌else◌}
 use Rattle.std.specs.List.{IsDistinct, list_any, position_or_len, range_with_len}
 use Rattle.std.specs.Option.{option_or}
-use Rattle.std.specs.Str.{bytes_eq}
-use Rattle.std.proofs.lemmas.Bool.{cases_Bool, cases_eq, cases_lt, false≢true}
+use Rattle.std.proofs.lemmas.Bool.{cases_Bool, cases_lt, false≢true}
 use Rattle.std.proofs.lemmas.Bool.Decides.{nat_tests}
-use Rattle.std.proofs.lemmas.List.{get_or_past, length-map, same_lists, get_or-map}
+use Rattle.std.proofs.lemmas.List.{get_or_past, length-map, get_or-map}
 use Rattle.std.proofs.lemmas.List.FromFn.{get_or-map-range_with_len, length-map-range_with_len}
-use Rattle.std.proofs.lemmas.List.FromFn.{length-range_with_len, fill_by_all}
+use Rattle.std.proofs.lemmas.List.FromFn.{fill_by_all}
 use Rattle.threads.specs.Cycles.{cut_link, heads_cycle, reference_parents, without_cycles}
 use Rattle.threads.specs.Firsts.{earlier, first_of}
 use Rattle.threads.specs.Forest.{IsForest}
 use Rattle.threads.specs.Found.{AreWithin, LeadsBelow, cut_at_roots, root_above}
-use Rattle.threads.specs.Links.{duplicated, has_id, holder, link_by, link_of, links, other_than}
+use Rattle.threads.specs.Links.{duplicated, has_id, holder, link_of, links, other_than}
 use Rattle.threads.specs.Links.{referred, step, target}
 use Rattle.threads.specs.Message.{PlainMessage, at, is_listed_before, is_sent_before, numbers}
 use Rattle.threads.specs.Subjects.{begins_subject, first_with, followed, may_follow, parent_of}
 use Rattle.threads.specs.Subjects.{parents, with_subjects}
 use Rattle.threads.specs.Threads.{end_from, onward, root_of}
-use Rattle.threads.specs.Walk.{AreEnds, Ends, FitsMessages, LeadsWithin, cut_target}
+use Rattle.threads.specs.Walk.{AreEnds, Ends, FitsMessages, cut_target}
 use Rattle.threads.specs.declared.options.Link.{Link}
 use Rattle.threads.specs.declared.options.ThreadOptions.{ThreadOptions}
 use Rattle.threads.specs.declared.step.Step.{Step}

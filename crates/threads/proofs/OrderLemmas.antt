@@ -1,16 +1,16 @@
 -- Listing order and the order by date are orders.
-use Rattle.std.proofs.Common.{◌≡◌, ◌∙◌, ℕ, zero, suc, ◌+◌, ◌<◌, ◌≤◌, Bool, true, false, List, []}
-use Rattle.std.proofs.Common.{◌∷◌, length, map, Some}
-use Rattle.std.proofs.Common.{refl, sym, ap, subst, ◌⊎◌, inl, inr, ⊎_elim, arith, get_or, nat_eq}
+use Rattle.std.proofs.Common.{◌≡◌, ◌∙◌, ℕ, zero, suc, ◌+◌, ◌<◌, true, false, List, []}
+use Rattle.std.proofs.Common.{◌∷◌, length, Some}
+use Rattle.std.proofs.Common.{refl, sym, ap, subst, ⊎_elim, arith, nat_eq}
 use Rattle.std.proofs.Common.{eq-eqb, slice_get, slice_index}
-use Rattle.std.proofs.lemmas.Bool.{cases_eq, cases_lt, false_from_ne_true, false≢true, cases_Bool}
+use Rattle.std.proofs.lemmas.Bool.{cases_lt, false_from_ne_true, false≢true}
 use Rattle.std.proofs.lemmas.Cmp.{nat_cmp_total, int_cmp_total, on_total, then_total}
 use Rattle.std.proofs.lemmas.Cmp.{nat_list_cmp_total}
 use Rattle.std.proofs.lemmas.List.{get_or-map, length-map}
 use Rattle.std.proofs.lemmas.Map.Keys.{apart_from_distinct}
 use Rattle.std.specs.Cmp.{IsTotalOrder, tied_itself, ranks}
 use Rattle.std.specs.List.{IsDistinct}
-use Rattle.std.specs.Ordering.{MatchOrdering, is_lt, is_eq, ordering_then, ordering_reverse}
+use Rattle.std.specs.Ordering.{MatchOrdering, is_lt, ordering_then, ordering_reverse}
 use Rattle.std.specs.Ordering.{nat_cmp}
 use Rattle.std.specs.declared.cmp.Ordering.{Ordering}
 use Rattle.std.specs.declared.cmp.Ordering.TheVariants.{Less, Equal, Greater}

@@ -4,7 +4,7 @@ use Rattle.std.proofs.Common.{length, map, refl, sym, ◌∙◌}
 use Rattle.std.proofs.Common.{ap, subst, arith, if◌then◌else◌, slice_index_or, slice_set}
 use Rattle.std.proofs.lemmas.List.Sorted.{IsPermutation-keeps, IsPermutation-map, All-permutation}
 use Rattle.std.specs.Cmp.{IsStrictWeakOrder}
-use Rattle.std.specs.List.{All, filter, range_with_len, swap}
+use Rattle.std.specs.List.{filter, range_with_len, swap}
 use Rattle.std.specs.List.Sorted.{IsPermutation, IsSortedBy}
 use Rattle.threads.specs.Order.{IsStrictOrder, by_id, id_at, in_order_by, put_by}
 use Rattle.mail_base.specs.declared.kind.Id.{Id}
@@ -340,6 +340,17 @@ pub sorted_entries : (messages : List PlainMessage) (es : List Entry)
 sorted_entries messages es moved =
     All-permutation (λ e. (e.place < length messages) × (e.id ≡ id_at messages e.place))
     (entries messages) es moved (range_entries messages 0 (length messages) (omega arith))
+
+pub moved_places : (messages : List PlainMessage) (es : List Entry)
+    → IsPermutation (entries messages) es
+    → IsPermutation (range_with_len 0 (length messages)) (places es)
+moved_places messages es moved =
+    subst (λ l. IsPermutation l (places es)) (same (range_with_len 0 (length messages)))
+    (IsPermutation-map (λ (e : Entry). e.place) (entries messages) es moved)
+  where
+    same : (ps : List ℕ) → places (map (entry_at messages) ps) ≡ ps
+    same [] = refl
+    same (p ∷ ps) = ap (λ l. p ∷ l) (same ps)
 
 pub sorted_places : (before : Id → Id → Bool) → IsStrictOrder before
     → (messages : List PlainMessage) → AreDistinct messages → (es : List Entry)

@@ -1,14 +1,14 @@
 -- Trees of places: what a bound leaves out, and the lists of children that are made.
 use Rattle.std.proofs.Common.{◌≡◌, ◌∙◌, ℕ, zero, suc, ◌+◌, ◌-◌, ◌<◌, ◌≤◌, Bool, true, false, List, []}
-use Rattle.std.proofs.Common.{◌∷◌, ◌++◌, length, map, reverse, Option, Some, None, option_map}
-use Rattle.std.proofs.Common.{refl, sym, ap, subst, ◌⊎◌, inl, inr, ⊎_elim, arith, nat_eq, eq-eqb, get_or, set, not}
-use Rattle.std.proofs.Common.{slice_index_or, is_none, if◌then◌else◌}
-use Rattle.std.proofs.lemmas.Bool.{cases_Bool, cases_lt, eqb-true, false≢true}
-use Rattle.std.proofs.lemmas.List.{get_or-set_other, get_or-set_same, get_or_past, reverse-append}
-use Rattle.std.proofs.lemmas.List.{append-nil, append_assoc, reverse-reverse, length-map}
+use Rattle.std.proofs.Common.{◌∷◌, ◌++◌, length, map, reverse, Option, Some, None}
+use Rattle.std.proofs.Common.{refl, sym, ap, subst, ⊎_elim, arith, nat_eq, eq-eqb, get_or, set}
+use Rattle.std.proofs.Common.{is_none, if◌then◌else◌}
+use Rattle.std.proofs.lemmas.Bool.{cases_lt, eqb-true, false≢true}
+use Rattle.std.proofs.lemmas.List.{get_or-set_other, get_or-set_same, reverse-append}
+use Rattle.std.proofs.lemmas.List.{append-nil, append_assoc}
 use Rattle.std.proofs.lemmas.List.Concat.{flat_map-append}
 use Rattle.std.proofs.lemmas.List.Elements.{filter-append}
-use Rattle.std.specs.List.{filter, flat_map, range_with_len}
+use Rattle.std.specs.List.{filter, flat_map}
 use Rattle.std.specs.Option.{option_map_or}
 use Rattle.threads.specs.Forest.{Ends, IsForest}
 use Rattle.threads.specs.Found.{LeadsBelow}

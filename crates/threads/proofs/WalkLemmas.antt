@@ -1,19 +1,18 @@
 -- How the marks and the way change while links are followed.
-use Rattle.std.proofs.Common.{◌≡◌, ◌≢◌, ◌∙◌, ℕ, zero, suc, ◌+◌, ◌-◌, ◌<◌, ◌≤◌, Bool, true, false}
-use Rattle.std.proofs.Common.{cond, ◌==◌}
+use Rattle.std.proofs.Common.{◌≡◌, ◌∙◌, ℕ, zero, suc, ◌+◌, ◌<◌, Bool, true, false}
+use Rattle.std.proofs.Common.{cond}
 use Rattle.std.proofs.Common.{List, [], ◌∷◌, ◌++◌, length, Option, Some, None, refl, sym, ap, subst}
 use Rattle.std.proofs.Common.{reverse}
-use Rattle.std.proofs.Common.{◌⊎◌, inl, inr, ⊎_elim, arith, get_or, set, slice_get, length-append}
-use Rattle.std.proofs.Common.{take, drop}
-use Rattle.std.proofs.lemmas.Bool.{cases_Bool, cases_eq, cases_lt, false_from_ne_true, false≢true}
+use Rattle.std.proofs.Common.{◌⊎◌, inl, inr, ⊎_elim, arith, set, slice_get}
+use Rattle.std.proofs.lemmas.Bool.{cases_eq, cases_lt, false≢true}
 use Rattle.std.proofs.lemmas.List.{get_or-set_same, get_or-set_other, get_or_past, length-set}
 use Rattle.std.proofs.lemmas.List.{length-reverse, reverse-append, length_push}
 use Rattle.std.proofs.lemmas.List.Sums.{sum_by-set}
 use Rattle.threads.specs.Cycles.{heads_cycle}
 use Rattle.threads.specs.Links.{target}
-use Rattle.threads.specs.Walk.{Each, CanEnd, EndsAt, Ends, Follows, IsClosed, IsEnded, IsWalk}
+use Rattle.threads.specs.Walk.{Each, CanEnd, EndsAt, Ends, IsClosed, IsWalk}
 use Rattle.threads.specs.Walk.{IsWay, KeepsSeen}
-use Rattle.threads.specs.Walk.{LeadsTo, OnlyOnWay, cut_target, is_unseen, mark_at, unseen}
+use Rattle.threads.specs.Walk.{LeadsTo, cut_target, is_unseen, mark_at, unseen}
 use Rattle.threads.specs.declared.walk.Mark.{Mark}
 use Rattle.threads.specs.declared.walk.Mark.TheVariants.{Unseen, OnWay, Ended}
 use Rattle.threads.specs.declared.step.Step.{Step}

@@ -1,5 +1,5 @@
 -- Messages in the order of threads: each root, and behind it all that follow it.
-use Rattle.std.specs.Prelude.{◌≡◌, ◌^◌, ◌<◌, ℕ, zero, suc, Bool, true, false, List, [], ◌∷◌, length}
+use Rattle.std.specs.Prelude.{◌≡◌, ◌^◌, ◌<◌, ℕ, zero, suc, Bool, false, List, [], ◌∷◌, length}
 use Rattle.std.specs.Prelude.{map, is_none, nat_eq, Option, if◌then◌else◌}
 use Rattle.std.specs.Cmp.{IsStrictWeakOrder}
 use Rattle.std.specs.Fn.{FnReturns, Shared}

@@ -1,5 +1,5 @@
 -- Threads of messages: parents and roots by ids.
-use Rattle.std.specs.Prelude.{◌==◌, ℕ, zero, suc, Bool, List, length, Option, Some, None, position}
+use Rattle.std.specs.Prelude.{ℕ, zero, suc, Bool, List, length, Option, Some, None, position}
 use Rattle.std.specs.Prelude.{nat_eq, option_and_then, option_map, slice_index_or}
 use Rattle.mail_base.specs.declared.kind.Id.{Id}
 use Rattle.threads.specs.Links.{target}

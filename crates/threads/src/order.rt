@@ -2,6 +2,7 @@
 
 ghost use Rattle.std.specs.Prelude.{◌≡◌, ◌<◌, ◌++◌, ◌∷◌, [], ℕ, List, length, map, replicate, reverse, Bool, IfOk, OnOk};
 ghost use Rattle.std.specs.List.{All, flat_map, range_with_len};
+ghost use Rattle.std.specs.List.Sorted.{IsPermutation};
 ghost use Rattle.std.specs.Ordering.{is_lt};
 ghost use Rattle.mail_base.specs.declared.kind.Id as id;
 ghost use Rattle.threads.specs.Families as spec;
@@ -67,6 +68,8 @@ pub fn sorted<B: Fn(Id, Id) -> bool>(
     requires distinct { AreDistinct (plain_messages messages.now) }
     ensures entries { IfOk result
         (λ e. spec.AreEntries (plain_messages messages.now) e.items) }
+    ensures moved { IfOk result
+        (λ e. IsPermutation (range_with_len 0 (length messages.now)) (spec.places e.items)) }
     ensures sorted { (order : id.Id → id.Id → Bool) → IsStrictOrder order
         → Answers B.Fn before.now order
         → IfOk result (λ e. spec.places e.items
@@ -176,6 +179,8 @@ pub fn ordered<B: Fn(Id, Id) -> bool>(
         → Answers B.Fn before.now order
         → IfOk result (λ ids. ids.items ≡ map (id_at (plain_messages messages.now))
         (thread_order (by_id order (plain_messages messages.now)) parents.now)) }
+    ensures once { IfOk result
+        (λ ids. IsPermutation (map (λ m. m.id) (plain_messages messages.now)) ids.items) }
 {
     let mut entries = sorted(alloc, messages, before)?;
     entries.reverse();

@@ -1,6 +1,7 @@
 //! Threads of messages, worked out once from a whole listing.
 
 ghost use Rattle.std.specs.Prelude.{◌≡◌, ◌==◌, ◌<◌, ◌++◌, ◌∷◌, [], length, map, slice_index, slice_index_or, true, false, None, is_some, option_map, Some, IsSome, IfSome, OnOk, OnErr, IfOk, if◌then◌else◌, Bool};
+ghost use Rattle.std.specs.List.Sorted.{IsPermutation};
 ghost use Rattle.headers.specs.Header.{plain_header};
 ghost use Rattle.mail_base.specs.declared.kind.Id as id;
 ghost use Rattle.threads.specs.Message as message;
@@ -166,6 +167,9 @@ impl Threads {
         ensures order { (by : id.Id → id.Id → Bool) → order.IsStrictOrder by
             → order.Answers B.Fn before.now by
             → IfOk result (λ ids. ids.items ≡ order.order_from by self.now) }
+        // Each message once, whatever `before` answers.
+        ensures once { IfOk result
+            (λ ids. IsPermutation (map (λ m. m.id) self.now.messages) ids.items) }
     {
         match &self.found {
             Some(found) => {

@@ -1,4 +1,4 @@
-use Rattle.std.proofs.Common.{subst, sym, ap, map, ◌∙◌, ◌≡◌, length}
+use Rattle.std.proofs.Common.{subst, ap, ◌∙◌}
 use Rattle.std.proofs.lemmas.List.{length-map}
 use Rattle.std.proofs.lemmas.Fn.{always_returns_same}
 use Rattle.std.specs.List.{range_with_len}
@@ -6,7 +6,7 @@ use Rattle.std.specs.List.Sorted.{IsPermutation}
 use Rattle.threads.specs.Message.{plain_message, plain_messages}
 use Rattle.threads.specs.Families.{places}
 use Rattle.threads.specs.Order.{by_id, in_order_by}
-use Rattle.threads.proofs.SortLemmas.{sorted_entries, sorted_places, on_ids}
+use Rattle.threads.proofs.SortLemmas.{moved_places, on_ids, sorted_entries, sorted_places}
 use Rattle.threads.proofs.order.sorted.Goals as goal
 
 pub returns-clause-entries : goal.returns-clause-entries
@@ -14,6 +14,15 @@ returns-clause-entries g c =
     sorted_entries (plain_messages c.args.messages.now) c.sort_by.new.self.items
     (subst (λ es. IsPermutation es c.sort_by.new.self.items) c.in_ok-entries.ensures
     c.sort_by.ensures.permutation)
+
+pub returns-clause-moved : goal.returns-clause-moved
+returns-clause-moved g c =
+    let ms = plain_messages c.args.messages.now in
+    subst (λ n. IsPermutation (range_with_len 0 n) (places c.sort_by.new.self.items))
+    (length-map c.args.messages.now plain_message)
+    (moved_places ms c.sort_by.new.self.items
+    (subst (λ es. IsPermutation es c.sort_by.new.self.items) c.in_ok-entries.ensures
+    c.sort_by.ensures.permutation))
 
 pub returns-clause-sorted : goal.returns-clause-sorted
 returns-clause-sorted g c = λ order strict answers.

@@ -1,6 +1,5 @@
 use Rattle.std.proofs.Common.{◌≡◌, ◌++◌, ◌<◌, ℕ, List, length, map, reverse}
 use Rattle.std.specs.List.{flat_map}
-use Rattle.mail_base.specs.declared.kind.Id.{Id}
 use Rattle.threads.specs.Families.{below}
 use Rattle.threads.specs.Message.{plain_messages}
 use Rattle.threads.specs.Order.{id_at, tree_of}

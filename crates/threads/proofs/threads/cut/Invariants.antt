@@ -1,7 +1,6 @@
 use Rattle.std.proofs.Common.{◌≡◌, ◌==◌, None, map, slice_index, slice_index_or}
 use Rattle.std.specs.Prelude.{if◌then◌else◌}
 use Rattle.std.specs.List.{range_with_len}
-use Rattle.threads.proofs.FoundLemmas.{cut_is}
 use Rattle.threads.proofs.threads.cut.Given as goal
 
 abbrev pub invariant-loop-place : goal.invariant-loop-place

@@ -1,6 +1,5 @@
-use Rattle.std.proofs.Common.{◌≡◌, ◌∙◌, ◌<◌, length, map, ap, subst, sym, slice_index}
+use Rattle.std.proofs.Common.{◌≡◌, ◌∙◌, ◌<◌, length, map, ap, subst, sym}
 use Rattle.std.proofs.lemmas.List.{length-map}
-use Rattle.std.proofs.lemmas.Result.{IfOk-weaker}
 use Rattle.threads.specs.Cycles.{reference_parents}
 use Rattle.threads.specs.Found.{AreWithin, cut_at_roots, root_above}
 use Rattle.threads.specs.Links.{links, target}

@@ -1,6 +1,5 @@
 use Rattle.std.proofs.Common.{◌∙◌, None, ap, sym, option_map, slice_index_or}
 use Rattle.threads.specs.declared.step.Step.{Step}
-use Rattle.threads.proofs.FoundLemmas.{cut_is}
 use Rattle.threads.proofs.threads.parent_at.Goals as goal
 
 pub id_at-requires : goal.id_at-requires

@@ -1,4 +1,4 @@
-use Rattle.std.proofs.Common.{◌∙◌, ◌<◌, length, ap, drop, subst, sym}
+use Rattle.std.proofs.Common.{◌<◌, length, drop, subst, sym}
 use Rattle.threads.specs.Walk.{Each, KeepsSeen, LeadsTo}
 use Rattle.threads.proofs.CloseLemmas.{cycle_closed, drop_within, seen-ended, slice_get-within}
 use Rattle.threads.proofs.WalkLemmas.{seen_within}

@@ -1,7 +1,6 @@
 use Rattle.std.proofs.Common.{◌≡◌, []}
 use Rattle.threads.specs.Message.{is_listed_before, plain_messages}
 use Rattle.threads.specs.Walk.{AreFollowed}
-use Rattle.threads.proofs.EndsLemmas.{all_end}
 use Rattle.threads.proofs.walk.ends_of.Given as goal
 
 abbrev pub invariant-loop-start : goal.invariant-loop-start

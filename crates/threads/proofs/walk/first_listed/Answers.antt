@@ -1,4 +1,4 @@
-use Rattle.std.proofs.Common.{◌≡◌, ◌∙◌, ◌+◌, ◌<◌, ℕ, Some, ap, false, length, slice_get}
+use Rattle.std.proofs.Common.{◌≡◌, ◌∙◌, ◌+◌, ◌<◌, ℕ, Some, ap, false, length}
 use Rattle.std.proofs.Common.{slice_index, subst, sym}
 use Rattle.threads.specs.Message.{is_listed_before, plain_messages}
 use Rattle.threads.proofs.OrderLemmas.{Each-at, first_kept, first_step, slice_get-index}

@@ -1,9 +1,7 @@
-use Rattle.std.proofs.Common.{◌≡◌, ◌∙◌, ℕ, ◌<◌, Bool, true, false, not, Some, length, reverse, sym}
-use Rattle.std.proofs.Common.{subst, refl, ap, arith, inl, inr, ⊎_elim}
-use Rattle.std.proofs.lemmas.Bool.{cases_Bool, false≢true}
-use Rattle.threads.specs.Links.{target}
+use Rattle.std.proofs.Common.{◌≡◌, ◌∙◌, ℕ, ◌<◌, Bool, true, false, not, Some, reverse, sym}
+use Rattle.std.proofs.Common.{subst, refl, ap, inr, ⊎_elim}
+use Rattle.std.proofs.lemmas.Bool.{false≢true}
 use Rattle.threads.specs.Walk.{IsWalk, KeepsSeen, LeadsTo, is_unseen, mark_at}
-use Rattle.threads.specs.declared.walk.Mark.TheVariants.{OnWay}
 use Rattle.threads.proofs.WalkLemmas.{entered, mark-same, reverse_push, seen-mark}
 use Rattle.threads.proofs.walk.follow.Goals as goal
 

@@ -1,7 +1,6 @@
-use Rattle.std.proofs.Common.{◌≡◌, ◌<◌, ℕ, Bool, false, List, [], Option, Some, length, reverse}
+use Rattle.std.proofs.Common.{◌≡◌, ◌<◌, ℕ, Bool, false, [], Some, length, reverse}
 use Rattle.std.proofs.Common.{◌⊎◌}
 use Rattle.threads.specs.Walk.{IsWalk, KeepsSeen, LeadsTo, is_unseen, mark_at, unseen}
-use Rattle.threads.proofs.WalkLemmas.{entered}
 use Rattle.threads.proofs.walk.follow.Given as goal
 
 abbrev pub invariant-loop-next : goal.invariant-loop-next

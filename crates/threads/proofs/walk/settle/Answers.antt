@@ -1,6 +1,6 @@
-use Rattle.std.proofs.Common.{◌<◌, ◌∙◌, length, reverse, subst, refl, arith}
+use Rattle.std.proofs.Common.{◌<◌, length, reverse, subst, refl, arith}
 use Rattle.std.proofs.lemmas.List.{nil_from_length}
-use Rattle.threads.specs.Walk.{CanEnd, Each, IsClosed, IsWalk}
+use Rattle.threads.specs.Walk.{CanEnd, Each, IsWalk}
 use Rattle.threads.specs.declared.walk.Mark.TheVariants.{Ended}
 use Rattle.threads.proofs.WalkLemmas.{reverse_push, seen-mark, settled, within-set}
 use Rattle.threads.proofs.walk.settle.Goals as goal

@@ -1,7 +1,6 @@
-use Rattle.std.proofs.Common.{◌≡◌, ℕ, ◌<◌, Bool, List, Option, length, reverse, vec_len}
+use Rattle.std.proofs.Common.{ℕ, ◌<◌, Bool, List, Option, length, reverse, vec_len}
 use Rattle.threads.specs.Walk.{Each, IsClosed, KeepsSeen}
 use Rattle.threads.specs.declared.step.Step.{Step}
-use Rattle.threads.proofs.WalkLemmas.{settled}
 use Rattle.threads.proofs.walk.settle.Given as goal
 
 abbrev pub invariant-loop-place : goal.invariant-loop-place

@@ -1,12 +1,11 @@
-use Rattle.std.proofs.Common.{◌≡◌, ◌∙◌, ◌++◌, ◌∷◌, [], None, Some, Bool, true, false, ap, is_some}
-use Rattle.std.proofs.Common.{length, map, nat_eq, sym}
+use Rattle.std.proofs.Common.{◌≡◌, ◌∙◌, ◌++◌, ◌∷◌, [], None, Some, false, ap, is_some}
+use Rattle.std.proofs.Common.{nat_eq, sym}
 use Rattle.std.specs.Prelude.{if◌then◌else◌, Option}
 use Rattle.std.specs.List.{list_any}
 use Rattle.std.proofs.lemmas.Bool.{false≢true}
 use Rattle.std.proofs.lemmas.List.{map_push}
 use Rattle.threads.specs.Message.{PlainMessage, numbers, plain_message, plain_messages}
 use Rattle.threads.specs.Threads.{place_of}
-use Rattle.threads.specs.declared.message.Message.{Message}
 use Rattle.threads.specs.declared.threads.Found.{Found}
 use Rattle.threads.proofs.FoundLemmas.{absent_number}
 use Rattle.threads.proofs.threads.Threads.add.Goals as goal

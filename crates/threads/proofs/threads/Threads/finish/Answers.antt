@@ -1,4 +1,4 @@
-use Rattle.std.proofs.Common.{◌≡◌, Some, ap, subst}
+use Rattle.std.proofs.Common.{◌≡◌, Some, subst}
 use Rattle.threads.specs.Forest.{IsForest}
 use Rattle.threads.specs.Found.{IsFound}
 use Rattle.threads.specs.Message.{plain_messages}

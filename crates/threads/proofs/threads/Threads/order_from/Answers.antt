@@ -1,11 +1,10 @@
-use Rattle.std.proofs.Common.{◌≡◌, ◌∙◌, ap, subst, sym, map, nat_eq}
+use Rattle.std.proofs.Common.{◌∙◌, ap, subst, sym, map, nat_eq}
 use Rattle.std.proofs.lemmas.Result.{IfOk-weaker}
 use Rattle.std.specs.List.{IsDistinct}
 use Rattle.threads.specs.Families.{CanOrder}
 use Rattle.threads.specs.Found.{IsFound}
 use Rattle.threads.specs.Message.{plain_messages}
 use Rattle.threads.specs.Order.{by_id, id_at, order_from, thread_order}
-use Rattle.threads.specs.Threads.{PlainThreads}
 use Rattle.threads.proofs.FamilyLemmas.{can_order}
 use Rattle.threads.proofs.threads.Threads.order_from.Goals as goal
 
@@ -23,18 +22,16 @@ ordered-requires-clause-parents g c =
     c.as_slice-in-Some.result.now (c.as_slice-in-Some.ensures.value ∙ found.the_parents)
     found.the_ends)
 
-pub returns-in-Some : goal.returns-in-Some
-returns-in-Some g c = record {
-  order = λ by strict answers.
-      let inside = c.self.inside in
-      let ms = plain_messages inside.messages.items in
-      let found : IsFound inside.options ms c.in-Some.found =
-      c.self.invariant.worked_out c.in-Some.found c.in-Some.is in
-      IfOk-weaker c.ordered.result _ _ (λ ids e. e
-      ∙ ap (λ l. map (id_at (plain_messages l))
-      (thread_order (by_id by (plain_messages l)) c.as_slice-in-Some.result.now))
-      c.as_slice.ensures.value
-      ∙ ap (λ l. map (id_at ms) (thread_order (by_id by ms) l))
-      (c.as_slice-in-Some.ensures.value ∙ found.the_parents)
-      ∙ ap (order_from by) c.self.view_is) (c.ordered.ensures.order by strict answers);
-}
+pub returns-in-Some-clause-order : goal.returns-in-Some-clause-order
+returns-in-Some-clause-order g c = λ by strict answers.
+    let inside = c.self.inside in
+    let ms = plain_messages inside.messages.items in
+    let found : IsFound inside.options ms c.in-Some.found =
+    c.self.invariant.worked_out c.in-Some.found c.in-Some.is in
+    IfOk-weaker c.ordered.result _ _ (λ ids e. e
+    ∙ ap (λ l. map (id_at (plain_messages l))
+    (thread_order (by_id by (plain_messages l)) c.as_slice-in-Some.result.now))
+    c.as_slice.ensures.value
+    ∙ ap (λ l. map (id_at ms) (thread_order (by_id by ms) l))
+    (c.as_slice-in-Some.ensures.value ∙ found.the_parents)
+    ∙ ap (order_from by) c.self.view_is) (c.ordered.ensures.order by strict answers)
