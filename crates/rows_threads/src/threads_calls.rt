@@ -1,21 +1,24 @@
 //! Cases of messages put into threads.
 
-ghost use Rattle.std.specs.Prelude.{◌≡◌, false, true, IfOk, OnOk};
+ghost use Rattle.std.specs.Prelude.{◌≡◌, false, true, nat_lt, IfOk, OnOk};
+ghost use Rattle.threads.specs.Order.{order_from};
 
 use case_files::{Answer, Case, CaseFault, Entry, Subject, read_number};
 use headers::read_header;
-use mail_base::Id;
+use mail_base::{Id, Ids, NoMemory};
 use std::alloc::Global;
 use threads::{Link, Parent, ThreadOptions, Threads};
 
 /// `options` are words of `strict`, `reply_only` and `duplicates`. Each `message ID` is a header,
 /// and stands in the listing by the number behind its id, or else by its id; it was received at
-/// that second. `parent` is the parent of each message, in the order of the case, and `root` its root.
+/// that second. `parent` is the parent of each message, in the order of the case, and `root` its root;
+/// `order` are the ids in the order of threads, where roots and siblings rise by their ids, or fall
+/// where `siblings` is `falling`.
 pub struct ThreadCalls;
 
 impl Subject for ThreadCalls {
     fn inputs(&self) -> &[&[u8]] {
-        &[b"options", b"message"]
+        &[b"options", b"message", b"siblings"]
     }
 
     fn answer(&self, alloc: Global, case: &Case) -> Result<Answer, CaseFault> {
@@ -23,6 +26,7 @@ impl Subject for ThreadCalls {
         let mut threads = added(alloc, case)?;
         threads.finish()?;
         tell(alloc, case, &threads, &mut answer)?;
+        tell_order(alloc, case, &threads, &mut answer)?;
         Ok(answer)
     }
 }
@@ -104,6 +108,39 @@ fn tell_one(alloc: Global, threads: &Threads, id: Id, answer: &mut Answer) -> Re
         None => answer.put_text(b"parent", "none")?,
     }
     answer.put_number(b"root", i64::from(threads.thread_of(id).0))
+}
+
+// The ids in the order of threads, where roots and siblings rise.
+fn rising(alloc: Global, threads: &Threads) -> Result<Ids, NoMemory>
+    requires { threads.now.is_finished ≡ true }
+    ensures { IfOk result (λ ids. ids.items ≡ order_from (λ a b. nat_lt a.0 b.0) threads.now) }
+{
+    threads.order_from(alloc, &|a: Id, b: Id| a.0 < b.0)
+}
+
+fn falling(alloc: Global, threads: &Threads) -> Result<Ids, NoMemory>
+    requires { threads.now.is_finished ≡ true }
+{
+    threads.order_from(alloc, &|a: Id, b: Id| b.0 < a.0)
+}
+
+fn tell_order(
+    alloc: Global,
+    case: &Case,
+    threads: &Threads,
+    answer: &mut Answer,
+) -> Result<(), CaseFault>
+    requires { threads.now.is_finished ≡ true }
+{
+    let ids = if case.find(b"siblings").unwrap_or(b"") == b"falling".as_slice() {
+        falling(alloc, threads)?
+    } else {
+        rising(alloc, threads)?
+    };
+    for id in ids.as_slice() {
+        answer.put_number(b"order", i64::from(id.0))?;
+    }
+    Ok(())
 }
 
 fn put_parent(alloc: Global, parent: Parent, answer: &mut Answer) -> Result<(), CaseFault> {
