@@ -65,6 +65,12 @@ IsContent limit (Whole read) tree path =
     (file_at tree path ≡ Some read.bytes.items) × (stamp_there (node_at tree path) ≡ read.stat.stamp)
     × (length read.bytes.items ≤ limit)
 
+-- what is too long has more bytes than so many
+abbrev pub IsPast : ℕ → Content → Type 0
+IsPast limit NoFile = Unit {0}
+IsPast limit (TooLong size) = limit < size
+IsPast limit (Whole read) = Unit {0}
+
 -- what stands there begins so
 abbrev pub IsFrontOf : Front → List TreeNode → List ℕ → Type 0
 IsFrontOf Free tree path = node_at tree path ≡ None

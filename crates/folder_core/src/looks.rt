@@ -80,8 +80,9 @@ pub fn content_of(
     path: &str,
     limit: u64,
 ) -> Result<Content, ScanError>
-    ensures { spec.Looked result (ReadAll path.now limit)
+    ensures looked { spec.Looked result (ReadAll path.now limit)
         (λ content tree. spec.IsContent limit content tree path.now) (seen disk.old) (seen disk.new) }
+    ensures long { IfOk result (spec.IsPast limit) }
 {
     match disk.read_all(alloc, path, limit) {
         Ok(read) => Ok(Content::Whole(read)),

@@ -1,3 +1,7 @@
 pub mod MaildirName
 pub mod BaseOrder
+pub mod Candidates
+pub mod Files
+pub mod Walk
+pub mod Scan
 pub mod Laws

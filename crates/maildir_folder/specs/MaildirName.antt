@@ -1,9 +1,8 @@
 -- Names of the files of a folder (maildir(5)): a base, and behind the last `:2,` the letters.
-use Rattle.std.specs.Prelude.{◌==◌, ◌-◌, ◌&&◌, ◌||◌, ℕ, zero, suc, Bool, false, not, nat_le, nat_lt}
-use Rattle.std.specs.Prelude.{List, [], ◌∷◌, ◌++◌, length, take, codes, Option, Some, None}
+use Rattle.std.specs.Prelude.{◌==◌, ◌&&◌, ℕ, zero, suc, Bool, not, nat_le, nat_lt}
+use Rattle.std.specs.Prelude.{List, [], ◌∷◌, ◌++◌, length, codes, Option, Some, None}
 use Rattle.std.specs.Prelude.{is_none, if◌then◌else◌}
-use Rattle.std.specs.List.{filter, list_any}
-use Rattle.std.specs.Option.{option_or}
+use Rattle.std.specs.List.{filter}
 use Rattle.std.specs.Str.{byte}
 use Rattle.mail_base.specs.declared.flags.Flags.{Flags}
 pub use Rattle.folder_core.specs.MaildirNames.{begins_dot, flags_of, has_letter, last_letters, mark, split_at_mark}

@@ -36,7 +36,7 @@ fn last_letters(name: &[u8]) -> Option<&[u8]>
 }
 
 // What stands before the last mark, and what stands behind it.
-fn split_name(name: &[u8]) -> (&[u8], &[u8])
+pub fn split_name(name: &[u8]) -> (&[u8], &[u8])
     ensures { (result.0.now, result.1.now) ≡ spec.split_name name.now }
 {
     match last_letters(name) {
@@ -51,7 +51,7 @@ fn has_letter(letters: &[u8], letter: u8) -> bool
     letters.contains(&letter)
 }
 
-fn flags_of(in_cur: bool, letters: &[u8]) -> Flags
+pub fn flags_of(in_cur: bool, letters: &[u8]) -> Flags
     ensures { result ≡ spec.flags_of in_cur letters.now }
 {
     let seen = has_letter(letters, b'S');

@@ -196,6 +196,7 @@ named_same name new n lines = by_there (any_has_name new lines)
     none : (t : Bool) → ((t && false) || false) ≡ false
     none true = refl
     none false = refl
+
     by_there : (t : Bool) → holds name n (if t then lines else lines ++ empty_line new ∷ []) ≡ holds name n lines
     by_there true = refl
     by_there false =

@@ -7,6 +7,7 @@ use crate::environment::command_words;
 use disk_model::Device;
 use folder_core::{Archive, Drivers};
 use mail_base::{RealClock, StdSink, StdSource};
+use maildir_folder::MaildirDriver;
 use mbox_folder::MboxDriver;
 use mutt_run::{Events, Status, Trace, run};
 use real_disk::RealDisk;
@@ -30,6 +31,9 @@ fn started(rt: &HostRuntime) -> io::Result<Status> {
     let mut dev = Device::new(Box::new(alloc, RealDisk::new(rt.clone()?))?);
     let mut drivers = Drivers::new(alloc);
     if drivers.add(Box::new(alloc, MboxDriver::new())?).is_err() {
+        return Ok(Status::NoMemory);
+    }
+    if drivers.add(Box::new(alloc, MaildirDriver::new())?).is_err() {
         return Ok(Status::NoMemory);
     }
     let mut trace = Trace {

@@ -3,7 +3,7 @@
 use case_disks::{disk_of, text_of};
 use case_files::{Answer, Case, CaseFault, Subject};
 use disk_model::Device;
-use folder_core::kind_of;
+use folder_core::{ScanError, kind_of};
 use mail_base::Kind;
 use std::alloc::Global;
 
@@ -25,7 +25,8 @@ impl Subject for FolderKinds {
         for entry in case.entries.as_slice() {
             if entry.key.as_slice() == b"path".as_slice() {
                 let path = text_of(entry.value.as_slice())?;
-                put_kind(alloc, &mut answer, &mut dev, path, empty)?;
+                let kind = kind_of(alloc, &mut dev, path, empty);
+                put_kind(alloc, &mut answer, kind)?;
             } else if entry.key.as_slice() == b"empty".as_slice() {
                 empty = kind_named(entry.value.as_slice());
             }
@@ -37,11 +38,9 @@ impl Subject for FolderKinds {
 fn put_kind(
     alloc: Global,
     answer: &mut Answer,
-    dev: &mut Device,
-    path: &str,
-    empty: Kind,
+    kind: Result<Kind, ScanError>,
 ) -> Result<(), CaseFault> {
-    match kind_of(alloc, dev, path, empty) {
+    match kind {
         Ok(kind) => answer.put_text(b"kind", kind_name(kind))?,
         Err(error) => answer.put_text(b"kind", format!(in alloc; "{error}")?.as_str())?,
     }

@@ -7,6 +7,7 @@ use case_files::{Answer, Case, CaseFault, Subject};
 use disk_model::{Device, Disk};
 use folder_core::{Archive, Drivers};
 use mail_base::{Bytes, MemoryClock, MemorySink, MemorySource, Words};
+use maildir_folder::MaildirDriver;
 use mbox_folder::MboxDriver;
 use mutt_run::{Event, Events, Trace, run};
 use std::alloc::Global;
@@ -89,6 +90,9 @@ fn end_of_run(
 ) -> Result<End, CaseFault> {
     let mut drivers = Drivers::new(alloc);
     if drivers.add(Box::new(alloc, MboxDriver::new())?).is_err() {
+        return Err(CaseFault::NoMemory);
+    }
+    if drivers.add(Box::new(alloc, MaildirDriver::new())?).is_err() {
         return Err(CaseFault::NoMemory);
     }
     let mut trace = Trace {

@@ -3,18 +3,22 @@
 use case_disks::{disk_of, text_of};
 use case_files::{Answer, Case, CaseFault, Subject};
 use disk_model::Device;
-use folder_core::{Archive, Driver, Known, Letter, Listed};
+use folder_core::{Archive, Driver, Found, Known, Letter, Listed, ScanError};
 use mail_base::{Flags, Kind};
+use maildir_folder::MaildirDriver;
 use mbox_folder::MboxDriver;
 use std::alloc::Global;
 
-/// Each `scan` is the path of a mailbox, into one archive. A listed message is its id and the
-/// letters of its flags, a letter its order, where its text begins, and when it was received.
+/// Each `scan` is the path of a mailbox, and each `maildir` that of a Maildir, into one archive. A
+/// listed message is its id and the letters of its flags, a letter its order, where its text
+/// begins, and when it was received.
 pub struct Scans;
 
 impl Subject for Scans {
     fn inputs(&self) -> &[&[u8]] {
-        &[b"file", b"folder", b"failing", b"stop", b"others", b"scan"]
+        &[
+            b"file", b"folder", b"failing", b"stop", b"others", b"scan", b"maildir",
+        ]
     }
 
     fn answer(&self, alloc: Global, case: &Case) -> Result<Answer, CaseFault> {
@@ -22,9 +26,11 @@ impl Subject for Scans {
         let mut dev = Device::new(Box::new(alloc, disk_of(alloc, case)?)?);
         let mut archive = Archive::new(alloc);
         for entry in case.entries.as_slice() {
+            let path = entry.value.as_slice();
             if entry.key.as_slice() == b"scan".as_slice() {
-                let path = text_of(entry.value.as_slice())?;
-                put_scan(alloc, &mut answer, &mut dev, path, &mut archive)?;
+                put_mailbox(alloc, &mut answer, &mut dev, text_of(path)?, &mut archive)?;
+            } else if entry.key.as_slice() == b"maildir".as_slice() {
+                put_maildir(alloc, &mut answer, &mut dev, text_of(path)?, &mut archive)?;
             }
         }
         answer.put_count(b"letters", archive.len())?;
@@ -35,8 +41,7 @@ impl Subject for Scans {
     }
 }
 
-/// Scans a mailbox of which nothing is known and puts what came, or why it was refused.
-fn put_scan(
+fn put_mailbox(
     alloc: Global,
     answer: &mut Answer,
     dev: &mut Device,
@@ -44,7 +49,30 @@ fn put_scan(
     archive: &mut Archive,
 ) -> Result<(), CaseFault> {
     let mut known = Known::new(alloc, path, Kind::Mbox)?;
-    match MboxDriver::new().scan(alloc, dev, &mut known, archive) {
+    let found = MboxDriver::new().scan(alloc, dev, &mut known, archive);
+    put_scan(alloc, answer, &known, found)
+}
+
+fn put_maildir(
+    alloc: Global,
+    answer: &mut Answer,
+    dev: &mut Device,
+    path: &str,
+    archive: &mut Archive,
+) -> Result<(), CaseFault> {
+    let mut known = Known::new(alloc, path, Kind::Maildir)?;
+    let found = MaildirDriver::new().scan(alloc, dev, &mut known, archive);
+    put_scan(alloc, answer, &known, found)
+}
+
+/// Puts what came by the scan of a folder of which nothing was known, or why it was refused.
+fn put_scan(
+    alloc: Global,
+    answer: &mut Answer,
+    known: &Known,
+    found: Result<Found, ScanError>,
+) -> Result<(), CaseFault> {
+    match found {
         Ok(found) => answer.put_count(b"came", found.came.len())?,
         Err(error) => answer.put_text(b"refused", format!(in alloc; "{error}")?.as_str())?,
     }
@@ -66,7 +94,9 @@ fn put_listed(alloc: Global, answer: &mut Answer, listed: &Listed) -> Result<(),
         aged,
         replied,
         flagged,
-        ..
+        passed,
+        draft,
+        trashed,
     } = listed.flags;
     let number = format!(in alloc; "{id} ")?;
     let letters = [
@@ -75,6 +105,9 @@ fn put_listed(alloc: Global, answer: &mut Answer, listed: &Listed) -> Result<(),
         letter_of(aged, "O"),
         letter_of(replied, "R"),
         letter_of(flagged, "F"),
+        letter_of(passed, "P"),
+        letter_of(draft, "D"),
+        letter_of(trashed, "T"),
     ];
     answer.put_joined(b"listed", &letters)
 }

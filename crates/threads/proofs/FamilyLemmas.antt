@@ -91,8 +91,13 @@ module _ (messages : List PlainMessage) (above : List (Option Step)) (es : List 
       (λ lt. ap reverse (made.children p lt) ∙ turned (is_child above p) es)
       (λ past.
       ap reverse (get_or_past (lists families.children.items) p []
-      (omega (arith, past, made.long, length-map families.children.items
-      (λ (v : Vec ℕ Global). v.items))))
+      (omega (
+        arith,
+        past,
+        made.long,
+        length-map families.children.items
+            (λ (v : Vec ℕ Global). v.items),
+      )))
       ∙ sym (none_below above p (places es) fits.leads past))
       (cases_lt p (length above))
 
@@ -127,7 +132,7 @@ module _ (messages : List PlainMessage) (above : List (Option Step)) (es : List 
             (id_at messages c);
       } in
       let passed : (test : ℕ → Bool) → filter test (places es)
-          ≡ in_order_by by (filter test (range_with_len 0 (length above))) =
+      ≡ in_order_by by (filter test (range_with_len 0 (length above))) =
       λ test. ap (filter test) (sorted
       ∙ ap (λ n. in_order_by by (range_with_len 0 n)) (sym fits.long))
       ∙ in_order_filter by weak test (range_with_len 0 (length above)) in
@@ -156,12 +161,12 @@ module _ (messages : List PlainMessage) (above : List (Option Step)) (es : List 
       (subst (Each (λ c. c < length above)) (sym (kids_are p))
       (filter_within (is_child above p) (length above) (places es) within)) (follow p) in
       let all : IsPermutation (range_with_len 0 (length above))
-          (flat_map (tree_of kids (length above)) (filter (is_root above) (places es))) =
+      (flat_map (tree_of kids (length above)) (filter (is_root above) (places es))) =
       all_once above kids leads fits.forest fits.leads (places es)
       (subst (λ n. IsPermutation (range_with_len 0 n) (places es)) (sym fits.long) moved)
       within kids_are in
       let here : IsPermutation (range_with_len 0 (length messages))
-          (flat_map (tree_of kids (length messages)) (reverse families.roots.items)) =
+      (flat_map (tree_of kids (length messages)) (reverse families.roots.items)) =
       subst (λ n. IsPermutation (range_with_len 0 n)
       (flat_map (tree_of kids n) (reverse families.roots.items))) fits.long
       (subst (λ r. IsPermutation (range_with_len 0 (length above))

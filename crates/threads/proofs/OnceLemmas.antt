@@ -99,7 +99,7 @@ module _ (parents : List (Option Step)) (xs : List ℕ) where
       let f = λ (p : ℕ). filter (is_child parents p) xs in
       let next : n + 1 ≡ suc n = omega arith in
       let split : flat_map f (range_with_len 0 (suc n))
-          ≡ flat_map f (range_with_len 0 n) ++ filter (is_child parents n) xs =
+      ≡ flat_map f (range_with_len 0 n) ++ filter (is_child parents n) xs =
       ap (λ k. flat_map f (range_with_len 0 k)) (sym next)
       ∙ ap (flat_map f) (range_more n)
       ∙ flat_map-append f (range_with_len 0 n) (n ∷ [])

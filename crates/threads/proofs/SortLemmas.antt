@@ -27,14 +27,13 @@ NeverFalls before (x ∷ y ∷ xs) = (before y x ≡ false) × NeverFalls before
 pub sorted_falls : {X : Type 0} (before : X → X → Bool) (xs : List X) → IsSortedBy before xs → NeverFalls before xs
 sorted_falls before [] sorted = tt
 sorted_falls before (x ∷ []) sorted = tt
-sorted_falls before (x ∷ y ∷ xs) sorted =
-    (
-      sorted 0 x (omega arith) (omega arith),
-      sorted_falls before (y ∷ xs) (λ k d low high.
-          let same : suc k + 1 ≡ suc (k + 1) = omega arith in
-          subst (λ (n : ℕ). before (slice_index_or (x ∷ y ∷ xs) n d) (slice_index_or (y ∷ xs) k d) ≡ false) same
-          (sorted (suc k) d (omega arith) (omega arith))),
-    )
+sorted_falls before (x ∷ y ∷ xs) sorted = (
+  sorted 0 x (omega arith) (omega arith),
+  sorted_falls before (y ∷ xs) (λ k d low high.
+      let same : suc k + 1 ≡ suc (k + 1) = omega arith in
+      subst (λ (n : ℕ). before (slice_index_or (x ∷ y ∷ xs) n d) (slice_index_or (y ∷ xs) k d) ≡ false) same
+      (sorted (suc k) d (omega arith) (omega arith))),
+)
 
 -- such a list is in order already
 pub in_order_same : {X : Type 0} (before : X → X → Bool) (xs : List X) → NeverFalls before xs
@@ -129,7 +128,6 @@ module _ {X : Type 0} (before : X → X → Bool) (o : IsStrictWeakOrder before)
   in_order_permutation xs ys moved =
       IsPermutation-keeps xs (λ (l : List X). in_order_by before l ≡ in_order_by before xs) refl
       (λ l i j first second is. swapped l i j first second ∙ is) ys moved
-
 
 -- A part of a list in order is in order.
 

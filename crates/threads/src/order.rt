@@ -144,11 +144,7 @@ fn put_all(stack: &mut Vec<usize>, places: &[usize]) -> Result<(), NoMemory>
 }
 
 /// The ids of the trees of some roots, of which the last stands first.
-pub fn walk(
-    alloc: Global,
-    messages: &[Message],
-    families: Families,
-) -> Result<Ids, NoMemory>
+pub fn walk(alloc: Global, messages: &[Message], families: Families) -> Result<Ids, NoMemory>
     requires long { length families.children.items ≡ length messages.now }
     requires within { Each (λ p. p < length messages.now) (reverse families.roots.items) }
     requires trees { spec.CanWalk (spec.below families.children.items) (length messages.now) }

@@ -13,8 +13,8 @@ ghost use Rattle.threads.specs.Threads as spec;
 
 use crate::links::links_of;
 use crate::message::{Message, kept_of};
-use crate::order::ordered;
 use crate::options::{Parent, ThreadOptions};
+use crate::order::ordered;
 use crate::step::Step;
 use crate::subjects::with_subjects;
 use crate::walk::ends_of;
@@ -173,7 +173,12 @@ impl Threads {
     {
         match &self.found {
             Some(found) => {
-                ordered(alloc, self.messages.as_slice(), found.parents.as_slice(), before)
+                ordered(
+                    alloc,
+                    self.messages.as_slice(),
+                    found.parents.as_slice(),
+                    before,
+                )
             }
             None => Ok(Ids::new(alloc)),
         }

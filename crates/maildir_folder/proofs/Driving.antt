@@ -1,0 +1,419 @@
+-- What a scan of a Maildir has seen, by its names and its walk.
+use Rattle.std.proofs.Common.{◌≡◌, ◌≤◌, ◌+◌, ◌++◌, ◌&&◌, ◌||◌, ◌⊎◌, inl, inr, ℕ, Bool, true, false, not, List, [], ◌∷◌}
+use Rattle.std.proofs.Common.{Option, Some, None, Ok, Err, length, map, nat_lt, is_none, is_some, if◌then◌else◌, refl, sym, ◌∙◌}
+use Rattle.std.proofs.Common.{ap, subst, arith}
+use Rattle.std.specs.Prelude.{option_map}
+use Rattle.std.specs.List.{filter}
+use Rattle.std.specs.Str.{bytes_eq}
+use Rattle.std.proofs.lemmas.Bool.{and_parts}
+use Rattle.mail_base.specs.Series.{Held}
+use Rattle.mail_base.specs.declared.kind.Kind.TheVariants.{Maildir}
+use Rattle.disk_model.specs.Journal.{ListDir, NoForeign, Own, Past}
+use Rattle.disk_model.specs.Judge.{GoesOn}
+use Rattle.disk_model.specs.Looking.{HasLooked, LooksOnly, OnlyLooks}
+use Rattle.disk_model.specs.Names.{names_in}
+use Rattle.disk_model.specs.Seen.{Seen}
+use Rattle.disk_model.specs.State.{tree_at}
+use Rattle.disk_model.specs.Tree.{TreeNode}
+use Rattle.disk_model.proofs.Looking.{looked_longer, looked_then}
+use Rattle.disk_model.proofs.Marks.{tree_at-longer, tree_at-looked}
+use Rattle.disk_model.proofs.Trees.{bytes_same}
+use Rattle.folder_core.specs.Directory.{file_at, is_folder_at, is_name, path_in}
+use Rattle.folder_core.specs.Known.{KnownFolder}
+use Rattle.folder_core.specs.Letters.{Mail}
+use Rattle.folder_core.specs.Limits.{list_refusal, most_bytes, most_letters, most_messages, sum_refusal, told_sum}
+use Rattle.folder_core.specs.Maildir.{AllStood, MaildirFile, StaysThere, comes_before, directory}
+use Rattle.folder_core.specs.Maildir.{files_in, is_maildir, is_shown, maildir_format, maildir_messages, maildir_reads}
+use Rattle.folder_core.specs.Maildir.{message_at, message_of, messages_behind}
+use Rattle.folder_core.specs.MaildirNames.{begins_dot, split_name}
+use Rattle.folder_core.specs.Message.{Message, bytes_together, has_key}
+use Rattle.folder_core.specs.Ordered.{in_order_by, put_by}
+use Rattle.folder_core.specs.Reads.{letters_from, listed_from}
+use Rattle.folder_core.specs.Scanned.{Saw, ids_from}
+use Rattle.folder_core.specs.declared.error.ScanError.{ScanError}
+use Rattle.folder_core.specs.declared.error.ScanError.TheVariants.{Missing, NotMailbox, TooMany, TooLarge, Unfinished}
+use Rattle.folder_core.specs.declared.error.ScanError.TheVariants.{ArchiveFull, Fault, NoMemory}
+use Rattle.folder_core.specs.declared.listing.Found.{Found}
+use Rattle.folder_core.specs.declared.listing.Listed.{Listed}
+use Rattle.folder_core.proofs.NamesIn.{file_held, holds_name}
+use Rattle.folder_core.proofs.SeenLemmas.{alone_foreign, goes_as, goes_then, longer_later, only_then, own_later, rose_later, saw_later}
+use Rattle.maildir_folder.specs.declared.candidates.Candidate.{Candidate}
+use Rattle.maildir_folder.specs.Candidates.{plain_file}
+use Rattle.maildir_folder.specs.Files.{CurSeen, FolderSeen, ListsFiles, NamesSeen, NewSeen}
+use Rattle.maildir_folder.specs.Walk.{Holds, IsIn, IsWalked, OnlyMeets, Store, WalkSeen}
+use Rattle.maildir_folder.specs.Scan.{FolderRefused, ListsFolder, MessagesSeen, ScansFolder}
+use Rattle.maildir_folder.proofs.Storing.{full_near, told_refusal}
+
+true_false : ◌≡◌ {A = Bool} true false → ⊥
+true_false e = cc
+
+-- A name that is there is among the files.
+
+in_left : (file : MaildirFile) (files more : List MaildirFile) → IsIn file files → IsIn file (files ++ more)
+in_left file [] more held = absurd held
+in_left file (other ∷ files) more (inl same) = inl same
+in_left file (other ∷ files) more (inr held) = inr (in_left file files more held)
+
+in_right : (file : MaildirFile) (files more : List MaildirFile) → IsIn file more → IsIn file (files ++ more)
+in_right file [] more held = held
+in_right file (other ∷ files) more held = inr (in_right file files more held)
+
+in_put : (before : MaildirFile → MaildirFile → Bool) (file first : MaildirFile) (files : List MaildirFile)
+    → (first ≡ file) ⊎ IsIn file files → IsIn file (put_by before first files)
+in_put before file first [] held = held
+in_put before file first (other ∷ files) held =
+    by_test (before other first) held (λ rest. in_put before file first files rest)
+  where
+    by_test : (t : Bool) → (first ≡ file) ⊎ IsIn file (other ∷ files)
+        → ((first ≡ file) ⊎ IsIn file files → IsIn file (put_by before first files))
+        → IsIn file (if t then other ∷ put_by before first files else first ∷ other ∷ files)
+    by_test false held again = held
+    by_test true (inl same) again = inr (again (inl same))
+    by_test true (inr (inl same)) again = inl same
+    by_test true (inr (inr held)) again = inr (again (inr held))
+
+in_order_held : (before : MaildirFile → MaildirFile → Bool) (file : MaildirFile) (files : List MaildirFile)
+    → IsIn file files → IsIn file (in_order_by before files)
+in_order_held before file [] held = held
+in_order_held before file (other ∷ files) (inl same) = in_put before file other (in_order_by before files) (inl same)
+in_order_held before file (other ∷ files) (inr held) =
+    in_put before file other (in_order_by before files) (inr (in_order_held before file files held))
+
+in_files_in : (in_cur : Bool) (name : List ℕ) (names : List (List ℕ)) → begins_dot name ≡ false
+    → holds_name name names ≡ true → IsIn (record { in_cur = in_cur; name = name }) (files_in in_cur names)
+in_files_in in_cur name [] shown held = absurd (true_false (sym held))
+in_files_in in_cur name (other ∷ names) shown held =
+    by_name (bytes_eq other name) (not (begins_dot other)) refl refl held
+    (λ rest. in_files_in in_cur name names shown rest)
+  where
+    by_name : (t k : Bool) → bytes_eq other name ≡ t → not (begins_dot other) ≡ k → (t || holds_name name names) ≡ true
+        → (holds_name name names ≡ true → IsIn (record { in_cur = in_cur; name = name }) (files_in in_cur names))
+        → IsIn (record { in_cur = in_cur; name = name })
+        (map (λ n. record { in_cur = in_cur; name = n }) (if k then other ∷ filter (λ n. not (begins_dot n)) names
+        else filter (λ n. not (begins_dot n)) names))
+    by_name true true same kept held again =
+        inl (ap (λ (n : List ℕ). record { in_cur = in_cur; name = n }) (bytes_same other name same))
+    by_name true false same kept held again =
+        absurd (true_false (ap not (sym shown) ∙ ap (λ (n : List ℕ). not (begins_dot n))
+        (sym (bytes_same other name same)) ∙ kept))
+    by_name false true same kept held again = inr (again held)
+    by_name false false same kept held again = again held
+
+some_mapped : (file : MaildirFile) (bytes : Option (List ℕ)) → is_some (option_map (message_of file) bytes) ≡ true
+    → is_some bytes ≡ true
+some_mapped file None some = some
+some_mapped file (Some bytes) some = refl
+
+not_true : (b : Bool) → not b ≡ true → b ≡ false
+not_true true is = absurd (true_false (sym is))
+not_true false is = refl
+
+-- a file that is there when its directory is listed is listed
+there_listed : (tree : List TreeNode) (path : List ℕ) (in_cur : Bool) (name : List ℕ) (names : List (List ℕ))
+    → names ≡ names_in tree (directory in_cur path) → is_shown name ≡ true
+    → is_some (message_at tree path (record { in_cur = in_cur; name = name })) ≡ true
+    → IsIn (record { in_cur = in_cur; name = name }) (files_in in_cur names)
+there_listed tree path in_cur name names told shown there =
+    let parts = and_parts (is_name name) (not (begins_dot name)) shown in
+    in_files_in in_cur name names (not_true (begins_dot name) parts.1)
+    (ap (holds_name name) told ∙ file_held tree (directory in_cur path) name parts.0
+    (some_mapped (record { in_cur = in_cur; name = name }) (file_at tree (path_in (directory in_cur path) name)) there))
+
+-- What was seen from the first look on.
+
+stood_earlier : (path : List ℕ) (from mid to : ℕ) (past : Past) (messages : List Message) → from ≤ mid
+    → AllStood path mid to past messages → AllStood path from to past messages
+stood_earlier path from mid to past [] low stood = tt
+stood_earlier path from mid to past (message ∷ messages) low stood =
+    let one = stood.0 in (
+      record {
+        mark = one.mark;
+        from = omega (arith, one.from, low);
+        to = one.to;
+        file = one.file;
+        shown = one.shown;
+        there = one.there;
+      },
+      stood_earlier path from mid to past messages low stood.1,
+    )
+
+-- the folder at a tree of each mark
+still_reads : (tree : List TreeNode) (path : List ℕ) (cur new : List (List ℕ)) (files : List MaildirFile)
+    (messages : List Message)
+    → files ≡ in_order_by comes_before (files_in true cur ++ files_in false new)
+    → is_folder_at tree path ≡ true
+    → (new ≡ names_in tree (directory false path)) × (file_at tree (directory false path) ≡ None)
+    → (cur ≡ names_in tree (directory true path)) × (is_folder_at tree (directory true path) ≡ true)
+    → messages ≡ messages_behind tree path None files → maildir_reads tree path ≡ Some messages
+still_reads tree path cur new files messages order folder news curs is =
+    let maildir : is_maildir tree path ≡ true =
+    λ i. folder i && curs.1 i && is_none (news.1 i) in
+    ap (λ (t : Bool). if t then Some (maildir_messages tree path) else None) maildir
+    ∙ ap Some (sym (is ∙ ap (messages_behind tree path None)
+    (order ∙ λ i. in_order_by comes_before (files_in true (curs.0 i) ++ files_in false (news.0 i)))))
+
+seen_messages : (path : List ℕ) (cur new : List (List ℕ)) (files : List MaildirFile) (messages : List Message)
+    (p q r : Past) → HasLooked p q → HasLooked q r
+    → files ≡ in_order_by comes_before (files_in true cur ++ files_in false new)
+    → NamesSeen path cur new p q → WalkSeen path files messages q r → MessagesSeen path messages p r
+seen_messages path cur new files messages p q r first next order names walk = record {
+  in_order = walk.in_order;
+  stood = stood_earlier path (length p.journal) (length q.journal) (length r.journal) r messages low walk.stood;
+  listed = curs.0.mark;
+  from = curs.0.from;
+  to = curs.0.to;
+  answer = curs.0.answer;
+  call = curs.0.own;
+  stayed = λ file shown stays. kept_by file.in_cur file.name shown stays;
+  moved = λ name new_name mark from below shown new_shown same before after.
+      let late : mark + 1 ≤ length q.journal = omega (arith, below, curs.1) in
+      subst (λ (b : List ℕ). has_key b messages ≡ true) same
+      (walk.kept (record { in_cur = true; name = new_name }) (in_cur new_name new_shown
+      (after curs.0.mark (omega (arith, below)) curs.0.to)) (λ m high to. after m (omega (arith, late, high)) to));
+  alone = λ alone.
+      let none : NoForeign p r = alone_foreign p r alone in
+      still_reads (tree_at r (length r.journal)) path cur new files messages order
+      (subst (λ (t : List TreeNode). is_folder_at t path ≡ true) (now none folder.mark folder.from) folder.tells)
+      (subst (λ (t : List TreeNode). (new ≡ names_in t (directory false path))
+      × (file_at t (directory false path) ≡ None)) (now none news.mark news.from) news.tells)
+      (subst (λ (t : List TreeNode). (cur ≡ names_in t (directory true path))
+      × (is_folder_at t (directory true path) ≡ true)) (now none curs.0.mark curs.0.from) curs.0.tells)
+      (walk.still (tree_at r (length r.journal)) (λ mark from to. now none mark (omega (arith, from, low))));
+}
+  where
+    low : length p.journal ≤ length q.journal
+    low = longer_later p q first
+
+    folder : FolderSeen path p r
+    folder = saw_later {Tells = λ tree. is_folder_at tree path ≡ true} p q r names.folder next
+
+    news : NewSeen path new p r
+    news = saw_later {Tells = λ tree. (new ≡ names_in tree (directory false path))
+        × (file_at tree (directory false path) ≡ None)} p q r names.new_names next
+
+    curs : (c : CurSeen path cur p r) × (c.mark ≤ length q.journal)
+    curs = (
+      record {
+        mark = names.cur_names.mark;
+        from = names.cur_names.from;
+        to = omega (arith, names.cur_names.to, longer_later q r next);
+        answer = names.cur_names.answer;
+        own = own_later names.cur_names.mark (Own (ListDir (directory true path)) names.cur_names.answer) q r next
+            names.cur_names.own;
+        tells = subst (λ (tree : List TreeNode). (cur ≡ names_in tree (directory true path))
+            × (is_folder_at tree (directory true path) ≡ true))
+            (sym (tree_at-longer q r names.cur_names.mark (looked_longer q r next) names.cur_names.to))
+            names.cur_names.tells;
+      },
+      names.cur_names.to,
+    )
+
+    now : NoForeign p r → (mark : ℕ) → length p.journal ≤ mark → tree_at r mark ≡ tree_at r (length r.journal)
+    now none mark from =
+        tree_at-looked p r mark (looked_then p q r first next) none from
+        ∙ sym (tree_at-looked p r (length r.journal) (looked_then p q r first next) none
+        (omega (arith, low, longer_later q r next)))
+
+    in_cur : (name : List ℕ) → is_shown name ≡ true
+        → is_some (message_at (tree_at r curs.0.mark) path (record { in_cur = true; name = name })) ≡ true
+        → IsIn (record { in_cur = true; name = name }) files
+    in_cur name shown there =
+        subst (IsIn (record { in_cur = true; name = name })) (sym order)
+        (in_order_held comes_before (record { in_cur = true; name = name }) (files_in true cur ++ files_in false new)
+        (in_left (record { in_cur = true; name = name }) (files_in true cur) (files_in false new)
+        (there_listed (tree_at r curs.0.mark) path true name cur curs.0.tells.0 shown there)))
+
+    in_new : (name : List ℕ) → is_shown name ≡ true
+        → is_some (message_at (tree_at r news.mark) path (record { in_cur = false; name = name })) ≡ true
+        → IsIn (record { in_cur = false; name = name }) files
+    in_new name shown there =
+        subst (IsIn (record { in_cur = false; name = name })) (sym order)
+        (in_order_held comes_before (record { in_cur = false; name = name }) (files_in true cur ++ files_in false new)
+        (in_right (record { in_cur = false; name = name }) (files_in true cur) (files_in false new)
+        (there_listed (tree_at r news.mark) path false name new news.tells.0 shown there)))
+
+    kept_by : (is_cur : Bool) (name : List ℕ) → is_shown name ≡ true
+        → StaysThere path (record { in_cur = is_cur; name = name }) (length p.journal) (length r.journal) r
+        → has_key (split_name name).0 messages ≡ true
+    kept_by true name shown stays =
+        walk.kept (record { in_cur = true; name = name })
+        (in_cur name shown (stays curs.0.mark curs.0.from curs.0.to)) (λ m from to. stays m (omega (arith, from, low)) to)
+    kept_by false name shown stays =
+        walk.kept (record { in_cur = false; name = name })
+        (in_new name shown (stays news.mark news.from news.to)) (λ m from to. stays m (omega (arith, from, low)) to)
+
+-- The messages that were found, from the first look to the last.
+pub record FolderWalked (path : List ℕ) (first store : Store) (old new : Option Past) : Type 0 where
+  pub messages : List Message
+  pub holds : Holds first messages store
+  pub saw : GoesOn (MessagesSeen path messages) old new
+
+pub folder_walked : (path : List ℕ) (files listed : List Candidate) (first store : Store) (a b c : Option Past)
+    → listed ≡ files → LooksOnly a b → LooksOnly b c → ListsFiles path files a b
+    → IsWalked path (map plain_file listed) first store b c → FolderWalked path first store a c
+folder_walked path files listed first store a b c same before next lists walked = record {
+  messages = walked.messages;
+  holds = walked.holds;
+  saw = goes_then a b c (λ p q r x y names walk.
+      seen_messages path lists.cur lists.new_names (map plain_file listed) walked.messages p q r x y
+      (ap (map plain_file) same ∙ lists.order.sorted) names walk) before next lists.saw walked.saw;
+}
+
+-- what is stored is refused as the messages are
+held_refusal : (first store : Store) (messages : List Message) → Holds first messages store
+    → sum_refusal store.letters store.count store.bytes ≡ list_refusal first.letters messages
+held_refusal first store messages held =
+    (λ i. sum_refusal (held.letters i) (held.count i) (held.bytes i))
+    ∙ told_refusal first.letters (length messages) (bytes_together messages)
+
+pub folder_listed : (path : List ℕ) (came : Held Listed) (first store : Store) (a c : Seen)
+    → first.letters ≡ length first.archive → came.items ≡ store.came
+    → sum_refusal store.letters store.count store.bytes ≡ None → OnlyLooks a c
+    → FolderWalked path first store a.told c.told → ListsFolder path first.archive store.archive (Ok came) a c
+folder_listed path came first store a c letters same none only w =
+    let taken : list_refusal first.letters w.messages ≡ None =
+    sym (held_refusal first store w.messages w.holds) ∙ none in
+    record {
+      ok = record {
+        messages = w.messages;
+        taken = subst (λ (n : ℕ). list_refusal n w.messages ≡ None) letters taken;
+        letters = w.holds.archive taken
+            ∙ ap (λ (n : ℕ). first.archive ++ letters_from maildir_format n w.messages) letters;
+        listed = same ∙ w.holds.came taken ∙ ap (λ (n : ℕ). listed_from n w.messages) letters;
+        saw = w.saw;
+      };
+      refused = tt;
+      full = λ is. absurd (cc);
+      only = only;
+      cause = λ is. absurd (cc);
+    }
+
+-- a limit
+abbrev IsLimit : ScanError → Type 0
+IsLimit Missing = ⊥
+IsLimit (NotMailbox place) = ⊥
+IsLimit (TooMany count) = Unit {0}
+IsLimit (TooLarge bytes) = Unit {0}
+IsLimit Unfinished = ⊥
+IsLimit ArchiveFull = Unit {0}
+IsLimit Fault = ⊥
+IsLimit NoMemory = ⊥
+
+limit_only : (letters count bytes : ℕ) (why : ScanError) → sum_refusal letters count bytes ≡ Some why → IsLimit why
+limit_only letters count bytes why is =
+    by_tests (nat_lt most_messages count) (nat_lt most_bytes bytes) (nat_lt most_letters (letters + count)) is
+  where
+    by_tests : (p q r : Bool)
+        → (if p then Some (TooMany count) else (if q then Some (TooLarge (told_sum bytes)) else
+        (if p then Some (TooMany count) else (if r then Some ArchiveFull else None)))) ≡ Some why
+        → IsLimit why
+    by_tests true q r is = let e : TooMany count ≡ why = cc in subst IsLimit e tt
+    by_tests false true r is = let e : TooLarge (told_sum bytes) ≡ why = cc in subst IsLimit e tt
+    by_tests false false true is = let e : ArchiveFull ≡ why = cc in subst IsLimit e tt
+    by_tests false false false is = absurd (cc)
+
+past_limit : (letters : ℕ) (path : List ℕ) (messages : List Message) (why : ScanError) (p q : Past) → IsLimit why
+    → list_refusal letters messages ≡ Some why → MessagesSeen path messages p q → FolderRefused letters path why p q
+past_limit letters path messages Missing p q limit is saw = absurd limit
+past_limit letters path messages (NotMailbox place) p q limit is saw = absurd limit
+past_limit letters path messages (TooMany count) p q limit is saw =
+    record { messages = messages; saw = saw; refused = is }
+past_limit letters path messages (TooLarge bytes) p q limit is saw =
+    record { messages = messages; saw = saw; refused = is }
+past_limit letters path messages Unfinished p q limit is saw = limit
+past_limit letters path messages ArchiveFull p q limit is saw =
+    record { messages = messages; saw = saw; refused = is }
+past_limit letters path messages Fault p q limit is saw = tt
+past_limit letters path messages NoMemory p q limit is saw = tt
+
+pub folder_refused : (path : List ℕ) (why : ScanError) (first store : Store) (a c : Seen)
+    → first.letters ≡ length first.archive
+    → sum_refusal store.letters store.count store.bytes ≡ Some why → OnlyLooks a c
+    → FolderWalked path first store a.told c.told → ListsFolder path first.archive store.archive (Err why) a c
+folder_refused path why first store a c letters some only w =
+    let limit : IsLimit why = limit_only store.letters store.count store.bytes why some in
+    let is : list_refusal (length first.archive) w.messages ≡ Some why =
+    subst (λ (n : ℕ). list_refusal n w.messages ≡ Some why) letters
+    (sym (held_refusal first store w.messages w.holds) ∙ some) in
+    record {
+      ok = tt;
+      refused = goes_as a.told c.told (λ p q saw.
+          past_limit (length first.archive) path w.messages why p q limit is saw) w.saw;
+      full = λ e. let full : why ≡ ArchiveFull = cc in
+          full_near (length first.archive) (length w.messages) (bytes_together w.messages) (is ∙ ap Some full);
+      only = only;
+      cause = λ e. let fault : why ≡ Fault = cc in absurd (subst IsLimit fault limit);
+    }
+
+-- a walk that failed
+pub walk_failed : (path : List ℕ) (archive new_archive : List Mail) (why : ScanError) (a b c : Seen) → OnlyLooks a b
+    → OnlyMeets {A = Unit {0}} (Err why) b c → ListsFolder path archive new_archive (Err why) a c
+walk_failed path archive new_archive why a b c before meets =
+    let only : OnlyLooks a c = only_then a b c before meets.only in
+    record {
+      ok = tt;
+      refused = goes_as a.told c.told (λ p q x. by_why p q meets.errors) only.looks;
+      full = λ e. let full : why ≡ ArchiveFull = cc in absurd (no_full full meets.errors);
+      only = only;
+      cause = λ e. let fault : why ≡ Fault = cc in
+          rose_later a.faults b.faults c.faults before.faults (meets.cause (ap Err fault));
+    }
+  where
+    by_why : (p q : Past) → (why ≡ Fault) ⊎ (why ≡ NoMemory) → FolderRefused (length archive) path why p q
+    by_why p q (inl is) = subst (λ (e : ScanError). FolderRefused (length archive) path e p q) (sym is) tt
+    by_why p q (inr is) = subst (λ (e : ScanError). FolderRefused (length archive) path e p q) (sym is) tt
+
+    no_full : why ≡ ArchiveFull → (why ≡ Fault) ⊎ (why ≡ NoMemory) → ⊥
+    no_full full (inl is) = cc
+    no_full full (inr is) = cc
+
+-- Found messages are new.
+
+new_ids : (id : ℕ) (messages : List Message)
+    → map (λ listed. listed.id) (listed_from id messages) ≡ ids_from id (listed_from id messages)
+new_ids id [] = refl
+new_ids id (message ∷ messages) = ap (λ ids. record { 0 = id } ∷ ids) (new_ids (id + 1) messages)
+
+each_letter : (id : ℕ) (messages : List Message)
+    → length (letters_from maildir_format id messages) ≡ length (listed_from id messages)
+each_letter id [] = refl
+each_letter id (message ∷ messages) = let more = each_letter (id + 1) messages in omega arith
+
+-- what is known of a folder whose messages are listed
+abbrev pub known_listed : KnownFolder → List Listed → KnownFolder
+known_listed known came = record known { listing = came; bytes = []; stamps = [] }
+
+pub known_scanned : (path : List ℕ) (archive new_archive : List Mail) (known new_known : KnownFolder) (found : Found)
+    (a c : Seen) → path ≡ known.path → new_known ≡ known_listed known found.came.items
+    → found.gone.items ≡ [] → found.reflagged.items ≡ []
+    → ListsFolder path archive new_archive (Ok found.came) a c
+    → ScansFolder archive new_archive known new_known (Ok found) a c
+known_scanned path archive new_archive known new_known found a c same put gone reflagged lists = record {
+  saw = subst (λ (k : KnownFolder). GoesOn (Saw Maildir archive new_archive k (Ok found)) a.told c.told) (sym put)
+      (goes_as a.told c.told (λ p q saw. record {
+        messages = lists.ok.messages;
+        saw = record {
+          saw = subst (λ (l : List ℕ). MessagesSeen l lists.ok.messages p q) same saw;
+          taken = lists.ok.taken;
+          bytes = refl;
+          stamps = refl;
+        };
+        letters = lists.ok.letters;
+        listed = lists.ok.listed;
+      }) lists.ok.saw);
+  lists = record {
+    none_gone = gone;
+    none_reflagged = reflagged;
+    ids = ap (map (λ l. l.id)) lists.ok.listed ∙ new_ids (length archive) lists.ok.messages
+        ∙ ap (ids_from (length archive)) (sym lists.ok.listed);
+    added = letters_from maildir_format (length archive) lists.ok.messages;
+    archived = lists.ok.letters;
+    each = each_letter (length archive) lists.ok.messages ∙ ap length (sym lists.ok.listed);
+    kept = subst (λ (k : KnownFolder). k ≡ record known
+        { listing = found.came.items; bytes = k.bytes; stamps = k.stamps }) (sym put) refl;
+  };
+  err_known = tt;
+  full = λ is. absurd (cc);
+  only = lists.only;
+  cause = λ is. absurd (cc);
+}
