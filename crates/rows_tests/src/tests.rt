@@ -106,7 +106,7 @@ fn the_system_tells_the_time(rt: HostRuntime) -> Result<(), Fail> {
     Ok(())
 }
 
-/// Takes each folder for no Maildir, and has no memory for those of other kinds.
+/// Takes each folder for no mailbox of MMDF, and has no memory for those of other kinds.
 #[derive(Drop)]
 struct FakeDriver {
     kind: Kind,
@@ -127,7 +127,7 @@ impl Driver for FakeDriver {
         _archive: &mut Archive,
     ) -> Result<Found, ScanError> {
         match self.kind {
-            Kind::Maildir => Err(ScanError::NotMailbox(0)),
+            Kind::Mmdf => Err(ScanError::NotMailbox(0)),
             _ => Err(ScanError::NoMemory),
         }
     }
@@ -140,8 +140,8 @@ fn each_kind_has_one_driver(rt: HostRuntime) -> Result<(), Fail> {
     for (kind, wanted) in [
         (Kind::Mbox, Ok(())),
         (Kind::Mbox, Err(DriversError::Twice)),
-        (Kind::Maildir, Ok(())),
-        (Kind::Maildir, Err(DriversError::Twice)),
+        (Kind::Mmdf, Ok(())),
+        (Kind::Mmdf, Err(DriversError::Twice)),
     ] {
         let driver = Box::new(alloc, FakeDriver { kind })?;
         assert_eq!(rt; drivers.add(driver), wanted, "{kind:?}");
@@ -152,7 +152,7 @@ fn each_kind_has_one_driver(rt: HostRuntime) -> Result<(), Fail> {
     let mut dev = Device::new(Box::new(alloc, disk)?);
     let mut archive = Archive::new(alloc);
     for (kind, wanted) in [
-        (Kind::Maildir, ScanError::NotMailbox(0)),
+        (Kind::Mmdf, ScanError::NotMailbox(0)),
         (Kind::Mbox, ScanError::NoMemory),
     ] {
         let mut known = Known::new(alloc, "a", kind)?;
