@@ -1,9 +1,6 @@
 -- What the parts of a time stamp are bounded by.
 use Rattle.std.specs.Prelude.{ℕ, ℤ, pos, neg_ℤ, ◌≤◌, ◌≤ℤ◌}
-
--- an offset from UTC in seconds, of less than a day
-abbrev pub IsOffset : ℤ → Type 0
-IsOffset offset = (neg_ℤ (pos 86_400) ≤ℤ offset) × (offset ≤ℤ pos 86_400)
+use Rattle.mail_base.specs.Zone.{IsOffset}
 
 -- a year of four digits and an offset
 abbrev pub IsEnding : ℕ × ℤ → Type 0

@@ -4,10 +4,11 @@ ghost use Rattle.std.specs.Prelude.{◌≡◌, ◌<◌, ◌≤◌, pos, ◌+ℤ�
 ghost use Rattle.std.specs.Char.{is_ascii_alphabetic};
 ghost use Rattle.std.specs.List.{list_all};
 ghost use Rattle.folder_core.specs.Mbox as spec;
-ghost use Rattle.mbox_folder.specs.Stamp.{IsEnding, IsMidnight, IsMonth, IsOffset};
+ghost use Rattle.mail_base.specs.Zone.{IsOffset};
+ghost use Rattle.mbox_folder.specs.Stamp.{IsEnding, IsMidnight, IsMonth};
 
 use jiff::civil::{Date, date};
-use mail_base::{behind_word, first_word};
+use mail_base::{behind_word, first_word, read_zone, two_digits};
 
 // The last second that a clock gives.
 const LAST_SECOND: i64 = 253_000_000_000;
@@ -90,17 +91,6 @@ fn one_digit(a: u8) -> Option<u8>
     }
 }
 
-fn two_digits(a: u8, b: u8) -> Option<u8>
-    ensures number { result ≡ spec.two_digits a b }
-    ensures bound { IfSome result (λ n. n < 100) }
-{
-    if a.is_ascii_digit() && b.is_ascii_digit() {
-        Some((a - b'0') * 10 + (b - b'0'))
-    } else {
-        None
-    }
-}
-
 fn day_of(word: &[u8]) -> Option<u8>
     ensures day { result ≡ spec.day_of word.now }
     ensures bound { IfSome result (λ day. day < 100) }
@@ -169,25 +159,7 @@ fn zone_of(word: &[u8]) -> Option<i32>
     if is_zone_name(word) {
         return Some(0);
     }
-    match word {
-        [sign, a, b, c, d] => offset_at(*sign, two_digits(*a, *b)?, two_digits(*c, *d)?),
-        _ => None,
-    }
-}
-
-fn offset_at(sign: u8, hours: u8, minutes: u8) -> Option<i32>
-    ensures offset { result ≡ spec.offset_at sign (Some hours) (Some minutes) }
-    ensures bound { IfSome result IsOffset }
-{
-    if hours > 23 || minutes > 59 {
-        return None;
-    }
-    let seconds = i32::from(hours) * 3600 + i32::from(minutes) * 60;
-    match sign {
-        b'+' => Some(seconds),
-        b'-' => Some(-seconds),
-        _ => None,
-    }
+    read_zone(word)
 }
 
 // The year and the offset of the zone, with which a stamp ends.

@@ -1,7 +1,7 @@
 -- The variables of muttrc: names, types, defaults and ranges (Mutt's manual, "Configuration
 -- variables").
 use Rattle.std.specs.Prelude.{ℕ, Bool, true, false, List, [], ◌∷◌, ◌++◌, Option, codes, map}
-use Rattle.std.specs.Prelude.{position, option_map, slice_get}
+use Rattle.std.specs.Prelude.{position, option_map, slice_get, is_some}
 use Rattle.std.specs.Str.{bytes_eq}
 use Rattle.rc_lang.specs.declared.quad.Quad.{Quad as FourWay}
 use Rattle.rc_lang.specs.declared.quad.Quad.TheVariants.{Yes, No, AskYes}
@@ -125,6 +125,10 @@ rows = map row_of variables
 -- the place of a name in the table
 abbrev pub place_of : List ℕ → Option ℕ
 place_of name = position (λ r. bytes_eq r.name name) rows
+
+-- the name of a variable
+abbrev pub is_variable : List ℕ → Bool
+is_variable name = is_some (place_of name)
 
 abbrev pub without_place : TableRow → Named
 without_place r = record { name = r.name; kind = r.kind }

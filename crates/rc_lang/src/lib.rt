@@ -23,4 +23,4 @@ pub use rc_lang_words::{
 };
 pub use settings::Settings;
 pub use value::Value;
-pub use variable::Variable;
+pub use variable::{Variable, is_variable};

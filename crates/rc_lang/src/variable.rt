@@ -144,6 +144,13 @@ pub fn find_variable(name: &[u8]) -> Option<usize>
     position_of(table(), name)
 }
 
+/// Whether a variable has the name.
+pub fn is_variable(name: &[u8]) -> bool
+    ensures { result ≡ spec.is_variable name.now }
+{
+    find_variable(name).is_some()
+}
+
 fn position_of(rows: &[Row], name: &[u8]) -> Option<usize>
     ensures value { result ≡ position (λ r. bytes_eq r.0.now name.now) rows.now }
     ensures within { IfSome result (λ place. place < length rows.now) }

@@ -36,15 +36,19 @@ fn has_word(case: &Case, word: &[u8]) -> bool {
     words.split(|byte| *byte == b' ').any(|w| w == word)
 }
 
-fn added(alloc: Global, case: &Case) -> Result<Threads, CaseFault>
-    ensures { IfOk result (λ t. t.is_finished ≡ false) }
-{
-    let options = ThreadOptions {
+/// The options that a case asks for, by their names.
+pub fn options_of(case: &Case) -> ThreadOptions {
+    ThreadOptions {
         strict: has_word(case, b"strict"),
         reply_only: has_word(case, b"reply_only"),
         duplicates: has_word(case, b"duplicates"),
-    };
-    let mut threads = Threads::new(alloc, options);
+    }
+}
+
+fn added(alloc: Global, case: &Case) -> Result<Threads, CaseFault>
+    ensures { IfOk result (λ t. t.is_finished ≡ false) }
+{
+    let mut threads = Threads::new(alloc, options_of(case));
     for entry in case.entries.as_slice() {
         add(alloc, &mut threads, entry)?;
     }

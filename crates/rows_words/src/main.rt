@@ -1,7 +1,8 @@
-//! The worked rows of muttrc, of keys and of formats: each case file is read, each case's call made
-//! and compared.
+//! The worked rows of command lines, muttrc, keys and formats: each case file is read, each case's
+//! call made and compared.
 #![tactic(auto)]
 
+mod command_lines;
 mod formats;
 mod key_functions;
 mod key_queues;
@@ -12,6 +13,7 @@ mod muttrc;
 mod presses;
 mod settings;
 
+use crate::command_lines::CommandLines;
 use crate::formats::Formats;
 use crate::key_functions::KeyFunctions;
 use crate::key_queues::KeyQueues;
@@ -35,6 +37,7 @@ fn main(rt: HostRuntime) -> io::Result<ExitCode> {
 
 /// Plays each case file, a line a file.
 fn play_all(rt: &HostRuntime, report: &mut Report) -> Result<(), NoMemory> {
+    play_file(rt, &CommandLines, "command_lines", report)?;
     play_file(rt, &MuttrcLines, "muttrc", report)?;
     play_file(rt, &SettingCommands, "settings", report)?;
     play_file(rt, &KeyFunctions, "key_functions", report)?;

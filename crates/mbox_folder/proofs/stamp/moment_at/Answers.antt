@@ -1,6 +1,7 @@
 use Rattle.std.proofs.Common.{arith}
 use Rattle.std.proofs.lemmas.Int.{ints, clamps}
-use Rattle.mbox_folder.specs.Stamp.{IsMidnight, IsOffset}
+use Rattle.mail_base.specs.Zone.{IsOffset}
+use Rattle.mbox_folder.specs.Stamp.{IsMidnight}
 use Rattle.mbox_folder.proofs.stamp.moment_at.Goals as goal
 
 pub returns : goal.returns
