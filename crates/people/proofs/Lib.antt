@@ -1,0 +1,5 @@
+pub mod LiteralLemmas
+pub mod PatternLemmas
+pub mod JudgedLemmas
+pub mod BuildLemmas
+pub mod PeopleLemmas

@@ -1,0 +1,27 @@
+//! The worked rows of expressions and of the tables of people: each case file is read, each case's
+//! calls made and compared.
+#![tactic(auto)]
+
+mod expressions;
+mod people_calls;
+
+use crate::expressions::Expressions;
+use crate::people_calls::PeopleCalls;
+use case_files::{Report, play_file, print_report};
+use mail_base::NoMemory;
+use std::io;
+use std::process::ExitCode;
+
+fn main(rt: HostRuntime) -> io::Result<ExitCode> {
+    let mut report = Report::new(rt.alloc());
+    match play_all(&rt, &mut report) {
+        Ok(()) => print_report(&rt, &report),
+        Err(NoMemory) => Ok(ExitCode::from(2)),
+    }
+}
+
+/// Plays each case file, a line a file.
+fn play_all(rt: &HostRuntime, report: &mut Report) -> Result<(), NoMemory> {
+    play_file(rt, &Expressions, "expressions", report)?;
+    play_file(rt, &PeopleCalls, "tables", report)
+}

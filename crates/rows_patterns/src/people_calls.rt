@@ -1,0 +1,109 @@
+//! Cases of the tables of people and of aliases.
+
+use case_files::{Answer, Case, CaseFault, Entry, Subject};
+use headers::read_header;
+use mail_base::Names;
+use people::{Expr, ExprError, People, PeopleTable, RegexBuild, Verdicts};
+use std::alloc::Global;
+
+/// `lists`, `subscribed` and `mine` are expressions of the three tables, and each `alias NAME` is
+/// the value of a name, added in the order of the case. `value` is what each `name` stands for, or
+/// `none`; `tables` are the tables in which each `address` is, each by its first letter, or `-`;
+/// `place` is the place in `to_chars` of each `header`.
+pub struct PeopleCalls;
+
+impl Subject for PeopleCalls {
+    fn inputs(&self) -> &[&[u8]] {
+        &[
+            b"lists",
+            b"subscribed",
+            b"mine",
+            b"alias",
+            b"name",
+            b"address",
+            b"header",
+        ]
+    }
+
+    fn answer(&self, alloc: Global, case: &Case) -> Result<Answer, CaseFault> {
+        let mut answer = Answer::new(alloc);
+        let builder = Box::new(alloc, RegexBuild::new(Names::new(alloc)))?;
+        let mut verdicts = Verdicts::new(alloc, builder);
+        let mut people = People::new(alloc);
+        for entry in case.entries.as_slice() {
+            play(alloc, entry, &mut verdicts, &mut people, &mut answer)?;
+        }
+        Ok(answer)
+    }
+}
+
+fn play(
+    alloc: Global,
+    entry: &Entry,
+    verdicts: &mut Verdicts,
+    people: &mut People,
+    answer: &mut Answer,
+) -> Result<(), CaseFault> {
+    let value = entry.value.as_slice();
+    match entry.role() {
+        b"lists" => add(alloc, people, PeopleTable::Lists, value, verdicts),
+        b"subscribed" => add(alloc, people, PeopleTable::Subscribed, value, verdicts),
+        b"mine" => add(alloc, people, PeopleTable::Mine, value, verdicts),
+        b"alias" => {
+            people.alias(entry.about(), value)?;
+            Ok(())
+        }
+        b"name" => put_value(people, value, answer),
+        b"address" => put_tables(people, value, answer),
+        b"header" => put_place(alloc, people, value, answer),
+        _ => Ok(()),
+    }
+}
+
+fn add(
+    alloc: Global,
+    people: &mut People,
+    table: PeopleTable,
+    text: &[u8],
+    verdicts: &mut Verdicts,
+) -> Result<(), CaseFault> {
+    match Expr::read(alloc, text, verdicts) {
+        Ok(expr) => {
+            people.add(table, expr)?;
+            Ok(())
+        }
+        Err(ExprError::NoMemory) => Err(CaseFault::NoMemory),
+        Err(_) => Err(CaseFault::BadInput),
+    }
+}
+
+fn put_value(people: &People, name: &[u8], answer: &mut Answer) -> Result<(), CaseFault> {
+    match people.expand_alias(name) {
+        Some(value) => answer.put(b"value", value.as_slice()),
+        None => answer.put_text(b"value", "none"),
+    }
+}
+
+fn put_tables(people: &mut People, address: &[u8], answer: &mut Answer) -> Result<(), CaseFault> {
+    let lists = people.is_in(PeopleTable::Lists, address)?;
+    let subscribed = people.is_in(PeopleTable::Subscribed, address)?;
+    let mine = people.is_in(PeopleTable::Mine, address)?;
+    answer.put_joined(
+        b"tables",
+        &[
+            if lists { "l" } else { "-" },
+            if subscribed { "s" } else { "-" },
+            if mine { "m" } else { "-" },
+        ],
+    )
+}
+
+fn put_place(
+    alloc: Global,
+    people: &mut People,
+    text: &[u8],
+    answer: &mut Answer,
+) -> Result<(), CaseFault> {
+    let header = read_header(alloc, text)?;
+    answer.put_number(b"place", i64::from(people.to_char(&header)?))
+}
