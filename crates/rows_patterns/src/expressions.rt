@@ -19,7 +19,15 @@ impl Subject for Expressions {
         let mut answer = Answer::new(alloc);
         let builder = Box::new(alloc, RegexBuild::new(sizes_of(alloc, case)?))?;
         let mut verdicts = Verdicts::new(alloc, builder);
-        put_searches(alloc, case, &mut verdicts, &mut answer)?;
+        let mut last = None;
+        for entry in case.entries.as_slice() {
+            let value = entry.value.as_slice();
+            if entry.role() == b"expr".as_slice() {
+                last = put_read(Expr::read(alloc, value, &mut verdicts), &mut answer)?;
+            } else if entry.role() == b"text".as_slice() {
+                put_found(&mut last, value, &mut answer)?;
+            }
+        }
         for place in 0..verdicts.len() {
             if let Some(judged) = verdicts.get(place) {
                 put_judged(alloc, judged, &mut answer)?;
@@ -37,24 +45,6 @@ fn sizes_of(alloc: Global, case: &Case) -> Result<Names, NoMemory> {
         }
     }
     Ok(sizes)
-}
-
-fn put_searches(
-    alloc: Global,
-    case: &Case,
-    verdicts: &mut Verdicts,
-    answer: &mut Answer,
-) -> Result<(), CaseFault> {
-    let mut last = None;
-    for entry in case.entries.as_slice() {
-        let value = entry.value.as_slice();
-        if entry.role() == b"expr".as_slice() {
-            last = put_read(Expr::read(alloc, value, verdicts), answer)?;
-        } else if entry.role() == b"text".as_slice() {
-            put_found(&mut last, value, answer)?;
-        }
-    }
-    Ok(())
 }
 
 fn put_read(read: Result<Expr, ExprError>, answer: &mut Answer) -> Result<Option<Expr>, CaseFault> {

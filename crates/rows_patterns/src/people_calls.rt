@@ -31,24 +31,49 @@ impl Subject for PeopleCalls {
         let mut verdicts = Verdicts::new(alloc, builder);
         let mut people = People::new(alloc);
         for entry in case.entries.as_slice() {
-            play(alloc, entry, &mut verdicts, &mut people, &mut answer)?;
+            let value = entry.value.as_slice();
+            match table_of(entry) {
+                Some(table) => add(&mut people, table, Expr::read(alloc, value, &mut verdicts))?,
+                None => play(alloc, entry, &mut people, &mut answer)?,
+            }
         }
         Ok(answer)
+    }
+}
+
+// The table to which an entry adds.
+fn table_of(entry: &Entry) -> Option<PeopleTable> {
+    match entry.role() {
+        b"lists" => Some(PeopleTable::Lists),
+        b"subscribed" => Some(PeopleTable::Subscribed),
+        b"mine" => Some(PeopleTable::Mine),
+        _ => None,
+    }
+}
+
+fn add(
+    people: &mut People,
+    table: PeopleTable,
+    read: Result<Expr, ExprError>,
+) -> Result<(), CaseFault> {
+    match read {
+        Ok(expr) => {
+            people.add(table, expr)?;
+            Ok(())
+        }
+        Err(ExprError::NoMemory) => Err(CaseFault::NoMemory),
+        Err(_) => Err(CaseFault::BadInput),
     }
 }
 
 fn play(
     alloc: Global,
     entry: &Entry,
-    verdicts: &mut Verdicts,
     people: &mut People,
     answer: &mut Answer,
 ) -> Result<(), CaseFault> {
     let value = entry.value.as_slice();
     match entry.role() {
-        b"lists" => add(alloc, people, PeopleTable::Lists, value, verdicts),
-        b"subscribed" => add(alloc, people, PeopleTable::Subscribed, value, verdicts),
-        b"mine" => add(alloc, people, PeopleTable::Mine, value, verdicts),
         b"alias" => {
             people.alias(entry.about(), value)?;
             Ok(())
@@ -57,23 +82,6 @@ fn play(
         b"address" => put_tables(people, value, answer),
         b"header" => put_place(alloc, people, value, answer),
         _ => Ok(()),
-    }
-}
-
-fn add(
-    alloc: Global,
-    people: &mut People,
-    table: PeopleTable,
-    text: &[u8],
-    verdicts: &mut Verdicts,
-) -> Result<(), CaseFault> {
-    match Expr::read(alloc, text, verdicts) {
-        Ok(expr) => {
-            people.add(table, expr)?;
-            Ok(())
-        }
-        Err(ExprError::NoMemory) => Err(CaseFault::NoMemory),
-        Err(_) => Err(CaseFault::BadInput),
     }
 }
 
