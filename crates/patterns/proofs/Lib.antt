@@ -1,0 +1,4 @@
+pub mod NumberLemmas
+pub mod Facts
+pub mod DaysLemmas
+pub mod PrintedLemmas

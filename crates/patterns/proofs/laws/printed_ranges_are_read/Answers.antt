@@ -1,0 +1,5 @@
+use Rattle.patterns.proofs.PrintedLemmas.{ranges_are_read}
+use Rattle.patterns.proofs.laws.printed_ranges_are_read.Goals as goal
+
+pub returns : goal.returns
+returns c = ranges_are_read

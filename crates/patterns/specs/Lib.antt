@@ -1,0 +1,11 @@
+pub mod Numbers
+pub mod Ranges
+pub mod Letters
+pub mod Arguments
+pub mod Trees
+pub mod Faults
+pub mod Tokens
+pub mod Patterns
+pub mod Days
+pub mod Dates
+pub mod Laws
