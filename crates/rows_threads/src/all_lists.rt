@@ -52,7 +52,8 @@ fn header_of(alloc: Global, sketch: Sketch) -> Result<Header, NoMemory> {
     let prefix = if sketch.is_reply { "Re: " } else { "" };
     let text = match sketch.reference {
         Some(above) => format!(in alloc;
-            "Message-ID: <{id}@x>\nReferences: <{above}@x>\nSubject: {prefix}t\n\n")?,
+            "Message-ID: <{id}@x>\nReferences: <{above}@x>\nSubject: {prefix}t\n\n"
+        )?,
         None => format!(in alloc; "Message-ID: <{id}@x>\nSubject: {prefix}t\n\n")?,
     };
     read_header(alloc, text.as_bytes())
@@ -133,7 +134,10 @@ impl Lists {
         requires { threads.old.is_finished ≡ false }
         ensures { OnOk result (threads.new.is_finished ≡ false) }
     {
-        let Some(header) = usize::try_from(number).ok().and_then(|n| self.headers.get(n)) else {
+        let Some(header) = usize::try_from(number)
+            .ok()
+            .and_then(|n| self.headers.get(n))
+        else {
             return Err(CaseFault::BadInput);
         };
         if threads.holds(Id(place)) {

@@ -50,7 +50,10 @@ impl Subject for Many {
         let Ok(count) = u32::try_from(case.number(b"messages")?.unwrap_or(0)) else {
             return Err(CaseFault::BadInput);
         };
-        answer.put_count(b"wrong", wrong_parents(alloc, Shape::of_case(case)?, count)?)?;
+        answer.put_count(
+            b"wrong",
+            wrong_parents(alloc, Shape::of_case(case)?, count)?,
+        )?;
         Ok(answer)
     }
 }
@@ -77,12 +80,7 @@ fn wrong_parents(alloc: Global, shape: Shape, count: u32) -> Result<usize, CaseF
     Ok(wrong)
 }
 
-fn add(
-    alloc: Global,
-    threads: &mut Threads,
-    shape: Shape,
-    number: u32,
-) -> Result<(), CaseFault>
+fn add(alloc: Global, threads: &mut Threads, shape: Shape, number: u32) -> Result<(), CaseFault>
     requires { threads.old.is_finished ≡ false }
     ensures { OnOk result (threads.new.is_finished ≡ false) }
 {
