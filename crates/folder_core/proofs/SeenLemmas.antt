@@ -1,6 +1,8 @@
 -- What looks have told stays told while others go on.
 use Rattle.std.proofs.Common.{◌≡◌, ◌≤◌, ◌<◌, ℕ, zero, suc, List, [], ◌∷◌, ◌++◌, Option, Some, None, length, take, drop}
-use Rattle.std.proofs.Common.{refl, sym, ◌∙◌, ap, subst, arith, slice_index_or, take_all, length-drop, ◌-◌}
+use Rattle.std.proofs.Common.{Err, refl, sym, ◌∙◌, ap, subst, arith, slice_index_or, take_all}
+use Rattle.std.proofs.Common.{length-drop, ◌-◌}
+use Rattle.std.proofs.lemmas.List.{length-take, take-append-drop, take-append-le}
 use Rattle.mail_base.specs.Faults.{Rose}
 use Rattle.disk_model.specs.Journal.{Call, Entry, NoForeign, Own, Past, has_foreign}
 use Rattle.disk_model.specs.Judge.{GoesOn}
@@ -10,7 +12,9 @@ use Rattle.disk_model.specs.Tree.{TreeNode}
 use Rattle.disk_model.proofs.Looking.{looked_longer, looks_same, looks_then}
 use Rattle.disk_model.proofs.Marks.{length_longer, tree_at-longer}
 use Rattle.folder_core.specs.Directory.{AloneBetween}
-use Rattle.folder_core.specs.Looked.{SawAt}
+use Rattle.folder_core.specs.Looked.{IsTreeOfAll, OnlyMeets, SawAt}
+use Rattle.folder_core.specs.declared.error.ScanError.{ScanError}
+use Rattle.folder_core.specs.declared.error.ScanError.TheVariants.{Fault}
 
 first_entry : (mark : ℕ) (entry : Entry) (entries more : List Entry) → take 1 (drop mark entries) ≡ entry ∷ []
     → take 1 (drop mark (entries ++ more)) ≡ entry ∷ []
@@ -104,3 +108,31 @@ pub alone_foreign : (old new : Past) → AloneBetween (length old.journal) (leng
 alone_foreign old new alone =
     ap has_foreign (sym (take_all (length new.journal - length old.journal) (drop (length old.journal) new.journal)
     (omega (arith, length-drop (length old.journal) new.journal)))) ∙ alone
+
+-- the tree of each mark was that of the marks before
+pub tree_before : (tree : List TreeNode) (old mid new : Past) → HasLooked mid new
+    → IsTreeOfAll tree old new
+    → IsTreeOfAll tree old mid
+tree_before tree old mid new looked all mark low high =
+    sym (tree_at-longer mid new mark (looked_longer mid new looked) high)
+    ∙ all mark low (omega (arith, high, longer_later mid new looked))
+
+-- what was at the front stays there
+pub front_then : {A : Type 0} (a b c : List A) → take (length a) b ≡ a → take (length b) c ≡ b
+    → take (length a) c ≡ a
+front_then a b c first next =
+    let low : length a ≤ length b = omega (arith, ap length first, length-take (length a) b) in
+    ap (take (length a)) (sym (take-append-drop (length b) c))
+    ∙ ap (λ (l : List _). take (length a) (l ++ drop (length b) c)) next
+    ∙ take-append-le (length a) b (drop (length b) c) low ∙ first
+
+-- a refusal behind other looks
+pub meets_later : {A B : Type 0} (why : ScanError) (a b c : Seen) → OnlyLooks a b
+    → OnlyMeets {A = A} (Err why) b c
+    → OnlyMeets {A = B} (Err why) a c
+meets_later why a b c before meets = record {
+  only = only_then a b c before meets.only;
+  cause = λ is. rose_later a.faults b.faults c.faults before.faults
+      (meets.cause (let e : why ≡ Fault = cc in ap Err e));
+  errors = meets.errors;
+}

@@ -3,7 +3,7 @@ use Rattle.std.specs.Prelude.{◌≡◌, ◌≤◌, ◌<◌, ◌⊎◌, ℕ, Boo
 use Rattle.std.specs.Prelude.{IfOk, IfErr, IsErrOf, is_some, length, map, take, drop}
 use Rattle.mail_base.specs.Faults.{Rose}
 use Rattle.disk_model.specs.Answers.{AreText}
-use Rattle.disk_model.specs.Journal.{Answer, Call, Own, Past}
+use Rattle.disk_model.specs.Journal.{Answer, Call, Own, Past, ReadAll}
 use Rattle.disk_model.specs.Judge.{GoesOn, stat_node}
 use Rattle.disk_model.specs.Looking.{OnlyLooks}
 use Rattle.disk_model.specs.Names.{names_in}
@@ -88,3 +88,25 @@ abbrev pub is_names : Contents → Bool
 is_names Nothing = false
 is_names File = false
 is_names (Names names) = true
+
+-- a file with these bytes and this stamp was met
+abbrev pub FileSeen : List ℕ → List ℕ → ℕ → Past → Past → Type 0
+FileSeen path bytes stamp old new =
+    (limit : ℕ) × SawAt (ReadAll path limit) (λ tree. (file_at tree path ≡ Some bytes)
+    × (stamp_there (node_at tree path) ≡ stamp)) old new
+
+-- no file was met
+abbrev pub NoFileSeen : List ℕ → Past → Past → Type 0
+NoFileSeen path old new = (limit : ℕ) × SawAt (ReadAll path limit)
+    (λ tree. file_at tree path ≡ None) old new
+
+-- a call looks only, and fails for a fault or for want of memory alone
+pub record OnlyMeets {A : Type 0} (result : Result A ScanError) (old new : Seen) : Type 0 where
+  pub only : OnlyLooks old new
+  pub cause : IsErrOf result Fault → Rose old.faults new.faults
+  pub errors : IfErr result (λ why. (why ≡ Fault) ⊎ (why ≡ NoMemory))
+
+-- the tree is the one of each mark
+abbrev pub IsTreeOfAll : List TreeNode → Past → Past → Type 0
+IsTreeOfAll tree old new = (mark : ℕ) → length old.journal ≤ mark → mark ≤ length new.journal
+    → tree_at new mark ≡ tree

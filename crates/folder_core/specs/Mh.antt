@@ -1,7 +1,11 @@
 -- A folder of a numbered file a message (mh-mail(5)), whose flags stand in the sequences of `.mh_sequences`.
-use Rattle.std.specs.Prelude.{◌≡◌, ◌≤◌, ℕ, pos, Bool, true, nat_lt, List, [], ◌∷◌, codes}
+use Rattle.std.specs.Prelude.{◌≡◌, ◌≤◌, ℕ, pos, Bool, true, List, [], ◌∷◌, codes}
 use Rattle.std.specs.Prelude.{Option, Some, None, is_some, option_and_then, unwrap_or, if◌then◌else◌}
-use Rattle.std.specs.List.{filter, filter_map}
+use Rattle.std.specs.Cmp.Lexicographic.{slice_cmp}
+use Rattle.std.specs.List.{dedup, filter, filter_map}
+use Rattle.std.specs.Ordering.{is_lt, nat_cmp, ordering_then}
+use Rattle.std.specs.Str.{bytes_eq}
+use Rattle.std.specs.declared.cmp.Ordering.{Ordering}
 use Rattle.disk_model.specs.Journal.{Past}
 use Rattle.disk_model.specs.Names.{names_in}
 use Rattle.disk_model.specs.State.{tree_at}
@@ -46,12 +50,16 @@ abbrev pub message_at : List TreeNode → List ℕ → List ℕ → List ℕ →
 message_at tree path sequences name =
     option_and_then (message_of sequences name) (file_at tree (path_in path name))
 
-abbrev pub comes_before : List ℕ → List ℕ → Bool
-comes_before name other = nat_lt (number_at name) (number_at other)
+-- by number; two names of one number, which there are not, by their bytes
+abbrev pub name_cmp : List ℕ → List ℕ → Ordering
+name_cmp a b = ordering_then (nat_cmp (number_at a) (number_at b)) (slice_cmp nat_cmp a b)
 
--- the numbers among the names, the lowest first
+abbrev pub comes_before : List ℕ → List ℕ → Bool
+comes_before a b = is_lt (name_cmp a b)
+
+-- the numbers among the names, the lowest first, each once
 abbrev pub numbers_of : List (List ℕ) → List (List ℕ)
-numbers_of names = in_order_by comes_before (filter is_number names)
+numbers_of names = dedup bytes_eq (in_order_by comes_before (filter is_number names))
 
 abbrev pub mh_messages : List TreeNode → List ℕ → List Message
 mh_messages tree path =

@@ -1,48 +1,40 @@
 -- What a scan of a Maildir has seen, by its names and its walk.
-use Rattle.std.proofs.Common.{◌≡◌, ◌≤◌, ◌+◌, ◌++◌, ◌&&◌, ◌||◌, ◌⊎◌, inl, inr, ℕ, Bool, true, false, not, List, [], ◌∷◌}
-use Rattle.std.proofs.Common.{Option, Some, None, Ok, Err, length, map, nat_lt, is_none, is_some, if◌then◌else◌, refl, sym, ◌∙◌}
+use Rattle.std.proofs.Common.{◌≡◌, ◌≤◌, ◌+◌, ◌++◌, ◌&&◌, ◌||◌, inl, inr, ℕ, Bool, true, false, not}
+use Rattle.std.proofs.Common.{List, [], ◌∷◌}
+use Rattle.std.proofs.Common.{Option, Some, None, length, map, is_none, is_some, if◌then◌else◌}
+use Rattle.std.proofs.Common.{refl, sym, ◌∙◌}
 use Rattle.std.proofs.Common.{ap, subst, arith}
 use Rattle.std.specs.Prelude.{option_map}
 use Rattle.std.specs.List.{filter}
 use Rattle.std.specs.Str.{bytes_eq}
 use Rattle.std.proofs.lemmas.Bool.{and_parts}
-use Rattle.mail_base.specs.Series.{Held}
-use Rattle.mail_base.specs.declared.kind.Kind.TheVariants.{Maildir}
 use Rattle.disk_model.specs.Journal.{ListDir, NoForeign, Own, Past}
-use Rattle.disk_model.specs.Judge.{GoesOn}
-use Rattle.disk_model.specs.Looking.{HasLooked, LooksOnly, OnlyLooks}
+use Rattle.disk_model.specs.Looking.{HasLooked, LooksOnly}
 use Rattle.disk_model.specs.Names.{names_in}
-use Rattle.disk_model.specs.Seen.{Seen}
 use Rattle.disk_model.specs.State.{tree_at}
 use Rattle.disk_model.specs.Tree.{TreeNode}
 use Rattle.disk_model.proofs.Looking.{looked_longer, looked_then}
 use Rattle.disk_model.proofs.Marks.{tree_at-longer, tree_at-looked}
 use Rattle.disk_model.proofs.Trees.{bytes_same}
 use Rattle.folder_core.specs.Directory.{file_at, is_folder_at, is_name, path_in}
-use Rattle.folder_core.specs.Known.{KnownFolder}
-use Rattle.folder_core.specs.Letters.{Mail}
-use Rattle.folder_core.specs.Limits.{list_refusal, most_bytes, most_letters, most_messages, sum_refusal, told_sum}
 use Rattle.folder_core.specs.Maildir.{AllStood, MaildirFile, StaysThere, comes_before, directory}
 use Rattle.folder_core.specs.Maildir.{files_in, is_maildir, is_shown, maildir_format, maildir_messages, maildir_reads}
 use Rattle.folder_core.specs.Maildir.{message_at, message_of, messages_behind}
 use Rattle.folder_core.specs.MaildirNames.{begins_dot, split_name}
-use Rattle.folder_core.specs.Message.{Message, bytes_together, has_key}
-use Rattle.folder_core.specs.Ordered.{in_order_by, put_by}
-use Rattle.folder_core.specs.Reads.{letters_from, listed_from}
-use Rattle.folder_core.specs.Scanned.{Saw, ids_from}
-use Rattle.folder_core.specs.declared.error.ScanError.{ScanError}
-use Rattle.folder_core.specs.declared.error.ScanError.TheVariants.{Missing, NotMailbox, TooMany, TooLarge, Unfinished}
-use Rattle.folder_core.specs.declared.error.ScanError.TheVariants.{ArchiveFull, Fault, NoMemory}
-use Rattle.folder_core.specs.declared.listing.Found.{Found}
-use Rattle.folder_core.specs.declared.listing.Listed.{Listed}
+use Rattle.folder_core.specs.Message.{Message, has_key}
+use Rattle.folder_core.specs.Ordered.{in_order_by}
 use Rattle.folder_core.proofs.NamesIn.{file_held, holds_name}
-use Rattle.folder_core.proofs.SeenLemmas.{alone_foreign, goes_as, goes_then, longer_later, only_then, own_later, rose_later, saw_later}
+use Rattle.folder_core.proofs.SeenLemmas.{alone_foreign, goes_then, longer_later, own_later}
+use Rattle.folder_core.proofs.SeenLemmas.{saw_later}
 use Rattle.maildir_folder.specs.declared.candidates.Candidate.{Candidate}
 use Rattle.maildir_folder.specs.Candidates.{plain_file}
 use Rattle.maildir_folder.specs.Files.{CurSeen, FolderSeen, ListsFiles, NamesSeen, NewSeen}
-use Rattle.maildir_folder.specs.Walk.{Holds, IsIn, IsWalked, OnlyMeets, Store, WalkSeen}
-use Rattle.maildir_folder.specs.Scan.{FolderRefused, ListsFolder, MessagesSeen, ScansFolder}
-use Rattle.maildir_folder.proofs.Storing.{full_near, told_refusal}
+use Rattle.maildir_folder.specs.Walk.{IsWalked, WalkSeen}
+use Rattle.maildir_folder.specs.Scan.{MessagesSeen}
+use Rattle.folder_core.proofs.FirstScanLemmas.{FolderWalked}
+use Rattle.folder_core.proofs.OrderedLemmas.{in_order_held}
+use Rattle.folder_core.specs.ListedSoFar.{Store}
+use Rattle.folder_core.specs.Ordered.{IsIn}
 
 true_false : ◌≡◌ {A = Bool} true false → ⊥
 true_false e = cc
@@ -58,37 +50,18 @@ in_right : (file : MaildirFile) (files more : List MaildirFile) → IsIn file mo
 in_right file [] more held = held
 in_right file (other ∷ files) more held = inr (in_right file files more held)
 
-in_put : (before : MaildirFile → MaildirFile → Bool) (file first : MaildirFile) (files : List MaildirFile)
-    → (first ≡ file) ⊎ IsIn file files → IsIn file (put_by before first files)
-in_put before file first [] held = held
-in_put before file first (other ∷ files) held =
-    by_test (before other first) held (λ rest. in_put before file first files rest)
-  where
-    by_test : (t : Bool) → (first ≡ file) ⊎ IsIn file (other ∷ files)
-        → ((first ≡ file) ⊎ IsIn file files → IsIn file (put_by before first files))
-        → IsIn file (if t then other ∷ put_by before first files else first ∷ other ∷ files)
-    by_test false held again = held
-    by_test true (inl same) again = inr (again (inl same))
-    by_test true (inr (inl same)) again = inl same
-    by_test true (inr (inr held)) again = inr (again (inr held))
-
-in_order_held : (before : MaildirFile → MaildirFile → Bool) (file : MaildirFile) (files : List MaildirFile)
-    → IsIn file files → IsIn file (in_order_by before files)
-in_order_held before file [] held = held
-in_order_held before file (other ∷ files) (inl same) = in_put before file other (in_order_by before files) (inl same)
-in_order_held before file (other ∷ files) (inr held) =
-    in_put before file other (in_order_by before files) (inr (in_order_held before file files held))
-
 in_files_in : (in_cur : Bool) (name : List ℕ) (names : List (List ℕ)) → begins_dot name ≡ false
-    → holds_name name names ≡ true → IsIn (record { in_cur = in_cur; name = name }) (files_in in_cur names)
+    → holds_name name names ≡ true → IsIn {A = MaildirFile}
+    (record { in_cur = in_cur; name = name }) (files_in in_cur names)
 in_files_in in_cur name [] shown held = absurd (true_false (sym held))
 in_files_in in_cur name (other ∷ names) shown held =
     by_name (bytes_eq other name) (not (begins_dot other)) refl refl held
     (λ rest. in_files_in in_cur name names shown rest)
   where
     by_name : (t k : Bool) → bytes_eq other name ≡ t → not (begins_dot other) ≡ k → (t || holds_name name names) ≡ true
-        → (holds_name name names ≡ true → IsIn (record { in_cur = in_cur; name = name }) (files_in in_cur names))
-        → IsIn (record { in_cur = in_cur; name = name })
+        → (holds_name name names ≡ true → IsIn {A = MaildirFile}
+        (record { in_cur = in_cur; name = name }) (files_in in_cur names))
+        → IsIn {A = MaildirFile} (record { in_cur = in_cur; name = name })
         (map (λ n. record { in_cur = in_cur; name = n }) (if k then other ∷ filter (λ n. not (begins_dot n)) names
         else filter (λ n. not (begins_dot n)) names))
     by_name true true same kept held again =
@@ -112,7 +85,7 @@ not_true false is = refl
 there_listed : (tree : List TreeNode) (path : List ℕ) (in_cur : Bool) (name : List ℕ) (names : List (List ℕ))
     → names ≡ names_in tree (directory in_cur path) → is_shown name ≡ true
     → is_some (message_at tree path (record { in_cur = in_cur; name = name })) ≡ true
-    → IsIn (record { in_cur = in_cur; name = name }) (files_in in_cur names)
+    → IsIn {A = MaildirFile} (record { in_cur = in_cur; name = name }) (files_in in_cur names)
 there_listed tree path in_cur name names told shown there =
     let parts = and_parts (is_name name) (not (begins_dot name)) shown in
     in_files_in in_cur name names (not_true (begins_dot name) parts.1)
@@ -216,18 +189,18 @@ seen_messages path cur new files messages p q r first next order names walk = re
 
     in_cur : (name : List ℕ) → is_shown name ≡ true
         → is_some (message_at (tree_at r curs.0.mark) path (record { in_cur = true; name = name })) ≡ true
-        → IsIn (record { in_cur = true; name = name }) files
+        → IsIn {A = MaildirFile} (record { in_cur = true; name = name }) files
     in_cur name shown there =
-        subst (IsIn (record { in_cur = true; name = name })) (sym order)
+        subst (IsIn {A = MaildirFile} (record { in_cur = true; name = name })) (sym order)
         (in_order_held comes_before (record { in_cur = true; name = name }) (files_in true cur ++ files_in false new)
         (in_left (record { in_cur = true; name = name }) (files_in true cur) (files_in false new)
         (there_listed (tree_at r curs.0.mark) path true name cur curs.0.tells.0 shown there)))
 
     in_new : (name : List ℕ) → is_shown name ≡ true
         → is_some (message_at (tree_at r news.mark) path (record { in_cur = false; name = name })) ≡ true
-        → IsIn (record { in_cur = false; name = name }) files
+        → IsIn {A = MaildirFile} (record { in_cur = false; name = name }) files
     in_new name shown there =
-        subst (IsIn (record { in_cur = false; name = name })) (sym order)
+        subst (IsIn {A = MaildirFile} (record { in_cur = false; name = name })) (sym order)
         (in_order_held comes_before (record { in_cur = false; name = name }) (files_in true cur ++ files_in false new)
         (in_right (record { in_cur = false; name = name }) (files_in true cur) (files_in false new)
         (there_listed (tree_at r news.mark) path false name new news.tells.0 shown there)))
@@ -242,178 +215,15 @@ seen_messages path cur new files messages p q r first next order names walk = re
         walk.kept (record { in_cur = false; name = name })
         (in_new name shown (stays news.mark news.from news.to)) (λ m from to. stays m (omega (arith, from, low)) to)
 
--- The messages that were found, from the first look to the last.
-pub record FolderWalked (path : List ℕ) (first store : Store) (old new : Option Past) : Type 0 where
-  pub messages : List Message
-  pub holds : Holds first messages store
-  pub saw : GoesOn (MessagesSeen path messages) old new
-
+-- the messages that were found, from the first look to the last
 pub folder_walked : (path : List ℕ) (files listed : List Candidate) (first store : Store) (a b c : Option Past)
     → listed ≡ files → LooksOnly a b → LooksOnly b c → ListsFiles path files a b
-    → IsWalked path (map plain_file listed) first store b c → FolderWalked path first store a c
+    → IsWalked path (map plain_file listed) first store b c
+    → FolderWalked maildir_format (MessagesSeen path) first store a c
 folder_walked path files listed first store a b c same before next lists walked = record {
   messages = walked.messages;
   holds = walked.holds;
   saw = goes_then a b c (λ p q r x y names walk.
       seen_messages path lists.cur lists.new_names (map plain_file listed) walked.messages p q r x y
       (ap (map plain_file) same ∙ lists.order.sorted) names walk) before next lists.saw walked.saw;
-}
-
--- what is stored is refused as the messages are
-held_refusal : (first store : Store) (messages : List Message) → Holds first messages store
-    → sum_refusal store.letters store.count store.bytes ≡ list_refusal first.letters messages
-held_refusal first store messages held =
-    (λ i. sum_refusal (held.letters i) (held.count i) (held.bytes i))
-    ∙ told_refusal first.letters (length messages) (bytes_together messages)
-
-pub folder_listed : (path : List ℕ) (came : Held Listed) (first store : Store) (a c : Seen)
-    → first.letters ≡ length first.archive → came.items ≡ store.came
-    → sum_refusal store.letters store.count store.bytes ≡ None → OnlyLooks a c
-    → FolderWalked path first store a.told c.told → ListsFolder path first.archive store.archive (Ok came) a c
-folder_listed path came first store a c letters same none only w =
-    let taken : list_refusal first.letters w.messages ≡ None =
-    sym (held_refusal first store w.messages w.holds) ∙ none in
-    record {
-      ok = record {
-        messages = w.messages;
-        taken = subst (λ (n : ℕ). list_refusal n w.messages ≡ None) letters taken;
-        letters = w.holds.archive taken
-            ∙ ap (λ (n : ℕ). first.archive ++ letters_from maildir_format n w.messages) letters;
-        listed = same ∙ w.holds.came taken ∙ ap (λ (n : ℕ). listed_from n w.messages) letters;
-        saw = w.saw;
-      };
-      refused = tt;
-      full = λ is. absurd (cc);
-      only = only;
-      cause = λ is. absurd (cc);
-    }
-
--- a limit
-abbrev IsLimit : ScanError → Type 0
-IsLimit Missing = ⊥
-IsLimit (NotMailbox place) = ⊥
-IsLimit (TooMany count) = Unit {0}
-IsLimit (TooLarge bytes) = Unit {0}
-IsLimit Unfinished = ⊥
-IsLimit ArchiveFull = Unit {0}
-IsLimit Fault = ⊥
-IsLimit NoMemory = ⊥
-
-limit_only : (letters count bytes : ℕ) (why : ScanError) → sum_refusal letters count bytes ≡ Some why → IsLimit why
-limit_only letters count bytes why is =
-    by_tests (nat_lt most_messages count) (nat_lt most_bytes bytes) (nat_lt most_letters (letters + count)) is
-  where
-    by_tests : (p q r : Bool)
-        → (if p then Some (TooMany count) else (if q then Some (TooLarge (told_sum bytes)) else
-        (if p then Some (TooMany count) else (if r then Some ArchiveFull else None)))) ≡ Some why
-        → IsLimit why
-    by_tests true q r is = let e : TooMany count ≡ why = cc in subst IsLimit e tt
-    by_tests false true r is = let e : TooLarge (told_sum bytes) ≡ why = cc in subst IsLimit e tt
-    by_tests false false true is = let e : ArchiveFull ≡ why = cc in subst IsLimit e tt
-    by_tests false false false is = absurd (cc)
-
-past_limit : (letters : ℕ) (path : List ℕ) (messages : List Message) (why : ScanError) (p q : Past) → IsLimit why
-    → list_refusal letters messages ≡ Some why → MessagesSeen path messages p q → FolderRefused letters path why p q
-past_limit letters path messages Missing p q limit is saw = absurd limit
-past_limit letters path messages (NotMailbox place) p q limit is saw = absurd limit
-past_limit letters path messages (TooMany count) p q limit is saw =
-    record { messages = messages; saw = saw; refused = is }
-past_limit letters path messages (TooLarge bytes) p q limit is saw =
-    record { messages = messages; saw = saw; refused = is }
-past_limit letters path messages Unfinished p q limit is saw = limit
-past_limit letters path messages ArchiveFull p q limit is saw =
-    record { messages = messages; saw = saw; refused = is }
-past_limit letters path messages Fault p q limit is saw = tt
-past_limit letters path messages NoMemory p q limit is saw = tt
-
-pub folder_refused : (path : List ℕ) (why : ScanError) (first store : Store) (a c : Seen)
-    → first.letters ≡ length first.archive
-    → sum_refusal store.letters store.count store.bytes ≡ Some why → OnlyLooks a c
-    → FolderWalked path first store a.told c.told → ListsFolder path first.archive store.archive (Err why) a c
-folder_refused path why first store a c letters some only w =
-    let limit : IsLimit why = limit_only store.letters store.count store.bytes why some in
-    let is : list_refusal (length first.archive) w.messages ≡ Some why =
-    subst (λ (n : ℕ). list_refusal n w.messages ≡ Some why) letters
-    (sym (held_refusal first store w.messages w.holds) ∙ some) in
-    record {
-      ok = tt;
-      refused = goes_as a.told c.told (λ p q saw.
-          past_limit (length first.archive) path w.messages why p q limit is saw) w.saw;
-      full = λ e. let full : why ≡ ArchiveFull = cc in
-          full_near (length first.archive) (length w.messages) (bytes_together w.messages) (is ∙ ap Some full);
-      only = only;
-      cause = λ e. let fault : why ≡ Fault = cc in absurd (subst IsLimit fault limit);
-    }
-
--- a walk that failed
-pub walk_failed : (path : List ℕ) (archive new_archive : List Mail) (why : ScanError) (a b c : Seen) → OnlyLooks a b
-    → OnlyMeets {A = Unit {0}} (Err why) b c → ListsFolder path archive new_archive (Err why) a c
-walk_failed path archive new_archive why a b c before meets =
-    let only : OnlyLooks a c = only_then a b c before meets.only in
-    record {
-      ok = tt;
-      refused = goes_as a.told c.told (λ p q x. by_why p q meets.errors) only.looks;
-      full = λ e. let full : why ≡ ArchiveFull = cc in absurd (no_full full meets.errors);
-      only = only;
-      cause = λ e. let fault : why ≡ Fault = cc in
-          rose_later a.faults b.faults c.faults before.faults (meets.cause (ap Err fault));
-    }
-  where
-    by_why : (p q : Past) → (why ≡ Fault) ⊎ (why ≡ NoMemory) → FolderRefused (length archive) path why p q
-    by_why p q (inl is) = subst (λ (e : ScanError). FolderRefused (length archive) path e p q) (sym is) tt
-    by_why p q (inr is) = subst (λ (e : ScanError). FolderRefused (length archive) path e p q) (sym is) tt
-
-    no_full : why ≡ ArchiveFull → (why ≡ Fault) ⊎ (why ≡ NoMemory) → ⊥
-    no_full full (inl is) = cc
-    no_full full (inr is) = cc
-
--- Found messages are new.
-
-new_ids : (id : ℕ) (messages : List Message)
-    → map (λ listed. listed.id) (listed_from id messages) ≡ ids_from id (listed_from id messages)
-new_ids id [] = refl
-new_ids id (message ∷ messages) = ap (λ ids. record { 0 = id } ∷ ids) (new_ids (id + 1) messages)
-
-each_letter : (id : ℕ) (messages : List Message)
-    → length (letters_from maildir_format id messages) ≡ length (listed_from id messages)
-each_letter id [] = refl
-each_letter id (message ∷ messages) = let more = each_letter (id + 1) messages in omega arith
-
--- what is known of a folder whose messages are listed
-abbrev pub known_listed : KnownFolder → List Listed → KnownFolder
-known_listed known came = record known { listing = came; bytes = []; stamps = [] }
-
-pub known_scanned : (path : List ℕ) (archive new_archive : List Mail) (known new_known : KnownFolder) (found : Found)
-    (a c : Seen) → path ≡ known.path → new_known ≡ known_listed known found.came.items
-    → found.gone.items ≡ [] → found.reflagged.items ≡ []
-    → ListsFolder path archive new_archive (Ok found.came) a c
-    → ScansFolder archive new_archive known new_known (Ok found) a c
-known_scanned path archive new_archive known new_known found a c same put gone reflagged lists = record {
-  saw = subst (λ (k : KnownFolder). GoesOn (Saw Maildir archive new_archive k (Ok found)) a.told c.told) (sym put)
-      (goes_as a.told c.told (λ p q saw. record {
-        messages = lists.ok.messages;
-        saw = record {
-          saw = subst (λ (l : List ℕ). MessagesSeen l lists.ok.messages p q) same saw;
-          taken = lists.ok.taken;
-          bytes = refl;
-          stamps = refl;
-        };
-        letters = lists.ok.letters;
-        listed = lists.ok.listed;
-      }) lists.ok.saw);
-  lists = record {
-    none_gone = gone;
-    none_reflagged = reflagged;
-    ids = ap (map (λ l. l.id)) lists.ok.listed ∙ new_ids (length archive) lists.ok.messages
-        ∙ ap (ids_from (length archive)) (sym lists.ok.listed);
-    added = letters_from maildir_format (length archive) lists.ok.messages;
-    archived = lists.ok.letters;
-    each = each_letter (length archive) lists.ok.messages ∙ ap length (sym lists.ok.listed);
-    kept = subst (λ (k : KnownFolder). k ≡ record known
-        { listing = found.came.items; bytes = k.bytes; stamps = k.stamps }) (sym put) refl;
-  };
-  err_known = tt;
-  full = λ is. absurd (cc);
-  only = lists.only;
-  cause = λ is. absurd (cc);
 }

@@ -1,28 +1,18 @@
 -- Steps of the walk over candidates.
-use Rattle.std.proofs.Common.{◌≡◌, ◌≤◌, ◌+◌, ◌++◌, ℕ, Bool, true, false, List, ◌∷◌, Option, Some, None, Err, length, map}
-use Rattle.std.proofs.Common.{take, drop, is_some, refl, sym, ◌∙◌, ap, subst, arith}
-use Rattle.std.proofs.lemmas.List.{length-take, take-append-drop, take-append-le}
+use Rattle.std.proofs.Common.{◌≡◌, ◌≤◌, ◌+◌, ℕ, Bool, true, false, List, ◌∷◌, Option, Some, None}
+use Rattle.std.proofs.Common.{length, map}
+use Rattle.std.proofs.Common.{is_some, refl, sym, ◌∙◌, ap, subst, arith}
 use Rattle.std.proofs.lemmas.List.Elements.{All-head, All-same}
+use Rattle.std.specs.Prelude.{option_map}
 use Rattle.std.specs.List.{All}
 use Rattle.disk_model.specs.Journal.{Past}
-use Rattle.disk_model.specs.Looking.{LooksOnly, OnlyLooks}
-use Rattle.disk_model.specs.Seen.{Seen}
-use Rattle.folder_core.specs.Maildir.{MaildirFile, base_of}
-use Rattle.folder_core.specs.declared.error.ScanError.{ScanError}
-use Rattle.folder_core.specs.declared.error.ScanError.TheVariants.{Fault}
-use Rattle.folder_core.proofs.SeenLemmas.{only_then, rose_later}
+use Rattle.disk_model.specs.Looking.{LooksOnly}
+use Rattle.folder_core.specs.ListedSoFar.{Store, store_found}
+use Rattle.folder_core.specs.Maildir.{MaildirFile, base_of, maildir_format, message_of}
 use Rattle.maildir_folder.specs.declared.candidates.Candidate.{Candidate}
 use Rattle.maildir_folder.specs.Candidates.{IsCandidate, Rises, plain_file}
-use Rattle.maildir_folder.specs.Walk.{OnlyMeets, Store, TakesNext, store_by}
+use Rattle.maildir_folder.specs.Walk.{TakesNext}
 use Rattle.maildir_folder.proofs.Walking.{Walking, last_by, rises_next, walking_next}
-
--- what was at the front stays there
-pub front_then : {A : Type 0} (a b c : List A) → take (length a) b ≡ a → take (length b) c ≡ b → take (length a) c ≡ a
-front_then a b c first next =
-    let low : length a ≤ length b = omega (arith, ap length first, length-take (length a) b) in
-    ap (take (length a)) (sym (take-append-drop (length b) c))
-    ∙ ap (λ (l : List _). take (length a) (l ++ drop (length b) c)) next
-    ∙ take-append-le (length a) b (drop (length b) c) low ∙ first
 
 pub candidate_head : (all rest : List Candidate) (item : Candidate) → all ≡ item ∷ rest → All IsCandidate all
     → IsCandidate item
@@ -30,7 +20,8 @@ candidate_head all rest item whole each =
     All-head IsCandidate item rest (All-same IsCandidate (item ∷ rest) all (sym whole) each)
 
 count_by : (file : MaildirFile) (found : Option (List ℕ)) (store : Store)
-    → (store_by file found store).count ≤ store.count + 1
+    → (store_found maildir_format (option_map (message_of file) found) store).count ≤ store.count +
+    1
 count_by file None store = omega arith
 count_by file (Some raw) store = omega arith
 
@@ -95,12 +86,3 @@ stepped_taken path files all rest item last base first store new_store taken a b
     stepped path files all rest item last (Some base) first store new_store taken a b c whole each rises before next w t
     (last_taken (plain_file item) t.found last (sym t.is ∙ is)
     ∙ ap Some (sym (same ∙ (candidate_head all rest item whole each).base)))
-
--- a refusal behind other looks
-pub meets_later : {A B : Type 0} (why : ScanError) (a b c : Seen) → OnlyLooks a b → OnlyMeets {A = A} (Err why) b c
-    → OnlyMeets {A = B} (Err why) a c
-meets_later why a b c before meets = record {
-  only = only_then a b c before meets.only;
-  cause = λ is. rose_later a.faults b.faults c.faults before.faults (meets.cause (let e : why ≡ Fault = cc in ap Err e));
-  errors = meets.errors;
-}

@@ -1,5 +1,6 @@
 -- What a walk over files in order has seen.
-use Rattle.std.proofs.Common.{◌≡◌, ◌≤◌, ◌++◌, ◌&&◌, ◌||◌, ◌⊎◌, inl, inr, ℕ, Bool, true, false, List, [], ◌∷◌, Option}
+use Rattle.std.proofs.Common.{◌≡◌, ◌≤◌, ◌++◌, ◌⊎◌, inl, inr, ℕ, Bool, true, false, List, [], ◌∷◌}
+use Rattle.std.proofs.Common.{Option}
 use Rattle.std.proofs.Common.{Some, None, length, is_some, if◌then◌else◌, refl, sym, ◌∙◌, ap, subst, arith}
 use Rattle.std.proofs.Common.{append_assoc, append-nil}
 use Rattle.std.specs.Prelude.{option_map}
@@ -20,15 +21,21 @@ use Rattle.disk_model.proofs.Looking.{looked_longer}
 use Rattle.disk_model.proofs.Marks.{tree_at-longer}
 use Rattle.disk_model.proofs.Trees.{bytes_same}
 use Rattle.folder_core.specs.Directory.{file_at}
-use Rattle.folder_core.specs.Maildir.{AllStood, MaildirFile, StaysThere, Stood, base_of, is_taken, message_at, message_of}
-use Rattle.folder_core.specs.Maildir.{messages_behind, path_of, with_message}
+use Rattle.folder_core.specs.Maildir.{AllStood, MaildirFile, StaysThere, Stood, base_of, is_taken}
+use Rattle.folder_core.specs.Maildir.{maildir_format}
+use Rattle.folder_core.specs.Maildir.{message_at, message_of, messages_behind, path_of}
+use Rattle.folder_core.specs.Maildir.{with_message}
 use Rattle.folder_core.specs.MaildirNames.{begins_dot, order_of}
 use Rattle.folder_core.specs.Message.{Message, are_in_order, has_key, stands_before}
-use Rattle.folder_core.proofs.SeenLemmas.{goes_as, goes_then, longer_later}
+use Rattle.folder_core.specs.ListedSoFar.{Holds, IsEmpty, Store}
+use Rattle.folder_core.specs.Looked.{IsTreeOfAll}
+use Rattle.folder_core.specs.Ordered.{IsIn}
+use Rattle.folder_core.proofs.ListedSoFarLemmas.{holds_first, holds_found, messages_with}
+use Rattle.folder_core.proofs.MessageLemmas.{key_last, key_more, order_more}
+use Rattle.folder_core.proofs.OrderedLemmas.{text_same, then_equal}
+use Rattle.folder_core.proofs.SeenLemmas.{goes_as, goes_then, longer_later, tree_before}
 use Rattle.maildir_folder.specs.Candidates.{NotBefore, Rises, base_cmp}
-use Rattle.maildir_folder.specs.Walk.{Holds, IsEmpty, IsIn, IsTreeOfAll, IsWalked, NextSeen, Store, TakesNext}
-use Rattle.maildir_folder.proofs.Sorting.{text_same, then_equal}
-use Rattle.maildir_folder.proofs.Storing.{holds_by, holds_first, messages_by}
+use Rattle.maildir_folder.specs.Walk.{IsWalked, NextSeen, TakesNext}
 
 true_false : ◌≡◌ {A = Bool} true false → ⊥
 true_false e = cc
@@ -77,24 +84,6 @@ IsLast (Some base) messages =
     (front : List Message) × ((message : Message) × (messages ≡ front ++ message ∷ []) × (message.key ≡ base)
     × (message.order ≡ order_of base))
 
-order_more : (front : List Message) (a b : Message) → are_in_order (front ++ a ∷ []) ≡ true → stands_before a b ≡ true
-    → are_in_order (front ++ a ∷ b ∷ []) ≡ true
-order_more [] a b ordered before = ap (λ (t : Bool). t && true) before
-order_more (first ∷ []) a b ordered before =
-    by_test (stands_before first a) ordered
-  where
-    by_test : (t : Bool) → (t && true) ≡ true → (t && (stands_before a b && true)) ≡ true
-    by_test true is = ap (λ (t : Bool). t && true) before
-    by_test false is = absurd (true_false (sym is))
-order_more (first ∷ second ∷ front) a b ordered before =
-    by_test (stands_before first second) ordered (λ rest. order_more (second ∷ front) a b rest before)
-  where
-    by_test : (t : Bool) → (t && are_in_order (second ∷ front ++ a ∷ [])) ≡ true
-        → (are_in_order (second ∷ front ++ a ∷ []) ≡ true → are_in_order (second ∷ front ++ a ∷ b ∷ []) ≡ true)
-        → (t && are_in_order (second ∷ front ++ a ∷ b ∷ [])) ≡ true
-    by_test true is again = again is
-    by_test false is again = absurd (true_false (sym is))
-
 not_taken_order : (last : Option (List ℕ)) (messages : List Message) (message : Message) → IsLast last messages
     → NotBefore last message.key → is_taken last message.key ≡ false → message.order ≡ order_of message.key
     → are_in_order messages ≡ true → are_in_order (messages ++ message ∷ []) ≡ true
@@ -110,27 +99,6 @@ not_taken_order (Some base) messages message is above new placed ordered =
     ap (λ (l : List Message). are_in_order (l ++ message ∷ [])) whole
     ∙ ap are_in_order (append_assoc front (a ∷ []) (message ∷ []))
     ∙ order_more front a message (sym (ap are_in_order whole) ∙ ordered) before
-
-key_more : (key : List ℕ) (messages more : List Message) → has_key key messages ≡ true
-    → has_key key (messages ++ more) ≡ true
-key_more key [] more is = absurd (true_false (sym is))
-key_more key (message ∷ messages) more is =
-    by_test (bytes_eq message.key key) is (λ rest. key_more key messages more rest)
-  where
-    by_test : (t : Bool) → (t || has_key key messages) ≡ true
-        → (has_key key messages ≡ true → has_key key (messages ++ more) ≡ true)
-        → (t || has_key key (messages ++ more)) ≡ true
-    by_test true is again = refl
-    by_test false is again = again is
-
-key_last : (front : List Message) (message : Message) → has_key message.key (front ++ message ∷ []) ≡ true
-key_last [] message = ap (λ (t : Bool). t || false) ((bytes_eq-Decides message.key message.key).1 refl)
-key_last (first ∷ front) message = by_test (bytes_eq first.key message.key) (key_last front message)
-  where
-    by_test : (t : Bool) → has_key message.key (front ++ message ∷ []) ≡ true
-        → (t || has_key message.key (front ++ message ∷ [])) ≡ true
-    by_test true again = refl
-    by_test false again = again
 
 taken_key : (last : Option (List ℕ)) (base : List ℕ) (messages : List Message) → IsLast last messages
     → is_taken last base ≡ true → has_key base messages ≡ true
@@ -186,12 +154,6 @@ stays_before path file from mid new looked stays mark low high =
     ap (λ (tree : List TreeNode). is_some (message_at tree path file))
     (sym (tree_at-longer mid new mark (looked_longer mid new looked) high))
     ∙ stays mark low (omega (arith, high, longer_later mid new looked))
-
-tree_before : (tree : List TreeNode) (old mid new : Past) → HasLooked mid new → IsTreeOfAll tree old new
-    → IsTreeOfAll tree old mid
-tree_before tree old mid new looked all mark low high =
-    sym (tree_at-longer mid new mark (looked_longer mid new looked) high)
-    ∙ all mark low (omega (arith, high, longer_later mid new looked))
 
 so_far_later : (path : List ℕ) (files left : List MaildirFile) (last : Option (List ℕ)) (messages : List Message)
     (old mid new : Past) → HasLooked mid new → SoFar path files left last messages old mid
@@ -274,7 +236,8 @@ so_far_next : (path : List ℕ) (files left : List MaildirFile) (file : MaildirF
     → NotBefore last (base_of file) → begins_dot file.name ≡ false
     → SoFar path files (file ∷ left) last messages old mid
     → NextSeen (is_taken last (base_of file)) path file found mid new
-    → SoFar path files left (last_by file found last) (messages_by file found messages) old new
+    → SoFar path files left (last_by file found last)
+    (messages_with (option_map (message_of file) found) messages) old new
 so_far_next path files left file last messages found old mid new first next above shown s seen =
     by_taken (is_taken last (base_of file)) found refl seen
   where
@@ -300,7 +263,8 @@ so_far_next path files left file last messages found old mid new first next abov
 
     by_taken : (taken : Bool) (found : Option (List ℕ)) → is_taken last (base_of file) ≡ taken
         → NextSeen taken path file found mid new
-        → SoFar path files left (last_by file found last) (messages_by file found messages) old new
+        → SoFar path files left (last_by file found last)
+        (messages_with (option_map (message_of file) found) messages) old new
     by_taken true None taken seen =
         so_far_skipped path files left file last messages old new later
         (λ stays. taken_key last (base_of file) messages s.at_last taken) (λ tree all. skip tree taken)
@@ -332,14 +296,19 @@ so_far_next path files left file last messages found old mid new first next abov
 pub record Walking (path : List ℕ) (files left : List MaildirFile) (last : Option (List ℕ)) (first store : Store)
     (old new : Option Past) : Type 0 where
   pub messages : List Message
-  pub holds : Holds first messages store
+  pub holds : Holds maildir_format first messages store
   pub saw : GoesOn (SoFar path files left last messages) old new
 
 pub walking_first : (path : List ℕ) (files : List MaildirFile) (first : Store) (told : Option Past) → IsEmpty first
     → Walking path files files None first first told told
-walking_first path files first None empty = record { messages = []; holds = holds_first first empty; saw = refl }
+walking_first path files first None empty = record
+    { messages = []; holds = holds_first maildir_format first empty; saw = refl }
 walking_first path files first (Some past) empty =
-    record { messages = []; holds = holds_first first empty; saw = so_far_first path files past }
+    record {
+      messages = [];
+      holds = holds_first maildir_format first empty;
+      saw = so_far_first path files past;
+    }
 
 pub walking_next : (path : List ℕ) (files all left : List MaildirFile) (file : MaildirFile) (last : Option (List ℕ))
     (first store new_store : Store) (taken : Bool) (a b c : Option Past)
@@ -351,9 +320,11 @@ walking_next path files all left file last first store new_store taken a b c who
     let so_far : GoesOn (SoFar path files (file ∷ left) last w.messages) a b =
     subst (λ (l : List MaildirFile). GoesOn (SoFar path files l last w.messages) a b) whole w.saw in
     record {
-      messages = messages_by file t.found w.messages;
-      holds = subst (Holds first (messages_by file t.found w.messages)) (sym t.store_is)
-          (holds_by first store w.messages file t.found w.holds);
+      messages = messages_with (option_map (message_of file) t.found) w.messages;
+      holds = subst (Holds maildir_format first
+          (messages_with (option_map (message_of file) t.found) w.messages)) (sym t.store_is)
+          (holds_found maildir_format first store w.messages (option_map (message_of file) t.found)
+          (λ id m. refl) w.holds);
       saw = goes_then a b c (λ p q r x y s n.
           so_far_next path files left file last w.messages t.found p q r x y head.0 shown s n) before next so_far t.saw;
     }

@@ -1,16 +1,18 @@
 //! The driver of folders of a file a message.
 
-ghost use Rattle.std.specs.Prelude.{◌≡◌, length, map, take, IfOk, OnErr};
+ghost use Rattle.std.specs.Prelude.{◌≡◌, length, map, take};
 ghost use Rattle.mail_base.specs.declared.kind.Kind.TheVariants.{Maildir};
+ghost use Rattle.folder_core.specs.FirstScan.{ListsFolder, ScansFolder};
 ghost use Rattle.folder_core.specs.Letters.{plain_letter};
+ghost use Rattle.folder_core.specs.Maildir.{maildir_format};
 ghost use Rattle.folder_core.specs.Scanned.{Scans};
 ghost use Rattle.maildir_folder.specs.Scan as spec;
 
 use crate::files::list_files;
-use crate::walk::Walk;
+use crate::walk::take_all;
 use disk_model::{Device, Disk};
-use folder_core::{Archive, Driver, Found, Known, Listing, ScanError};
-use mail_base::{Bytes, Ids, Kind, Stamps};
+use folder_core::{Archive, Driver, Found, Known, ListedSoFar, Listing, ScanError};
+use mail_base::{Kind, NoMemory, Stamps};
 use std::alloc::Global;
 
 /// Reads folders of a file a message (maildir(5)).
@@ -69,7 +71,7 @@ fn list_known(
     known: &mut Known,
     archive: &mut Archive,
 ) -> Result<Found, ScanError>
-    ensures scans { spec.ScansFolder (map plain_letter archive.old.items)
+    ensures scans { ScansFolder Maildir (map plain_letter archive.old.items)
         (map plain_letter archive.new.items) known.old known.new result
         (seen disk.old) (seen disk.new) }
     ensures front { take (length archive.old.items) archive.new.items ≡ archive.old.items }
@@ -81,20 +83,9 @@ fn list_known(
         Ok(came) => came,
         Err(why) => return Err(why),
     };
-    match came.as_slice().to_vec(alloc) {
-        Ok(listing) => {
-            known.put(
-                Listing::from_vec(listing),
-                Bytes::new(alloc),
-                Stamps::new(alloc),
-            );
-            Ok(Found {
-                gone: Ids::new(alloc),
-                came,
-                reflagged: Listing::new(alloc),
-            })
-        }
-        Err(_) => Err(ScanError::NoMemory),
+    match Found::first(alloc, known, came, Stamps::new(alloc)) {
+        Ok(found) => Ok(found),
+        Err(NoMemory) => Err(ScanError::NoMemory),
     }
 }
 
@@ -106,21 +97,22 @@ fn list_folder(
     path: &str,
     archive: &mut Archive,
 ) -> Result<Listing, ScanError>
-    ensures lists { spec.ListsFolder path.now (map plain_letter archive.old.items)
-        (map plain_letter archive.new.items) result (seen disk.old) (seen disk.new) }
+    ensures lists { ListsFolder maildir_format path.now (map plain_letter archive.old.items)
+        (map plain_letter archive.new.items) result (λ came. came.items)
+        (λ came. spec.MessagesSeen path.now) (seen disk.old) (seen disk.new) }
     ensures front { take (length archive.old.items) archive.new.items ≡ archive.old.items }
 {
     let files = match list_files(alloc, disk, path) {
         Ok(files) => files,
         Err(why) => return Err(why),
     };
-    let mut walk = Walk::new(alloc, archive.len());
-    match walk.take_all(alloc, disk, path, files.as_slice(), archive) {
+    let mut so_far = ListedSoFar::new(alloc, archive.len());
+    match take_all(alloc, disk, path, files.as_slice(), &mut so_far, archive) {
         Ok(()) => {}
         Err(why) => return Err(why),
     }
-    match walk.refusal() {
+    match so_far.refusal() {
         Some(why) => Err(why),
-        None => Ok(walk.came),
+        None => Ok(so_far.came),
     }
 }

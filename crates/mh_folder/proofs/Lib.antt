@@ -4,3 +4,7 @@ pub mod HoldingLemmas
 pub mod ChangeLemmas
 pub mod UprightLemmas
 pub mod WrittenLemmas
+pub mod NumberedNameLemmas
+pub mod WalkLemmas
+pub mod FolderLemmas
+pub mod DriverLemmas

@@ -1,7 +1,8 @@
 -- The numbers that a sequence holds are those of the ranges that its lines write.
-use Rattle.std.proofs.Common.{◌≡◌, ◌==◌, ◌&&◌, ◌||◌, ℕ, Bool, true, false, not, nat_le, nat_lt, List, [], ◌∷◌, ◌++◌}
-use Rattle.std.proofs.Common.{Option, Some, None, length, map, codes, if◌then◌else◌, refl, sym, ◌∙◌, ap}
-use Rattle.std.specs.List.{list_all, list_any}
+use Rattle.std.proofs.Common.{◌≡◌, ◌==◌, ◌&&◌, ◌||◌, ℕ, Bool, true, false, nat_le, List, [], ◌∷◌}
+use Rattle.std.proofs.Common.{◌++◌}
+use Rattle.std.proofs.Common.{Option, Some, None, codes, if◌then◌else◌, refl, sym, ◌∙◌, ap}
+use Rattle.std.specs.List.{list_any}
 use Rattle.std.specs.Prelude.{option_map, unwrap_or}
 use Rattle.std.specs.Str.{byte, bytes_eq}
 use Rattle.std.proofs.lemmas.List.Folds.{list_any-append}
@@ -9,14 +10,14 @@ use Rattle.mail_base.specs.Blanks.{is_blank}
 use Rattle.mail_base.specs.Fronts.{◌>>=◌}
 use Rattle.mail_base.specs.Places.{split_once}
 use Rattle.folder_core.specs.MhNumbers.{number_of}
-use Rattle.folder_core.specs.MhSequences.{between_holds, in_sequence, line_has, named_holds, range_by as word_by}
+use Rattle.folder_core.specs.MhSequences.{between_holds, line_has, range_by as word_by}
 use Rattle.folder_core.specs.MhSequences.{range_holds as word_holds, ranges_hold, split_holds, text_lines, words_of}
 use Rattle.mh_folder.specs.declared.range.Range.{Range}
 use Rattle.mh_folder.specs.Laws.{HoldsWritten}
 use Rattle.mh_folder.specs.Ranges.{any_holds, between, holds as range_holds, in_order, one, range_by, range_of}
 use Rattle.mh_folder.specs.SequenceLine.{Kept, Named, PlainLine, empty_line, is_name, line_holds, line_of, named_by}
-use Rattle.mh_folder.specs.SequenceLine.{named_line, ranges_from, with_word}
-use Rattle.mh_folder.specs.Sequences.{any_has_name, holds, lines_from, sequences_of, with_name}
+use Rattle.mh_folder.specs.SequenceLine.{ranges_from, with_word}
+use Rattle.mh_folder.specs.Sequences.{any_has_name, holds, lines_from, with_name}
 use Rattle.mh_folder.proofs.RisingLemmas.{ordered_holds}
 use Rattle.mh_folder.proofs.UprightLemmas.{ranges_upright}
 

@@ -1,7 +1,8 @@
 -- The file of sequences (mh-sequence(5)), line by line, and what a change makes of it.
-use Rattle.std.specs.Prelude.{◌==◌, ℕ, Bool, true, false, List, [], ◌∷◌, ◌++◌, map, codes}
+use Rattle.std.specs.Prelude.{◌==◌, ℕ, Bool, true, false, not, List, [], ◌∷◌, ◌++◌, map, codes}
 use Rattle.std.specs.Prelude.{if◌then◌else◌}
 use Rattle.std.specs.List.{flat_map, list_any}
+use Rattle.mail_base.specs.declared.flags.Flags.{Flags}
 use Rattle.mh_folder.specs.declared.sequence_line.SequenceLine.{SequenceLine}
 use Rattle.mh_folder.specs.SequenceLine.{PlainLine, empty_line, has_name, line_holds, line_of}
 use Rattle.mh_folder.specs.SequenceLine.{line_text, plain_line}
@@ -37,6 +38,18 @@ sequences_of bytes =
 -- of two lines of one name both count
 abbrev pub holds : List ℕ → ℕ → List PlainLine → Bool
 holds name n lines = list_any (line_holds name n) lines
+
+-- the flags of a message: seen is what is not in `unseen`
+abbrev pub flags_of : List PlainLine → ℕ → Flags
+flags_of lines n = record {
+  seen = not (holds (codes "unseen") n lines);
+  aged = not (holds (codes "unseen") n lines);
+  replied = holds (codes "replied") n lines;
+  flagged = holds (codes "flagged") n lines;
+  passed = false;
+  draft = false;
+  trashed = false;
+}
 
 -- in the first line of the name, or in a new one
 abbrev pub with_member : List ℕ → ℕ → List PlainLine → List PlainLine

@@ -1,13 +1,18 @@
-//! Folders of a numbered file a message (mh-mail(5), mh-sequence(5)): the sequences in which numbers
-//! of messages stand. `Sequences` reads the file of them, tells which numbers a sequence holds,
-//! changes that, and writes the file.
+//! Folders of a numbered file a message (mh-mail(5), mh-sequence(5)): the driver that scans a
+//! folder, `MhDriver`, and the sequences in which numbers of messages stand. `Sequences` reads the
+//! file of them, tells which numbers a sequence holds, changes that, and writes the file.
 #![tactic(auto)]
 
+mod driver;
+mod folder;
 mod laws;
+mod numbered_name;
 mod range;
 mod sequence_line;
 mod sequences;
+mod walk;
 
+pub use driver::MhDriver;
 pub use laws::{
     drop_takes_one, put_changes_one, ranges_stay_upright, sequences_hold_what_is_written,
 };

@@ -4,7 +4,7 @@ ghost use Rattle.std.specs.Prelude.{◌≡◌, ◌++◌, [], IfOk, OnOk, OnErr};
 ghost use Rattle.mh_folder.specs.Sequences as spec;
 
 use crate::sequence_line::SequenceLine;
-use mail_base::{Bytes, NoMemory, Series};
+use mail_base::{Bytes, Flags, NoMemory, Series};
 use std::alloc::Global;
 use std::marker::Model;
 
@@ -196,6 +196,22 @@ impl Sequences {
         ensures { result ≡ spec.holds name.now number self.now }
     {
         any_holds(self.lines.as_slice(), name, number)
+    }
+
+    /// The flags of a message: seen and aged is what is not in `unseen`.
+    pub fn flags(&self, number: u32) -> Flags
+        ensures { result ≡ spec.flags_of self.now number }
+    {
+        let is_seen = !self.holds(b"unseen", number);
+        Flags {
+            seen: is_seen,
+            aged: is_seen,
+            replied: self.holds(b"replied", number),
+            flagged: self.holds(b"flagged", number),
+            passed: false,
+            draft: false,
+            trashed: false,
+        }
     }
 
     /// Puts the number into the first sequence of the name, or takes it out of all of the name.

@@ -9,6 +9,7 @@ use folder_core::{Archive, Drivers};
 use mail_base::{RealClock, StdSink, StdSource};
 use maildir_folder::MaildirDriver;
 use mbox_folder::MboxDriver;
+use mh_folder::MhDriver;
 use mutt_run::{Events, Status, Trace, run};
 use real_disk::RealDisk;
 use std::io;
@@ -34,6 +35,9 @@ fn started(rt: &HostRuntime) -> io::Result<Status> {
         return Ok(Status::NoMemory);
     }
     if drivers.add(Box::new(alloc, MaildirDriver::new())?).is_err() {
+        return Ok(Status::NoMemory);
+    }
+    if drivers.add(Box::new(alloc, MhDriver::new())?).is_err() {
         return Ok(Status::NoMemory);
     }
     let mut trace = Trace {

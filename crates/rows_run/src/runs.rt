@@ -9,6 +9,7 @@ use folder_core::{Archive, Drivers};
 use mail_base::{Bytes, MemoryClock, MemorySink, MemorySource, Words};
 use maildir_folder::MaildirDriver;
 use mbox_folder::MboxDriver;
+use mh_folder::MhDriver;
 use mutt_run::{Event, Events, Trace, run};
 use std::alloc::Global;
 
@@ -93,6 +94,9 @@ fn end_of_run(
         return Err(CaseFault::NoMemory);
     }
     if drivers.add(Box::new(alloc, MaildirDriver::new())?).is_err() {
+        return Err(CaseFault::NoMemory);
+    }
+    if drivers.add(Box::new(alloc, MhDriver::new())?).is_err() {
         return Err(CaseFault::NoMemory);
     }
     let mut trace = Trace {

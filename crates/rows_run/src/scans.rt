@@ -7,17 +7,18 @@ use folder_core::{Archive, Driver, Found, Known, Letter, Listed, ScanError};
 use mail_base::{Flags, Kind};
 use maildir_folder::MaildirDriver;
 use mbox_folder::MboxDriver;
+use mh_folder::MhDriver;
 use std::alloc::Global;
 
-/// Each `scan` is the path of a mailbox, and each `maildir` that of a Maildir, into one archive. A
-/// listed message is its id and the letters of its flags, a letter its order, where its text
-/// begins, and when it was received.
+/// Each `scan` is the path of a mailbox, each `maildir` that of a Maildir, and each `mh` that of an
+/// MH folder, into one archive. A listed message is its id and the letters of its flags, a letter
+/// its order, where its text begins, and when it was received.
 pub struct Scans;
 
 impl Subject for Scans {
     fn inputs(&self) -> &[&[u8]] {
         &[
-            b"file", b"folder", b"failing", b"stop", b"others", b"scan", b"maildir",
+            b"file", b"folder", b"failing", b"stop", b"others", b"scan", b"maildir", b"mh",
         ]
     }
 
@@ -31,6 +32,8 @@ impl Subject for Scans {
                 put_mailbox(alloc, &mut answer, &mut dev, text_of(path)?, &mut archive)?;
             } else if entry.key.as_slice() == b"maildir".as_slice() {
                 put_maildir(alloc, &mut answer, &mut dev, text_of(path)?, &mut archive)?;
+            } else if entry.key.as_slice() == b"mh".as_slice() {
+                put_mh(alloc, &mut answer, &mut dev, text_of(path)?, &mut archive)?;
             }
         }
         answer.put_count(b"letters", archive.len())?;
@@ -62,6 +65,18 @@ fn put_maildir(
 ) -> Result<(), CaseFault> {
     let mut known = Known::new(alloc, path, Kind::Maildir)?;
     let found = MaildirDriver::new().scan(alloc, dev, &mut known, archive);
+    put_scan(alloc, answer, &known, found)
+}
+
+fn put_mh(
+    alloc: Global,
+    answer: &mut Answer,
+    dev: &mut Device,
+    path: &str,
+    archive: &mut Archive,
+) -> Result<(), CaseFault> {
+    let mut known = Known::new(alloc, path, Kind::Mh)?;
+    let found = MhDriver::new().scan(alloc, dev, &mut known, archive);
     put_scan(alloc, answer, &known, found)
 }
 

@@ -3,20 +3,23 @@ use Rattle.std.specs.Prelude.{option_map}
 use Rattle.std.specs.List.{All}
 use Rattle.disk_model.specs.Looking.{OnlyLooks}
 use Rattle.maildir_folder.specs.Candidates.{IsCandidate, Rises, plain_file}
-use Rattle.maildir_folder.specs.Walk.{store_of}
+use Rattle.folder_core.specs.ListedSoFar.{store_of}
 use Rattle.maildir_folder.proofs.Walking.{Walking}
-use Rattle.maildir_folder.proofs.walk.Walk.take_all.Given as goal
+use Rattle.maildir_folder.proofs.walk.take_all.Given as goal
 
 abbrev pub invariant-loop-left : goal.invariant-loop-left
 invariant-loop-left g l = record {
   each : All IsCandidate l.left;
   rises : Rises (option_map (λ r. r.now) l.last) (map plain_file l.left);
-  room : l.self.count + length l.left ≤ length l.files;
+  room : l.so_far.count + length l.left ≤ length l.files;
   front : take (length l.initial.archive.items) l.archive.items ≡ l.initial.archive.items;
-  only : OnlyLooks ((goal.Disk-dyn g l.initial.disk.now).seen l.initial.disk.now.1) ((goal.Disk-dyn g l.disk.now).seen l.disk.now.1);
-  walked : Walking l.path (map plain_file l.files) (map plain_file l.left) (option_map (λ r. r.now) l.last)
-      (store_of l.initial.self l.initial.archive.items) (store_of l.self l.archive.items)
-      ((goal.Disk-dyn g l.initial.disk.now).seen l.initial.disk.now.1).told ((goal.Disk-dyn g l.disk.now).seen l.disk.now.1).told;
+  only : OnlyLooks ((goal.Disk-dyn g l.initial.disk.now).seen l.initial.disk.now.1)
+      ((goal.Disk-dyn g l.disk.now).seen l.disk.now.1);
+  walked : Walking l.path (map plain_file l.files) (map plain_file l.left)
+      (option_map (λ r. r.now) l.last)
+      (store_of l.initial.so_far l.initial.archive.items) (store_of l.so_far l.archive.items)
+      ((goal.Disk-dyn g l.initial.disk.now).seen l.initial.disk.now.1).told
+      ((goal.Disk-dyn g l.disk.now).seen l.disk.now.1).told;
 }
 
 abbrev pub decreases-loop-left : goal.decreases-loop-left

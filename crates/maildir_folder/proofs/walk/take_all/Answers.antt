@@ -1,11 +1,12 @@
 use Rattle.std.proofs.Common.{map, take_all, arith, length}
 use Rattle.std.proofs.lemmas.List.Elements.{All-rest}
-use Rattle.folder_core.proofs.SeenLemmas.{first_and_rest, only_same, only_then}
+use Rattle.folder_core.proofs.SeenLemmas.{first_and_rest, front_then, meets_later, only_same}
+use Rattle.folder_core.proofs.SeenLemmas.{only_then}
 use Rattle.maildir_folder.specs.Candidates.{IsCandidate, plain_file}
-use Rattle.maildir_folder.specs.Walk.{store_of}
+use Rattle.folder_core.specs.ListedSoFar.{store_of}
 use Rattle.maildir_folder.proofs.Walking.{walking_first}
-use Rattle.maildir_folder.proofs.WalkSteps.{front_then, meets_later, room_left, stepped_left, stepped_taken}
-use Rattle.maildir_folder.proofs.walk.Walk.take_all.Goals as goal
+use Rattle.maildir_folder.proofs.WalkSteps.{room_left, stepped_left, stepped_taken}
+use Rattle.maildir_folder.proofs.walk.take_all.Goals as goal
 
 pub loop-left-init : goal.loop-left-init
 loop-left-init g c = record {
@@ -15,25 +16,30 @@ loop-left-init g c = record {
   front = take_all (length c.args.archive.now.items) c.args.archive.now.items (omega arith);
   only = only_same _;
   walked = walking_first c.args.path.now (map plain_file c.args.files.now)
-      (store_of c.args.self.now c.args.archive.now.items) _ c.requires.empty;
+      (store_of c.args.so_far.now c.args.archive.now.items) _ c.requires.empty;
 }
 
 pub returns-in-Err-clause-meets : goal.returns-in-Err-clause-meets
-returns-in-Err-clause-meets g c = meets_later c.in-Err.why _ _ _ c.loop-left.invariant.only c.in-Err.ensures.meets
+returns-in-Err-clause-meets g c = meets_later c.in-Err.why _ _ _ c.loop-left.invariant.only
+    c.in-Err.ensures.meets
 
 pub loop-left-preserved-then-taken : goal.loop-left-preserved-then-taken
 loop-left-preserved-then-taken g c =
     let inv = c.loop-left.invariant in
-    let whole = first_and_rest c.loop-left.left.now _ c.file-item.result c.file-item.is c.in-len1-up.len_at_least in
-    let step = stepped_taken c.args.path.now (map plain_file c.args.files.now) c.loop-left.left.now _ c.file-item.result
-    _ c.as_slice.result.now _ _ _ c.in-Ok.taken _ _ _ whole c.if-taken.true c.as_slice.ensures.value inv.each inv.rises
+    let whole = first_and_rest c.loop-left.left.now _ c.file-item.result c.file-item.is
+    c.in-len1-up.len_at_least in
+    let step = stepped_taken c.args.path.now (map plain_file c.args.files.now) c.loop-left.left.now
+    _ c.file-item.result
+    _ c.as_slice.result.now _ _ _ c.in-Ok.taken _ _ _ whole c.if-taken.true c.as_slice.ensures.value
+    inv.each inv.rises
     inv.only.looks c.in-Ok.ensures.meets.only.looks inv.walked c.in-Ok.ensures.taken in
     record {
       each = All-rest IsCandidate c.file-item.result _ c.loop-left.left.now whole inv.each;
       rises = step.rises;
       room = room_left c.args.path.now _ _ _ _ _ _ _ c.loop-left.left.now _ c.file-item.result
           (length c.args.files.now) whole c.in-Ok.ensures.taken inv.room;
-      front = front_then c.args.archive.now.items c.loop-left.archive.items _ inv.front c.in-Ok.ensures.front;
+      front = front_then c.args.archive.now.items c.loop-left.archive.items _ inv.front
+          c.in-Ok.ensures.front;
       only = only_then _ _ _ inv.only c.in-Ok.ensures.meets.only;
       walked = step.walked;
     }
@@ -41,8 +47,10 @@ loop-left-preserved-then-taken g c =
 pub loop-left-preserved : goal.loop-left-preserved
 loop-left-preserved g c =
     let inv = c.loop-left.invariant in
-    let whole = first_and_rest c.loop-left.left.now _ c.file-item.result c.file-item.is c.in-len1-up.len_at_least in
-    let step = stepped_left c.args.path.now (map plain_file c.args.files.now) c.loop-left.left.now _ c.file-item.result
+    let whole = first_and_rest c.loop-left.left.now _ c.file-item.result c.file-item.is
+    c.in-len1-up.len_at_least in
+    let step = stepped_left c.args.path.now (map plain_file c.args.files.now) c.loop-left.left.now _
+    c.file-item.result
     _ _ _ _ c.in-Ok.taken _ _ _ whole c.if-taken.false inv.each inv.rises
     inv.only.looks c.in-Ok.ensures.meets.only.looks inv.walked c.in-Ok.ensures.taken in
     record {
@@ -50,7 +58,8 @@ loop-left-preserved g c =
       rises = step.rises;
       room = room_left c.args.path.now _ _ _ _ _ _ _ c.loop-left.left.now _ c.file-item.result
           (length c.args.files.now) whole c.in-Ok.ensures.taken inv.room;
-      front = front_then c.args.archive.now.items c.loop-left.archive.items _ inv.front c.in-Ok.ensures.front;
+      front = front_then c.args.archive.now.items c.loop-left.archive.items _ inv.front
+          c.in-Ok.ensures.front;
       only = only_then _ _ _ inv.only c.in-Ok.ensures.meets.only;
       walked = step.walked;
     }

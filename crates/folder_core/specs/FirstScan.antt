@@ -1,0 +1,73 @@
+-- What a scan of a directory of which nothing was listed has found.
+use Rattle.std.specs.Prelude.{◌≡◌, ◌<◌, ◌+◌, ◌++◌, ℕ, List, [], None, Result, IfErr, IfOk, IsErrOf}
+use Rattle.std.specs.Prelude.{OnErr, length}
+use Rattle.std.specs.Prelude.{Option}
+use Rattle.mail_base.specs.Faults.{Rose}
+use Rattle.mail_base.specs.declared.kind.Kind.{Kind}
+use Rattle.disk_model.specs.Journal.{Past}
+use Rattle.disk_model.specs.Judge.{GoesOn}
+use Rattle.disk_model.specs.Looking.{OnlyLooks}
+use Rattle.disk_model.specs.Seen.{Seen}
+use Rattle.folder_core.specs.Format.{Format}
+use Rattle.folder_core.specs.Known.{KnownFolder}
+use Rattle.folder_core.specs.Letters.{Mail}
+use Rattle.folder_core.specs.Limits.{list_refusal, most_letters, most_messages}
+use Rattle.folder_core.specs.Message.{Message}
+use Rattle.folder_core.specs.Reads.{letters_from, listed_from}
+use Rattle.folder_core.specs.Scanned.{ListsNew, Saw}
+use Rattle.folder_core.specs.declared.error.ScanError.{ScanError}
+use Rattle.folder_core.specs.declared.error.ScanError.TheVariants.{ArchiveFull, Fault}
+use Rattle.folder_core.specs.declared.listing.Found.{Found}
+use Rattle.folder_core.specs.declared.listing.Listed.{Listed}
+
+-- what is known of a directory whose messages are listed
+abbrev pub known_listed : KnownFolder → List Listed → List ℕ → KnownFolder
+known_listed known came stamps = record known { listing = came; bytes = []; stamps = stamps }
+
+-- these messages came, and nothing else changed
+pub record IsFirst (came : List Listed) (found : Found) : Type 0 where
+  pub came_is : found.came.items ≡ came
+  pub gone : found.gone.items ≡ []
+  pub reflagged : found.reflagged.items ≡ []
+
+-- the messages that were found may be listed, and their letters stand at the end of the archive
+pub record IsListing (format : Format) (Sees : List Message → Past → Past → Type 0)
+    (archive new_archive : List Mail)
+    (came : List Listed) (old new : Option Past) : Type 0 where
+  pub messages : List Message
+  pub taken : list_refusal (length archive) messages ≡ None
+  pub letters : new_archive ≡ archive ++ letters_from format (length archive) messages
+  pub listed : came ≡ listed_from (length archive) messages
+  pub saw : GoesOn (Sees messages) old new
+
+-- the folder was refused beside so many letters
+abbrev pub FolderRefused : Format → ℕ → List ℕ → ScanError → Past → Past → Type 0
+FolderRefused format letters path why old new =
+    format.Refused letters path why (length old.journal) (length new.journal) new
+
+-- The messages of a directory are listed as they were seen, or it is refused for a cause that was
+-- seen.
+pub record ListsFolder {A : Type 0} (format : Format) (path : List ℕ)
+    (archive new_archive : List Mail)
+    (result : Result A ScanError) (came_of : A → List Listed)
+    (Sees : A → List Message → Past → Past → Type 0)
+    (old new : Seen) : Type 0 where
+  pub ok : IfOk result (λ given. IsListing format (Sees given) archive new_archive
+      (came_of given) old.told new.told)
+  pub refused : IfErr result
+      (λ why. GoesOn (FolderRefused format (length archive) path why) old.told new.told)
+  pub full : IsErrOf result ArchiveFull → most_letters < length archive + most_messages
+  pub only : OnlyLooks old new
+  pub cause : IsErrOf result Fault → Rose old.faults new.faults
+
+-- What a scan has seen and what it leaves, but for letters that stand behind the archive after a
+-- refusal.
+pub record ScansFolder (kind : Kind) (archive new_archive : List Mail)
+    (known new_known : KnownFolder)
+    (result : Result Found ScanError) (old new : Seen) : Type 0 where
+  pub saw : GoesOn (Saw kind archive new_archive new_known result) old.told new.told
+  pub lists : IfOk result (λ found. ListsNew found archive new_archive known new_known)
+  pub err_known : OnErr result (new_known ≡ known)
+  pub full : IsErrOf result ArchiveFull → most_letters < length archive + most_messages
+  pub only : OnlyLooks old new
+  pub cause : IsErrOf result Fault → Rose old.faults new.faults

@@ -1,0 +1,106 @@
+//! The messages of a folder that were found so far, listed as long as no limit is passed.
+
+ghost use Rattle.std.specs.Prelude.{◌≡◌, ◌+◌, ◌-◌, ◌<◌, ◌^◌, [], OnOk, length, take};
+ghost use Rattle.folder_core.specs.Letters.{plain_letter};
+ghost use Rattle.folder_core.specs.Limits.{most_bytes, sum_refusal, told_sum};
+ghost use Rattle.folder_core.specs.ListedSoFar as spec;
+
+use crate::{Archive, Letter, Listed, Listing, ScanError};
+use mail_base::{Flags, Id, NoMemory};
+use std::alloc::Global;
+
+/// The most messages that are listed.
+const MOST_MESSAGES: usize = 65_535;
+
+/// The most bytes of a folder.
+const MOST_BYTES: u64 = 536_870_912;
+
+/// The most letters of an archive.
+const MOST_LETTERS: usize = 4_294_967_295;
+
+/// What was found so far.
+#[derive(Drop)]
+pub struct ListedSoFar {
+    /// How many letters the archive had before.
+    pub letters: usize,
+    /// How many messages were found.
+    pub count: usize,
+    /// Their bytes together; 2^64 - 1 stands for all above it.
+    pub bytes: u64,
+    pub came: Listing,
+}
+
+impl ListedSoFar {
+    pub fn new(alloc: Global, letters: usize) -> Self
+        ensures letters { result.letters ≡ letters }
+        ensures count { result.count ≡ 0 }
+        ensures bytes { result.bytes ≡ 0 }
+        ensures came { result.came.items ≡ [] }
+    {
+        ListedSoFar {
+            letters,
+            count: 0,
+            bytes: 0,
+            came: Listing::new(alloc),
+        }
+    }
+
+    /// Why what was found is not listed.
+    pub fn refusal(&self) -> Option<ScanError>
+        ensures { result ≡ sum_refusal self.now.letters self.now.count self.now.bytes }
+    {
+        if self.count > MOST_MESSAGES {
+            return Some(ScanError::TooMany(self.count as u64));
+        }
+        if self.bytes > MOST_BYTES {
+            return Some(ScanError::TooLarge(self.bytes));
+        }
+        if self.letters > MOST_LETTERS - self.count {
+            return Some(ScanError::ArchiveFull);
+        }
+        None
+    }
+
+    /// What is left of the bytes that may be listed.
+    pub fn limit(&self) -> u64
+        ensures { result ≡ most_bytes - self.now.bytes }
+    {
+        MOST_BYTES.saturating_sub(self.bytes)
+    }
+
+    /// Counts a message of so many bytes.
+    pub fn count_one(&mut self, size: u64)
+        requires { self.old.count + 1 < 2 ^ 64 }
+        ensures { self.new ≡ record self.old {
+          count = self.old.count + 1;
+          bytes = told_sum (self.old.bytes + size);
+        } }
+    {
+        self.count += 1;
+        self.bytes = self.bytes.saturating_add(size);
+    }
+
+    /// Counts a message by its letter, and lists it where all found so far may be listed.
+    pub fn add(
+        &mut self,
+        flags: Flags,
+        letter: Letter,
+        archive: &mut Archive,
+    ) -> Result<(), NoMemory>
+        requires { self.old.count + 1 < 2 ^ 64 }
+        ensures ok { OnOk result (spec.store_of self.new archive.new.items
+            ≡ spec.store_with flags (plain_letter letter)
+            (spec.store_of self.old archive.old.items)) }
+        ensures front { take (length archive.old.items) archive.new.items ≡ archive.old.items }
+    {
+        let place = self.count;
+        self.count_one(letter.core.len() as u64);
+        if self.refusal().is_some() {
+            return Ok(());
+        }
+        let id = (self.letters + place) as u32;
+        self.came.push(Listed { id: Id(id), flags })?;
+        archive.push(letter)?;
+        Ok(())
+    }
+}

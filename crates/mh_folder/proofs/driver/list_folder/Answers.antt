@@ -1,0 +1,79 @@
+use Rattle.std.proofs.Common.{◌∙◌, ℕ, List, length, refl, sym}
+use Rattle.std.proofs.lemmas.List.{length-map}
+use Rattle.mail_base.specs.Series.{Held}
+use Rattle.folder_core.specs.Directory.{is_folder_at}
+use Rattle.folder_core.specs.Letters.{plain_letter}
+use Rattle.folder_core.specs.Mh.{SawStamped, mh_format}
+use Rattle.folder_core.specs.declared.listing.Listed.{Listed}
+use Rattle.folder_core.proofs.FirstScanLemmas.{folder_listed, folder_refused, no_cause, past_limit}
+use Rattle.folder_core.proofs.FirstScanLemmas.{walk_failed}
+use Rattle.folder_core.proofs.SeenLemmas.{only_then}
+use Rattle.mh_folder.specs.Scan.{MessagesSeen, StampedSeen}
+use Rattle.mh_folder.specs.Walk.{kept_of}
+use Rattle.mh_folder.proofs.DriverLemmas.{folder_walked, listed_walked, refused_walked}
+use Rattle.mh_folder.proofs.driver.list_folder.Goals as goal
+
+abbrev came_of : Held Listed × Held ℕ → List Listed
+came_of listed = listed.0.items
+
+pub returns-in-Err-read_sequences-clause-lists : goal.returns-in-Err-read_sequences-clause-lists
+returns-in-Err-read_sequences-clause-lists g c =
+    walk_failed mh_format c.args.path.now _ _ c.in-Err-read_sequences.why came_of
+    (λ listed. StampedSeen c.args.path.now listed.1.items) _ _ _
+    (λ p q. no_cause is_folder_at
+    (λ messages. SawStamped c.args.path.now messages (length p.journal) (length q.journal) q)
+    _ c.args.path.now c.in-Err-read_sequences.why _ _ q)
+    c.list_numbers.ensures.only c.in-Err-read_sequences.ensures.meets
+
+pub returns-in-Err-take_all-clause-lists : goal.returns-in-Err-take_all-clause-lists
+returns-in-Err-take_all-clause-lists g c =
+    walk_failed mh_format c.args.path.now _ _ c.in-Err-take_all.why came_of
+    (λ listed. StampedSeen c.args.path.now listed.1.items) _ _ _
+    (λ p q. no_cause is_folder_at
+    (λ messages. SawStamped c.args.path.now messages (length p.journal) (length q.journal) q)
+    _ c.args.path.now c.in-Err-take_all.why _ _ q)
+    (only_then _ _ _ c.list_numbers.ensures.only c.read_sequences.ensures.meets.only)
+    c.in-Err-take_all.ensures.meets
+
+pub returns-in-Some-clause-lists : goal.returns-in-Some-clause-lists
+returns-in-Some-clause-lists g c =
+    let sequences = c.in-Ok-read_sequences.ensures.meets.only in
+    let walk = c.in-Ok-take_all.ensures.meets.only in
+    let rest = only_then _ _ _ sequences walk in
+    let first = kept_of c.new-walk.result c.args.archive.now.items in
+    let kept = kept_of c.take_all.new.self c.take_all.new.archive.items in
+    folder_refused mh_format c.args.path.now c.in-Some.why _ _
+    (MessagesSeen c.args.path.now) first.store kept.store _ _
+    (λ messages p q. past_limit is_folder_at
+    (λ l. SawStamped c.args.path.now l (length p.journal) (length q.journal) q) _ c.args.path.now
+    messages
+    c.in-Some.why _ _ q)
+    (c.new-walk.ensures.letters ∙ c.len.ensures
+    ∙ sym (length-map c.args.archive.now.items plain_letter))
+    (sym c.refusal.ensures ∙ c.in-Some.is) (only_then _ _ _ c.list_numbers.ensures.only rest)
+    (refused_walked c.args.path.now first kept _ _
+    (folder_walked c.args.path.now c.in-Ok.files.items c.as_slice.result.now
+    c.in-Ok-read_sequences.sequences first kept
+    _ _ _ _ c.as_slice.ensures.value c.list_numbers.ensures.only.looks sequences.looks walk.looks
+    rest.looks
+    c.in-Ok.ensures.saw c.in-Ok-read_sequences.ensures.read c.in-Ok-take_all.ensures.walked))
+
+pub returns-clause-lists : goal.returns-clause-lists
+returns-clause-lists g c =
+    let sequences = c.in-Ok-read_sequences.ensures.meets.only in
+    let walk = c.in-Ok-take_all.ensures.meets.only in
+    let rest = only_then _ _ _ sequences walk in
+    let first = kept_of c.new-walk.result c.args.archive.now.items in
+    let kept = kept_of c.take_all.new.self c.take_all.new.archive.items in
+    folder_listed mh_format c.args.path.now
+    (c.take_all.new.self.so_far.came, c.take_all.new.self.stamps) _ _ first.store
+    kept.store _ _
+    (c.new-walk.ensures.letters ∙ c.len.ensures
+    ∙ sym (length-map c.args.archive.now.items plain_letter))
+    refl (sym c.refusal.ensures ∙ c.in-None.is) (only_then _ _ _ c.list_numbers.ensures.only rest)
+    (listed_walked c.args.path.now first kept _ _ (sym c.refusal.ensures ∙ c.in-None.is)
+    (folder_walked c.args.path.now c.in-Ok.files.items c.as_slice.result.now
+    c.in-Ok-read_sequences.sequences first kept
+    _ _ _ _ c.as_slice.ensures.value c.list_numbers.ensures.only.looks sequences.looks walk.looks
+    rest.looks
+    c.in-Ok.ensures.saw c.in-Ok-read_sequences.ensures.read c.in-Ok-take_all.ensures.walked))

@@ -1,0 +1,41 @@
+use Rattle.std.proofs.Common.{length, take_all, arith}
+use Rattle.std.proofs.lemmas.List.Elements.{All-rest}
+use Rattle.folder_core.proofs.SeenLemmas.{first_and_rest, front_then, meets_later, only_same}
+use Rattle.folder_core.proofs.SeenLemmas.{only_then}
+use Rattle.mh_folder.specs.NumberedName.{IsNumbered, plain_names}
+use Rattle.mh_folder.specs.Walk.{kept_of}
+use Rattle.mh_folder.proofs.WalkLemmas.{stepped, walking_first}
+use Rattle.mh_folder.proofs.walk.Walk.take_all.Goals as goal
+
+pub loop-left-init : goal.loop-left-init
+loop-left-init g c = record {
+  each = c.requires.each;
+  room = omega (arith, c.requires.empty.store.count);
+  front = take_all (length c.args.archive.now.items) c.args.archive.now.items (omega arith);
+  only = only_same _;
+  walked = λ bytes is. walking_first c.args.path.now bytes (plain_names c.args.files.now)
+      (kept_of c.args.self.now c.args.archive.now.items) _ c.requires.empty c.requires.rises;
+}
+
+pub returns-in-Err-clause-meets : goal.returns-in-Err-clause-meets
+returns-in-Err-clause-meets g c = meets_later c.in-Err.why _ _ _ c.loop-left.invariant.only
+    c.in-Err.ensures.meets
+
+pub loop-left-preserved : goal.loop-left-preserved
+loop-left-preserved g c =
+    let inv = c.loop-left.invariant in
+    let whole = first_and_rest c.loop-left.left.now _ c.file-item.result c.file-item.is
+    c.in-len1-up.len_at_least in
+    record {
+      each = All-rest IsNumbered c.file-item.result _ c.loop-left.left.now whole inv.each;
+      room = omega (arith, inv.room, c.in-Ok.ensures.count, c.in-len1-up.len_at_least);
+      front = front_then c.args.archive.now.items c.loop-left.archive.items _ inv.front
+          c.in-Ok.ensures.front;
+      only = only_then _ _ _ inv.only c.in-Ok.ensures.meets.only;
+      walked = λ bytes is. stepped c.args.path.now bytes
+          (plain_names c.args.files.now) c.loop-left.left.now _
+          c.file-item.result _ (kept_of c.loop-left.self c.loop-left.archive.items) _ _ _ _ whole
+          inv.each
+          inv.only.looks c.in-Ok.ensures.meets.only.looks (inv.walked bytes is)
+          (c.in-Ok.ensures.taken bytes is);
+    }

@@ -1,0 +1,25 @@
+use Rattle.std.proofs.Common.{◌≡◌, ◌≤◌, ◌+◌, ℕ, List, length, take}
+use Rattle.std.specs.List.{All}
+use Rattle.disk_model.specs.Looking.{OnlyLooks}
+use Rattle.mh_folder.specs.NumberedName.{IsNumbered, plain_names}
+use Rattle.mh_folder.specs.Sequences.{sequences_of}
+use Rattle.mh_folder.specs.Walk.{kept_of}
+use Rattle.mh_folder.proofs.WalkLemmas.{Walking}
+use Rattle.mh_folder.proofs.walk.Walk.take_all.Given as goal
+
+abbrev pub invariant-loop-left : goal.invariant-loop-left
+invariant-loop-left g l = record {
+  each : All IsNumbered l.left;
+  room : l.self.so_far.count + length l.left ≤ length l.files;
+  front : take (length l.initial.archive.items) l.archive.items ≡ l.initial.archive.items;
+  only : OnlyLooks ((goal.Disk-dyn g l.initial.disk.now).seen l.initial.disk.now.1)
+      ((goal.Disk-dyn g l.disk.now).seen l.disk.now.1);
+  walked : (bytes : List ℕ) → l.sequences ≡ sequences_of bytes
+      → Walking l.path bytes (plain_names l.files) (plain_names l.left)
+      (kept_of l.initial.self l.initial.archive.items) (kept_of l.self l.archive.items)
+      ((goal.Disk-dyn g l.initial.disk.now).seen l.initial.disk.now.1).told
+      ((goal.Disk-dyn g l.disk.now).seen l.disk.now.1).told;
+}
+
+abbrev pub decreases-loop-left : goal.decreases-loop-left
+decreases-loop-left g l = length l.left
