@@ -1,0 +1,269 @@
+-- How what the events say of the disk goes on by one event.
+use Rattle.std.proofs.Common.{◌≡◌, ◌≤◌, ℕ, ℤ, List, [], ◌∷◌, ◌++◌, Option, Some, None, Ok, IfSome}
+use Rattle.std.proofs.Common.{length}
+use Rattle.std.proofs.Common.{take, refl, sym, ◌∙◌, ap, subst, arith}
+use Rattle.std.proofs.Math.Seq.{take-length, take-append_seam}
+use Rattle.std.proofs.lemmas.List.{take-append-le}
+use Rattle.mail_base.specs.declared.kind.Kind.{Kind}
+use Rattle.disk_model.specs.Journal.{Past, Entry}
+use Rattle.disk_model.specs.Judge.{GoesOn}
+use Rattle.disk_model.specs.Looking.{HasLooked, LooksOnly}
+use Rattle.disk_model.specs.Seen.{Seen}
+use Rattle.disk_model.specs.Tree.{TreeNode}
+use Rattle.disk_model.proofs.Looking.{looks_same, looks_then}
+use Rattle.folder_core.specs.Letters.{Mail}
+use Rattle.keymap.specs.declared.key.Key.{Key}
+use Rattle.session.specs.declared.event.Marks.{Marks}
+use Rattle.session.specs.Events.{Happening, FileRead, FileRefused, KeyPressed, FolderOpened}
+use Rattle.session.specs.Events.{FolderRefused}
+use Rattle.session.specs.Happened.{AllCounted, AllHappened, Counts, Happened, IsCounted}
+use Rattle.session.specs.Happened.{IsTrueAt, counts_after, counts_at, counts_of, kind_in, marks_of}
+use Rattle.session.specs.Happened.{IsReadCause, WasRead, past_at}
+use Rattle.disk_model.specs.declared.answers.Stat.{Stat}
+use Rattle.disk_model.specs.declared.answers.DiskError.{DiskError}
+use Rattle.disk_model.specs.declared.answers.DiskError.TheVariants as disk
+use Rattle.mail_base.specs.Faults.{Rose}
+use Rattle.folder_core.proofs.SeenLemmas.{goes_as}
+use Rattle.session.specs.Runs.{State, after, after_events}
+use Rattle.session.specs.Telling.{IsTold, Tells, TellsFile, Witnessed}
+
+-- Pasts at marks.
+
+abbrev past : List TreeNode → List Entry → Past
+past first journal = record { first = first; journal = journal }
+
+past_stays : (mid new : Past) (mark : ℕ) → HasLooked mid new → mark ≤ length mid.journal
+    → past_at new mark ≡ past_at mid mark
+past_stays mid new mark looked low =
+    ap (λ (f : List TreeNode). past f (take mark new.journal)) looked.same_first
+    ∙ ap (λ (l : List Entry). past mid.first (take mark l)) looked.journal
+    ∙ ap (past mid.first) (take-append-le mark mid.journal looked.more low)
+
+past_seam : (mid new : Past) → HasLooked mid new → past_at new (length mid.journal) ≡ mid
+past_seam mid new looked =
+    ap (λ (f : List TreeNode). past f (take (length mid.journal) new.journal)) looked.same_first
+    ∙ ap (λ (l : List Entry). past mid.first (take (length mid.journal) l)) looked.journal
+    ∙ ap (past mid.first) (take-append_seam mid.journal looked.more)
+
+past_end : (new : Past) → past_at new (length new.journal) ≡ new
+past_end new = ap (past new.first) (take-length new.journal)
+
+at-append : (counts : Counts) (events : List Happening) (event : Happening)
+    → counts_at counts (events ++ event ∷ [])
+    ≡ counts_after (counts_at counts events) (marks_of event)
+at-append counts [] event = refl
+at-append counts (e ∷ events) event =
+    at-append (counts_after counts (marks_of e)) events event
+
+module _ (Has : Kind → Type 0) where
+  -- Marks only rise.
+
+  rises : (counts : Counts) (event : Happening) (marks : Option Marks)
+      → IsCounted Has counts event marks → counts.mark ≤ (counts_after counts marks).mark
+  rises counts event None h = omega arith
+  rises counts event (Some marks) h = omega (arith, h.mark, h.on)
+
+  rises_all : (counts : Counts) (events : List Happening) → AllCounted Has counts events
+      → counts.mark ≤ (counts_at counts events).mark
+  rises_all counts [] h = omega arith
+  rises_all counts (event ∷ events) h =
+      omega (
+        arith,
+        rises counts event (marks_of event) h.0,
+        rises_all (counts_after counts (marks_of event)) events h.1,
+      )
+
+  counted-append : (counts : Counts) (events : List Happening) (event : Happening)
+      → AllCounted Has counts events
+      → IsCounted Has (counts_at counts events) event (marks_of event)
+      → AllCounted Has counts (events ++ event ∷ [])
+  counted-append counts [] event h k = (k, tt)
+  counted-append counts (e ∷ events) event h k =
+      (h.0, counted-append (counts_after counts (marks_of e)) events event h.1 k)
+
+  module _ (archive : List Mail) where
+    -- What was true stays true.
+
+    true_stays : (mid new : Past) (empty : Kind) (counts : Counts) (event : Happening)
+        (marks : Option Marks) → IsCounted Has counts event marks
+        → (counts_after counts marks).mark ≤ length mid.journal → HasLooked mid new
+        → IsTrueAt Has empty archive event marks mid → IsTrueAt Has empty archive event marks new
+    true_stays mid new empty counts event None counted low looked h = tt
+    true_stays mid new empty counts event (Some marks) counted low looked h =
+        let before : marks.mark_before ≤ length mid.journal = omega (arith, counted.on, low) in
+        subst (λ (p : Past). Happened Has empty archive event p (past_at new marks.mark_after))
+        (sym (past_stays mid new marks.mark_before looked before))
+        (subst (λ (p : Past).
+        Happened Has empty archive event (past_at mid marks.mark_before) p)
+        (sym (past_stays mid new marks.mark_after looked low)) h)
+
+    all_stays : (mid new : Past) (s : State) (counts : Counts) (events : List Happening)
+        → AllCounted Has counts events → (counts_at counts events).mark ≤ length mid.journal
+        → HasLooked mid new → AllHappened Has archive s events mid
+        → AllHappened Has archive s events new
+    all_stays mid new s counts [] counted low looked h = tt
+    all_stays mid new s counts (event ∷ events) counted low looked h =
+        let next : Counts = counts_after counts (marks_of event) in
+        let first : next.mark ≤ length mid.journal =
+        omega (arith, rises_all (counts_after counts (marks_of event)) events counted.1, low) in (
+          true_stays mid new (kind_in s) counts event (marks_of event) counted.0 first looked h.0,
+          all_stays mid new (after s event) (counts_after counts (marks_of event)) events
+              counted.1 low looked h.1,
+        )
+
+    happened-append : (s t : State) (events : List Happening) (event : Happening) (new : Past)
+        → after_events s events ≡ t → AllHappened Has archive s events new
+        → IsTrueAt Has (kind_in t) archive event (marks_of event) new
+        → AllHappened Has archive s (events ++ event ∷ []) new
+    happened-append s t [] event new at h k = (
+      subst (λ (u : State). IsTrueAt Has (kind_in u) archive event (marks_of event) new) (sym at)
+          k,
+      tt,
+    )
+    happened-append s t (e ∷ events) event new at h k =
+        (h.0, happened-append (after s e) t events event new at h.1 k)
+
+    true_now : (empty : Kind) (event : Happening) (mid new : Past) (marks : Marks)
+        (at : Option Marks) → at ≡ Some marks → marks.mark_before ≡ length mid.journal
+        → marks.mark_after ≡ length new.journal → HasLooked mid new
+        → Happened Has empty archive event mid new → IsTrueAt Has empty archive event at new
+    true_now empty event mid new marks at is before after looked h =
+        subst (λ (o : Option Marks). IsTrueAt Has empty archive event o new) (sym is)
+        (subst (λ (p : Past). Happened Has empty archive event p (past_at new marks.mark_after))
+        (sym (ap (past_at new) before ∙ past_seam mid new looked))
+        (subst (λ (p : Past). Happened Has empty archive event mid p)
+        (sym (ap (past_at new) after ∙ past_end new)) h))
+
+    told_push : (s t : State) (events : List Happening) (event : Happening) (counts : Counts)
+        (marks : Marks) (low high : ℕ) (first mid new : Option Past)
+        → after_events s events ≡ t
+        → IsTold Has archive s events first mid
+        → AllCounted Has counts events → (counts_at counts events).mark ≡ low
+        → marks_of event ≡ Some marks → marks.mark_before ≡ low → marks.mark_after ≡ high
+        → IfSome mid (λ p. low ≡ length p.journal) → IfSome new (λ p. high ≡ length p.journal)
+        → GoesOn (Happened Has (kind_in t) archive event) mid new → LooksOnly mid new
+        → IsTold Has archive s (events ++ event ∷ []) first new
+    told_push s t events event counts marks low high None mid new here told counted at is before
+        after lows highs h looks = tt
+    told_push s t events event counts marks low high (Some f) None new here told counted at is
+        before after lows highs h looks = absurd told
+    told_push s t events event counts marks low high (Some f) (Some m) None here told counted at is
+        before after lows highs h looks = absurd looks
+    told_push s t events event counts marks low high (Some f) (Some m) (Some n) here told counted at
+        is before after lows highs h looks = (
+          looks_then (Some f) (Some m) (Some n) told.0 looks,
+          happened-append s t events event n here
+              (all_stays m n s counts events counted (omega (arith, at, lows)) looks told.1)
+              (true_now (kind_in t) event m n marks (marks_of event) is (before ∙ lows)
+              (after ∙ highs) looks h),
+        )
+
+    begins : (empty : Kind) (counts : Counts) (event : Happening) (mid new : Seen)
+        (tells : Tells Has empty archive event mid new) → counts ≡ counts_of mid
+        → IsCounted Has counts event (marks_of event)
+    begins empty counts event mid new tells at =
+        subst (λ (o : Option Marks). IsCounted Has counts event o) (sym tells.marked) (record {
+          mark = sym (ap (λ (c : Counts). c.mark) (at ∙ tells.before));
+          faults = sym (ap (λ (c : Counts). c.faults) (at ∙ tells.before));
+          on = omega (
+            arith,
+            tells.on,
+            ap (λ (c : Counts). c.mark) tells.before,
+            ap (λ (c : Counts). c.mark) tells.after,
+          );
+          cause = tells.cause;
+        })
+
+    -- an event that tells of the device
+    pub witnessed_push : (s t : State) (events : List Happening) (event : Happening)
+        (first mid new : Seen) → after_events s events ≡ t
+        → Tells Has (kind_in t) archive event mid new → Witnessed Has archive s events first mid
+        → Witnessed Has archive s (events ++ event ∷ []) first new
+    witnessed_push s t events event first mid new here tells h = record {
+      told = told_push s t events event (counts_of first) tells.marks mid.marks new.marks
+          first.told mid.told new.told here h.told h.counted (ap (λ (c : Counts). c.mark) h.at)
+          tells.marked (sym (ap (λ (c : Counts). c.mark) tells.before))
+          (sym (ap (λ (c : Counts). c.mark) tells.after)) tells.first tells.last tells.happened
+          tells.looks;
+      counted = counted-append (counts_of first) events event h.counted
+          (begins (kind_in t) (counts_at (counts_of first) events) event mid new tells h.at);
+      at = at-append (counts_of first) events event
+          ∙ ap (counts_after (counts_at (counts_of first) events)) tells.marked ∙ sym tells.after;
+    }
+
+    key_told : (s : State) (events : List Happening) (key : Key) (moment : ℤ)
+        (first now : Option Past) → IsTold Has archive s events first now
+        → IsTold Has archive s (events ++ KeyPressed key moment ∷ []) first now
+    key_told s events key moment None now h = tt
+    key_told s events key moment (Some f) None h = absurd h
+    key_told s events key moment (Some f) (Some n) h = (
+      h.0,
+      happened-append s (after_events s events) events (KeyPressed key moment) n refl h.1
+          tt,
+    )
+
+    -- a key
+    pub witnessed_key : (s : State) (events : List Happening) (key : Key) (moment : ℤ)
+        (first now : Seen) → Witnessed Has archive s events first now
+        → Witnessed Has archive s (events ++ KeyPressed key moment ∷ []) first now
+    witnessed_key s events key moment first now h = record {
+      told = key_told s events key moment first.told now.told h.told;
+      counted = counted-append (counts_of first) events (KeyPressed key moment) h.counted tt;
+      at = at-append (counts_of first) events (KeyPressed key moment) ∙ h.at;
+    }
+
+    none_told : (s : State) (told : Option Past) → IsTold Has archive s [] told told
+    none_told s None = tt
+    none_told s (Some past) = (looks_same (Some past), tt)
+
+    -- no event
+    pub witnessed_none : (s : State) (now : Seen) → Witnessed Has archive s [] now now
+    witnessed_none s now = record { told = none_told s now.told; counted = tt; at = refl }
+
+    -- an event of a file tells of the device
+    pub tells_file : (empty : Kind) (event : Happening) (old new : Seen) → TellsFile event old new
+        → Tells Has empty archive event old new
+    tells_file empty (FileRead path text kept) old new h = record {
+      marks = h.marks;
+      marked = h.marked;
+      before = h.before;
+      after = h.after;
+      on = h.on;
+      cause = tt;
+      happened = h.happened;
+      looks = h.looks;
+      first = h.first;
+      last = h.last;
+    }
+    tells_file empty (FileRefused path why kept) old new h = record {
+      marks = h.marks;
+      marked = h.marked;
+      before = h.before;
+      after = h.after;
+      on = h.on;
+      cause = h.cause;
+      happened = h.happened;
+      looks = h.looks;
+      first = h.first;
+      last = h.last;
+    }
+    tells_file empty (KeyPressed key moment) old new h = absurd h.cause
+    tells_file empty (FolderOpened path kind moment came kept) old new h = absurd h.cause
+    tells_file empty (FolderRefused path why kept) old new h = absurd h.cause
+
+pub read_told : (stat : Stat) (text path : List ℕ) (old new : Option Past)
+    → GoesOn (WasRead (Ok (stat, text)) path) old new
+    → GoesOn (λ (p q : Past). (s : Stat) × WasRead (Ok (s, text)) path p q) old new
+read_told stat text path old new h = goes_as old new (λ p q k. (stat, k)) h
+
+-- a fault of a read was counted
+pub read_cause : (why : DiskError) (marks : Marks) (before after : ℕ) → marks.faults_before ≡ before
+    → marks.faults_after ≡ after → (why ≡ disk.Fault → Rose before after) → IsReadCause why marks
+read_cause disk.Fault marks before after first last h =
+    subst (λ (n : ℕ). Rose n marks.faults_after) (sym first)
+    (subst (λ (n : ℕ). Rose before n) (sym last) (h refl))
+read_cause disk.Missing marks before after first last h = tt
+read_cause disk.WrongNode marks before after first last h = tt
+read_cause disk.Exists marks before after first last h = tt
+read_cause (disk.Long n) marks before after first last h = tt
+read_cause disk.NoMemory marks before after first last h = tt

@@ -1,0 +1,7 @@
+pub mod Events
+pub mod Runs
+pub mod Happened
+pub mod Telling
+pub mod Opening
+pub mod Starting
+pub mod Steps

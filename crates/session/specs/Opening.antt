@@ -1,0 +1,30 @@
+-- What the opening of a folder has seen, and what it leaves.
+use Rattle.std.specs.Prelude.{◌≡◌, ℕ, List, [], length, Result, Ok, Err, IfOk, IfErr, OnErr}
+use Rattle.mail_base.specs.declared.kind.Kind.{Kind}
+use Rattle.disk_model.specs.Journal.{Past}
+use Rattle.disk_model.specs.Judge.{GoesOn}
+use Rattle.disk_model.specs.Looking.{OnlyLooks}
+use Rattle.disk_model.specs.Seen.{Seen}
+use Rattle.folder_core.specs.Letters.{Mail}
+use Rattle.session.specs.Happened.{IsCause, IsFresh, WasOpened, WasRefused}
+use Rattle.session.specs.declared.event.OpenFault.{OpenFault}
+use Rattle.session.specs.declared.open.Opened.{Opened}
+
+-- what was read at a path, or why not, as the journal shows it
+abbrev pub WasLooked : (Kind → Type 0) → Kind → List Mail → List ℕ → Result Opened OpenFault
+    → Past → Past → Type 0
+WasLooked Has empty archive path (Ok opened) old new =
+    WasOpened empty archive path opened.kind opened.came.items (length old.journal)
+    (length new.journal) new
+WasLooked Has empty archive path (Err why) old new =
+    WasRefused Has empty path why (length old.journal) (length new.journal) new
+
+-- What the reading of a folder into an empty archive has seen, and what it leaves.
+pub record ReadsFolder (Has : Kind → Type 0) (empty : Kind) (archive : List Mail) (path : List ℕ)
+    (result : Result Opened OpenFault) (old new : Seen) : Type 0 where
+  pub looked : GoesOn (WasLooked Has empty archive path result) old.told new.told
+  pub cause : IfErr result (λ why. IsCause Has why old.faults new.faults)
+  pub driver : IfOk result (λ opened. Has opened.kind)
+  pub fresh : IfOk result (λ opened. IsFresh archive opened.came.items)
+  pub none : OnErr result (archive ≡ [])
+  pub only : OnlyLooks old new

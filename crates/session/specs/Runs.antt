@@ -1,0 +1,198 @@
+-- A run: what a state wishes, what an event makes of it, and the screens.
+use Rattle.std.specs.Prelude.{◌≡◌, ℕ, ℤ, pos, List, [], ◌∷◌, ◌++◌, Option, option_map, Bool, true}
+use Rattle.std.specs.Prelude.{false}
+use Rattle.mail_base.specs.Series.{Held, plain_texts}
+use Rattle.disk_model.specs.declared.answers.DiskError.{DiskError}
+use Rattle.disk_model.specs.declared.answers.DiskError.TheVariants as disk
+use Rattle.folder_core.specs.Letters.{Mail}
+use Rattle.folder_core.specs.declared.listing.Listed.{Listed}
+use Rattle.keymap.specs.Queue.{most_replacements}
+use Rattle.keymap.specs.declared.key.Key.{Key}
+use Rattle.rc_lang_words.specs.declared.fault.RcFault.{RcFault}
+use Rattle.rc_lang_words.specs.declared.fault.RcFault.TheVariants as fault
+use Rattle.session_state.specs.declared.core_state.Core.{Core}
+use Rattle.session_state.specs.declared.desk.MessageLine.TheVariants.{Blank}
+use Rattle.session_state.specs.declared.desk.Stage.{Stage}
+use Rattle.session_state.specs.declared.desk.Stage.TheVariants.{Unopened, Pushing, Idle, Ready}
+use Rattle.session_state.specs.declared.desk.Stage.TheVariants.{Over}
+use Rattle.session_state.specs.Effects.{opened, said}
+use Rattle.session_state.specs.Frames.{PlainFrame, Script, plain_frames, read_script, skip_script}
+use Rattle.session_state.specs.Keys.{TurnState, run_keys}
+use Rattle.session_state.specs.Places.{folder_path}
+use Rattle.session_state.specs.Screen.{screen}
+use Rattle.session.specs.Events.{Happening, FileRead, FileRefused, KeyPressed, FolderOpened}
+use Rattle.session.specs.Events.{FolderRefused}
+use Rattle.session.specs.declared.session_type.Session.{Session}
+
+-- what keys act on; the files of commands that are not at their ends, and what was told of them;
+-- the
+-- messages of the open folder; and the folder that the words name
+pub record State : Type 0 where
+  pub turn : TurnState
+  pub frames : List PlainFrame
+  pub notes : List (List ℕ)
+  pub listing : List Listed
+  pub named : Option (List ℕ)
+
+abbrev pub plain_session : Session → Held (Held ℕ) → State
+plain_session session notes = record {
+  turn = record {
+    core = session.core;
+    queue = session.queue.items;
+    replaced = session.queue.replaced;
+    stage = session.stage;
+  };
+  frames = plain_frames session.frames;
+  notes = plain_texts notes;
+  listing = session.listing.items;
+  named = option_map (λ path. path.items) session.named;
+}
+
+-- Wishes.
+
+pub data Wish : Type 0 where
+  Nothing : Wish
+  Source : (path : List ℕ) → Wish
+  Open : (path : List ℕ) → Wish
+  Press : (moment : ℤ) → Wish
+
+-- first the files of commands, and then the folder
+abbrev pub first_wish : List PlainFrame → State → Wish
+first_wish [] s = Open (folder_path s.turn.core.rules.settings s.named)
+first_wish (frame ∷ frames) s = Source frame.place.file
+
+abbrev pub wish_at : Stage → State → ℤ → Wish
+wish_at Unopened s moment = first_wish s.frames s
+wish_at Pushing s moment = Nothing
+wish_at Idle s moment = Press moment
+wish_at Ready s moment = Press moment
+wish_at Over s moment = Nothing
+
+-- what is wished at this moment
+abbrev pub wish : State → ℤ → Wish
+wish s moment = wish_at s.turn.stage s moment
+
+-- the moment of an event that has one
+abbrev pub moment_of : Happening → ℤ
+moment_of (FileRead path text marks) = pos 0
+moment_of (FileRefused path why marks) = pos 0
+moment_of (KeyPressed key moment) = moment
+moment_of (FolderOpened path kind moment came marks) = moment
+moment_of (FolderRefused path why marks) = pos 0
+
+-- the wish that an event answers
+abbrev pub answered : Happening → Wish
+answered (FileRead path text marks) = Source path
+answered (FileRefused path why marks) = Source path
+answered (KeyPressed key moment) = Press moment
+answered (FolderOpened path kind moment came marks) = Open path
+answered (FolderRefused path why marks) = Open path
+
+abbrev pub Answers : State → Happening → Type 0
+Answers s event = wish s (moment_of event) ≡ answered event
+
+-- What an event makes of the state.
+
+abbrev pub at_stage : Stage → State → State
+at_stage stage s = record s { turn = record s.turn { stage = stage } }
+
+abbrev pub with_script : Script → State → State
+with_script script s = record s {
+  turn = record s.turn { core = record s.turn.core { rules = script.rules } };
+  frames = script.frames;
+  notes = script.notes;
+}
+
+-- nothing stands at the path
+abbrev pub is_missing : DiskError → Bool
+is_missing disk.Missing = true
+is_missing _ = false
+
+-- what is told where a file was not read
+abbrev pub read_fault : DiskError → RcFault
+read_fault disk.NoMemory = fault.NoMemory
+read_fault _ = fault.NotRead
+
+-- a key was taken: the message line is empty
+abbrev pub taken_at : Stage → State → State
+taken_at Idle s =
+    record s { turn = record s.turn { core = said Blank s.turn.core; stage = Ready } }
+taken_at Unopened s = s
+taken_at Pushing s = s
+taken_at Ready s = s
+taken_at Over s = s
+
+abbrev pub taken : State → State
+taken s = taken_at s.turn.stage s
+
+-- these keys act, of which none was replaced yet
+abbrev pub acting : List Key → Core → State → State
+acting keys c s = record s { turn = run_keys s.listing most_replacements 0 keys c }
+
+-- the keys that commands have put act
+abbrev pub pushed : State → State
+pushed s =
+    acting s.turn.core.rules.put
+    (record s.turn.core { rules = record s.turn.core.rules { put = [] } }) s
+
+abbrev pub opened_by : List Listed → State → State
+opened_by came s = record s {
+  turn = record s.turn { core = opened came s.turn.core; stage = Pushing };
+  listing = came;
+}
+
+-- the text of the file that was wished was read
+abbrev pub read_in : List ℕ → State → State
+read_in text s = with_script (read_script text s.frames s.turn.core.rules s.notes) s
+
+-- the file that was wished was not read
+abbrev pub skipped : DiskError → State → State
+skipped why s =
+    with_script (skip_script (is_missing why) (read_fault why) s.frames s.turn.core.rules s.notes) s
+
+-- a key was typed
+abbrev pub typed : Key → State → State
+typed key s = acting (s.turn.queue ++ key ∷ []) s.turn.core s
+
+-- the state that an event leads to, in which keys may still wait behind an opening
+abbrev pub arrived : State → Happening → State
+arrived s (FileRead path text marks) = read_in text s
+arrived s (FileRefused path why marks) = skipped why s
+arrived s (KeyPressed key moment) = typed key (taken s)
+arrived s (FolderOpened path kind moment came marks) = opened_by came s
+arrived s (FolderRefused path why marks) = at_stage Over s
+
+-- the state after an event
+abbrev pub after : State → Happening → State
+after s (FileRead path text marks) = arrived s (FileRead path text marks)
+after s (FileRefused path why marks) = arrived s (FileRefused path why marks)
+after s (KeyPressed key moment) = arrived s (KeyPressed key moment)
+after s (FolderOpened path kind moment came marks) =
+    pushed (arrived s (FolderOpened path kind moment came marks))
+after s (FolderRefused path why marks) = arrived s (FolderRefused path why marks)
+
+abbrev pub after_events : State → List Happening → State
+after_events s [] = s
+after_events s (event ∷ events) = after_events (after s event) events
+
+-- each event answers the wish of the state before it
+abbrev pub IsRunFrom : State → List Happening → Type 0
+IsRunFrom s [] = Unit {0}
+IsRunFrom s (event ∷ events) = Answers s event × IsRunFrom (after s event) events
+
+-- a state that wants a key shows its screen
+abbrev pub stage_screens : List Mail → Stage → State → List (List (List ℕ))
+stage_screens archive Unopened s = []
+stage_screens archive Pushing s = []
+stage_screens archive Idle s = screen archive s.listing s.turn.core.desk ∷ []
+stage_screens archive Ready s = []
+stage_screens archive Over s = []
+
+abbrev pub shown : List Mail → State → List (List (List ℕ))
+shown archive s = stage_screens archive s.turn.stage s
+
+-- the screens, each by its lines: one after each event after which a key is wanted
+abbrev pub screens_from : List Mail → State → List Happening → List (List (List ℕ))
+screens_from archive s [] = []
+screens_from archive s (event ∷ events) =
+    shown archive (after s event) ++ screens_from archive (after s event) events

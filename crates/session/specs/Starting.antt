@@ -1,0 +1,75 @@
+-- The state that a run starts from, by the words of a command line.
+use Rattle.std.specs.Prelude.{ℕ, List, [], ◌∷◌, ◌++◌, Option, Some, None, codes, map, option_map}
+use Rattle.mail_base.specs.Shown.{utf8_text}
+use Rattle.mail_base.specs.declared.kind.Kind.{Kind}
+use Rattle.mail_base.specs.declared.kind.Kind.TheVariants.{Mbox, Maildir, Mh, Mmdf}
+use Rattle.session_state.specs.declared.desk.MessageLine.TheVariants.{Blank}
+use Rattle.session_state.specs.declared.desk.Stage.TheVariants.{Unopened}
+use Rattle.session_state.specs.declared.desk.Wanted.TheVariants.{Unasked}
+use Rattle.session_state.specs.declared.frame.Origin.TheVariants.{Default, Named, Typed}
+use Rattle.session_state.specs.Frames.{PlainFrame, unread, with_text}
+use Rattle.session_state.specs.Rules.{first_rules}
+use Rattle.session.specs.declared.setup.Setup.{Setup}
+use Rattle.folder_core.specs.declared.error.ScanError.TheVariants.{Fault, NoMemory}
+use Rattle.session.specs.declared.event.OpenFault.{OpenFault}
+use Rattle.session.specs.declared.event.OpenFault.TheVariants.{Folder}
+use Rattle.session.specs.declared.setup.StartError.{StartError}
+use Rattle.session.specs.declared.setup.StartError.TheVariants.{NotOpened, DiskFault}
+use Rattle.session.specs.declared.setup.StartError.TheVariants.{NoMemory as WantOfMemory}
+use Rattle.session.specs.Events.{Happening, FolderRefused}
+use Rattle.session.specs.Runs.{State}
+
+-- the file of commands: the named one, or one that need not be there
+abbrev pub rc_frame : Option (List ℕ) → PlainFrame
+rc_frame None = unread (codes ".muttrc") Default 0
+rc_frame (Some path) = unread (utf8_text path) Named 0
+
+-- a command of the command line
+abbrev pub typed_frame : List ℕ → PlainFrame
+typed_frame text = with_text text (unread (codes "-e") Typed 0)
+
+-- the command that sets the kind of new folders
+abbrev pub kind_command : Kind → List ℕ
+kind_command Mbox = codes "set mbox_type=mbox"
+kind_command Maildir = codes "set mbox_type=Maildir"
+kind_command Mh = codes "set mbox_type=MH"
+kind_command Mmdf = codes "set mbox_type=MMDF"
+
+abbrev pub kind_frames : Option Kind → List PlainFrame
+kind_frames None = []
+kind_frames (Some kind) = typed_frame (kind_command kind) ∷ []
+
+-- the files of commands, in the order in which they are run
+abbrev pub first_frames : Setup → List PlainFrame
+first_frames setup =
+    rc_frame (option_map (λ path. path.items) setup.rc)
+    ∷ (map (λ text. typed_frame text.items) setup.commands.items ++ kind_frames setup.kind)
+
+abbrev pub first_state : Setup → State
+first_state setup = record {
+  turn = record {
+    core = record {
+      rules = first_rules;
+      desk = record { cursor = 0; rows = setup.rows; cols = setup.cols; message = Blank };
+      wanted = Unasked;
+    };
+    queue = [];
+    replaced = 0;
+    stage = Unopened;
+  };
+  frames = first_frames setup;
+  notes = [];
+  listing = [];
+  named = option_map (λ path. path.items) setup.path;
+}
+
+-- why the folder was not opened
+abbrev pub refusal_of : Happening → Option OpenFault
+refusal_of (FolderRefused path why marks) = Some why
+refusal_of _ = None
+
+-- how a start ends whose folder was not opened
+abbrev pub start_error : OpenFault → StartError
+start_error (Folder Fault) = DiskFault
+start_error (Folder NoMemory) = WantOfMemory
+start_error why = NotOpened why

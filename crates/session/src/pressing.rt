@@ -1,0 +1,95 @@
+//! The keys of a session.
+
+ghost use Rattle.std.specs.Prelude.{◌≡◌};
+ghost use Rattle.session.specs.Events.{KeyPressed, plain_event};
+
+use crate::event::{Event, Trace};
+use crate::session_type::Session;
+use crate::setup::Next;
+use folder_core::Drivers;
+use keymap::Key;
+use mail_base::{Lines, NoMemory};
+use session_state::{Stage, screen_lines};
+use std::alloc::Global;
+
+impl Session {
+    ghost use Rattle.std.specs.Prelude.{◌≡◌, ◌≤◌, ℕ, Any, List, IfOk, OnOk, map};
+    ghost use Rattle.folder_core.specs.Letters.{Mail, plain_letter};
+    ghost use Rattle.mail_base.specs.Series.{plain_texts};
+    ghost use Rattle.session.specs.Events.{plain_events};
+    ghost use Rattle.session.specs.Runs.{State, plain_session, pushed as pushed_on};
+    ghost use Rattle.session.specs.Steps.{IsNext, IsTaken, PressesKey, Stands, StaysRun};
+    ghost use Rattle.session_state.specs.Screen.{screen as screen_of};
+    ghost use Rattle.session_state.specs.declared.desk.Stage.TheVariants.{Idle, Ready};
+
+    /// Lets the keys act that commands have put before the first screen.
+    pub fn pushed(&mut self, trace: &Trace) -> Result<Next, NoMemory>
+        ensures { OnOk result (plain_session self.new trace.now.notes
+            ≡ pushed_on (plain_session self.old trace.now.notes)) }
+    {
+        self.push_keys()?;
+        Ok(self.next())
+    }
+
+    /// A key was taken: empties the message line.
+    pub fn check(&mut self, trace: &Trace)
+        requires { self.old.stage ≡ Idle }
+        ensures ready { self.new.stage ≡ Ready }
+        ensures stood { (archive : List Mail) → (first : State) → (screens : List (List (List ℕ)))
+            → Stands archive first (plain_events trace.now.events.items)
+            (plain_session self.old trace.now.notes) screens
+            → IsTaken archive first (plain_events trace.now.events.items)
+            (plain_session self.new trace.now.notes) screens }
+    {
+        self.take_key();
+    }
+
+    /// Lets a typed key act. Call `check` first.
+    pub fn key(
+        &mut self,
+        key: Key,
+        moment: i64,
+        drivers: &Drivers,
+        trace: &mut Trace,
+    ) -> Result<Next, NoMemory>
+        requires { self.old.stage ≡ Ready }
+        ensures pressed { OnOk result (PressesKey key moment
+            (plain_session self.old trace.old.notes) (plain_session self.new trace.new.notes)
+            (plain_events trace.old.events.items) (plain_events trace.new.events.items)) }
+        ensures stays { StaysRun (λ kind. Any (λ d. sort (d.vtable, d.value) ≡ kind)
+            drivers.now.list.items) (plain_session self.old trace.old.notes)
+            (plain_events trace.old.events.items) (plain_events trace.new.events.items) }
+        ensures archive { trace.new.archive ≡ trace.old.archive }
+    {
+        trace.events.reserve(1)?;
+        self.happen(pressed_event(key, moment), trace)?;
+        Ok(self.next())
+    }
+
+    fn next(&self) -> Next {
+        match self.stage {
+            Stage::Over => Next::Quit,
+            _ => Next::Go,
+        }
+    }
+
+    /// The lines of the screen.
+    pub fn screen(&self, alloc: Global, trace: &Trace) -> Result<Lines, NoMemory>
+        requires { 6 ≤ self.now.core.desk.rows }
+        ensures { IfOk result (λ lines. plain_texts lines ≡ screen_of
+            (map plain_letter trace.now.archive.items) self.now.listing.items self.now.core.desk) }
+    {
+        screen_lines(
+            alloc,
+            &trace.archive,
+            self.listing.as_slice(),
+            self.core.desk,
+        )
+    }
+}
+
+fn pressed_event(key: Key, moment: i64) -> Event
+    ensures { plain_event result ≡ KeyPressed key moment }
+{
+    Event::Pressed { key, moment }
+}

@@ -1,0 +1,72 @@
+//! The reading of a file of commands, with its event.
+
+ghost use Rattle.std.specs.Prelude.{◌≡◌};
+ghost use Rattle.session.specs.Events.{plain_event};
+ghost use Rattle.session.specs.Runs.{Source, answered};
+ghost use Rattle.session.specs.Telling.{TellsFile};
+
+use crate::event::{Event, Marks};
+use crate::session_type::Session;
+use disk_model::Device;
+use mail_base::{Bytes, NoMemory};
+use session_state::text_of;
+use std::alloc::Global;
+
+/// The most bytes of a file of commands.
+const MOST_COMMANDS: u64 = 1_048_576;
+
+/// Reads the whole file, and tells what happened. The name is that of the path.
+pub fn source_event(alloc: Global, dev: &mut Device, path: &str, name: Bytes) -> Event
+    requires { name.items ≡ path.now }
+    ensures tells { TellsFile (plain_event result) (seen (dev.old.disk.vtable, dev.old.disk.value))
+        (seen (dev.new.disk.vtable, dev.new.disk.value)) }
+    ensures answers { answered (plain_event result) ≡ Source name.items }
+{
+    let mark_before = dev.mark();
+    let faults_before = dev.faults();
+    let answer = dev.read_all(alloc, path, MOST_COMMANDS);
+    let marks = Marks {
+        mark_before,
+        mark_after: dev.mark(),
+        faults_before,
+        faults_after: dev.faults(),
+    };
+    match answer {
+        Ok(file) => Event::Sourced {
+            path: name,
+            text: file.bytes,
+            marks,
+        },
+        Err(why) => Event::NotSourced {
+            path: name,
+            why,
+            marks,
+        },
+    }
+}
+
+impl Session {
+    ghost use Rattle.std.specs.Prelude.{◌≡◌, [], IfOk, IfSome, MatchOption};
+    ghost use Rattle.session.specs.Runs.{State, answered, first_wish};
+    ghost use Rattle.session.specs.Events.{plain_event};
+    ghost use Rattle.session.specs.Telling.{OnNoFile, TellsFile};
+    ghost use Rattle.session_state.specs.Frames.{plain_frames};
+
+    /// Reads the file of commands that is wished, if there is one, and tells what happened.
+    pub fn source(&self, dev: &mut Device) -> Result<Option<Event>, NoMemory>
+        ensures ok { IfOk result (λ sourced. MatchOption sourced
+            (plain_frames self.now.frames ≡ [])
+            (λ event. TellsFile (plain_event event) (seen (dev.old.disk.vtable, dev.old.disk.value))
+            (seen (dev.new.disk.vtable, dev.new.disk.value)))) }
+        ensures wish { IfOk result (λ sourced. IfSome sourced (λ event. (s : State)
+            → first_wish (plain_frames self.now.frames) s ≡ answered (plain_event event))) }
+        ensures still { OnNoFile result (seen (dev.old.disk.vtable, dev.old.disk.value))
+            (seen (dev.new.disk.vtable, dev.new.disk.value)) }
+    {
+        let Some(file) = self.wished_file() else {
+            return Ok(None);
+        };
+        let name = Bytes::copy_of(self.alloc, file.as_slice())?;
+        Ok(Some(source_event(self.alloc, dev, text_of(file), name)))
+    }
+}

@@ -1,0 +1,5 @@
+mod Fitting
+mod Shape
+mod KeysLemmas
+mod CommandsLemmas
+mod TurnLemmas

@@ -1,0 +1,19 @@
+use Rattle.std.proofs.Common.{◌≡◌, ◌-◌, length}
+use Rattle.mail_base.specs.Series.{plain_texts}
+use Rattle.session_state.specs.Frames.{commands_left, file_run, place_of}
+use Rattle.session_state.proofs.frame.Frame.run.Given as goal
+
+abbrev pub invariant-loop-self : goal.invariant-loop-self
+invariant-loop-self l = record {
+  went : file_run (place_of l.self) (commands_left l.self) l.rules (plain_texts l.notes)
+      ≡ file_run (place_of l.initial.self) (commands_left l.initial.self) l.initial.rules
+      (plain_texts l.initial.notes);
+  file : l.self.file ≡ l.initial.self.file;
+  origin : l.self.origin ≡ l.initial.self.origin;
+  depth : l.self.depth ≡ l.initial.self.depth;
+  read : l.self.is_read ≡ l.initial.self.is_read;
+  commands : l.self.commands ≡ l.initial.self.commands;
+}
+
+abbrev pub decreases-loop-self : goal.decreases-loop-self
+decreases-loop-self l = length l.self.commands.items - l.self.next

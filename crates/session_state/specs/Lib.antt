@@ -1,0 +1,9 @@
+pub mod Rules
+pub mod Places
+pub mod Commands
+pub mod Frames
+pub mod Effects
+pub mod Functions
+pub mod Keys
+pub mod Columns
+pub mod Screen

@@ -1,0 +1,183 @@
+//! The commands of muttrc.
+
+ghost use Rattle.std.specs.Prelude.{◌≡◌, ◌≢◌, Err, IfOk, OnOk};
+ghost use Rattle.keymap.specs.Bindings.{Replace, Run};
+ghost use Rattle.keymap.specs.Keymap.{IsSequence};
+ghost use Rattle.session_state.specs.Commands.{bound_all, plain_obeyed};
+ghost use Rattle.rc_lang_words.specs.Faults.{no_memory, plain_error};
+
+use crate::request::{BindRequest, MacroRequest, calls_of, key_text, word_at};
+use crate::rules::Rules;
+use keymap::{Key, Keymap, Keys};
+use mail_base::{Line, NoMemory, Words, append_utf8};
+use rc_lang::{Command, RcError, RcFault, RcWords};
+
+/// What a command came to.
+#[derive(Drop)]
+pub enum Obeyed {
+    Done,
+    /// The file at the path is to be read.
+    Source(Line),
+    Refused(RcError),
+}
+
+impl Rules {
+    ghost use Rattle.std.specs.Prelude.{◌≡◌, ◌++◌, Ok, drop, IfOk, OnOk};
+    ghost use Rattle.mail_base.specs.Series.{plain_texts};
+    ghost use Rattle.rc_lang.specs.Settings.{outcome};
+    ghost use Rattle.rc_lang_words.specs.Words.{plain_words};
+    ghost use Rattle.session_state.specs.Commands as spec;
+
+    /// Runs a command by its words. The words of a `set` before a faulty one stay applied; else a
+    /// command that is refused changes nothing.
+    pub fn run(&mut self, words: &RcWords) -> Result<Obeyed, NoMemory>
+        ensures { IfOk result (λ obeyed. record {
+          rules = self.new;
+          answer = spec.plain_obeyed obeyed;
+        } ≡ spec.ran (plain_words words.now) self.old) }
+    {
+        match self.obey(words) {
+            Ok(None) => Ok(Obeyed::Done),
+            Ok(Some(path)) => Ok(Obeyed::Source(path)),
+            Err(error) => refusal(error),
+        }
+    }
+
+    #[tactic(auto, unfolding(crate::specs::Commands::ran))]
+    fn obey(&mut self, words: &RcWords) -> Result<Option<Line>, RcError>
+        ensures { spec.IsRan result self.new (spec.ran (plain_words words.now) self.old) }
+    {
+        let command = self.settings.read_command(self.alloc, words)?;
+        let texts = self.settings.expand(self.alloc, words)?;
+        self.carry_out(command, &texts)
+    }
+
+    fn carry_out(&mut self, command: Command, words: &Words) -> Result<Option<Line>, RcError>
+        ensures { spec.IsRan result self.new
+            (spec.obeyed command (plain_texts words.now) self.old) }
+    {
+        match command {
+            Command::Set | Command::Unset | Command::Toggle | Command::Reset => self.set(words),
+            Command::Bind => self.bind(words),
+            Command::Macro => self.bind_macro(words),
+            Command::Push => self.push(words),
+            Command::Exec => self.exec(words),
+            Command::Source => self.source(words),
+            _ => Ok(None),
+        }
+    }
+
+    fn set(&mut self, words: &Words) -> Result<Option<Line>, RcError>
+        ensures { spec.IsRan result self.new
+            (spec.set_by (outcome self.old.settings (plain_texts words.now)) self.old) }
+    {
+        match self.settings.apply(words) {
+            Ok(_) => Ok(None),
+            Err(error) => Err(error),
+        }
+    }
+
+    fn bind(&mut self, words: &Words) -> Result<Option<Line>, RcError>
+        ensures { spec.IsRan result self.new
+            (spec.bound_by (spec.bind_of (plain_texts words.now)) self.old) }
+    {
+        let request = BindRequest::read(self.alloc, words)?;
+        match bind_all(&mut self.keymap, &request) {
+            Ok(()) => Ok(None),
+            Err(NoMemory) => Err(RcError::no_memory(self.alloc)),
+        }
+    }
+
+    fn bind_macro(&mut self, words: &Words) -> Result<Option<Line>, RcError>
+        ensures { spec.IsRan result self.new
+            (spec.replaced_by (spec.macro_of (plain_texts words.now)) self.old) }
+    {
+        let request = MacroRequest::read(self.alloc, words)?;
+        match replace_all(&mut self.keymap, &request) {
+            Ok(()) => Ok(None),
+            Err(NoMemory) => Err(RcError::no_memory(self.alloc)),
+        }
+    }
+
+    fn push(&mut self, words: &Words) -> Result<Option<Line>, RcError>
+        ensures { spec.IsRan result self.new
+            (spec.put_by (spec.text_of (spec.word_at (plain_texts words.now) 1)) self.old) }
+    {
+        let keys = key_text(self.alloc, word_at(words, 1))?;
+        self.put_keys(&keys)
+    }
+
+    fn exec(&mut self, words: &Words) -> Result<Option<Line>, RcError>
+        ensures { spec.IsRan result self.new
+            (spec.put_by (spec.calls_of (drop 1 (plain_texts words.now))) self.old) }
+    {
+        let names = words.as_slice().get(1..).unwrap_or(&[]);
+        let keys = calls_of(self.alloc, names)?;
+        self.put_keys(&keys)
+    }
+
+    fn put_keys(&mut self, keys: &Keys) -> Result<Option<Line>, RcError>
+        ensures { spec.IsRan result self.new (spec.put_by (Ok keys.now.items) self.old) }
+    {
+        match self.put_before(keys.as_slice()) {
+            Ok(()) => Ok(None),
+            Err(NoMemory) => Err(RcError::no_memory(self.alloc)),
+        }
+    }
+
+    // Puts keys before all that were put.
+    fn put_before(&mut self, keys: &[Key]) -> Result<(), NoMemory>
+        ensures { OnOk result (self.new ≡ record self.old { put = keys.now ++ self.old.put }) }
+    {
+        let mut all = Vec::from_slice(self.alloc, keys)?;
+        all.extend_from_slice(self.put.as_slice())?;
+        self.put = Keys::from_vec(all);
+        Ok(())
+    }
+
+    fn source(&mut self, words: &Words) -> Result<Option<Line>, RcError>
+        ensures { spec.IsRan result self.new
+            (spec.sourcing (spec.word_at (plain_texts words.now) 1) self.old) }
+    {
+        let mut path = Line::new(self.alloc);
+        match append_utf8(&mut path, word_at(words, 1)) {
+            Ok(()) => Ok(Some(path)),
+            Err(NoMemory) => Err(RcError::no_memory(self.alloc)),
+        }
+    }
+}
+
+// Binds the keys in all of the menus.
+fn bind_all(keymap: &mut Keymap, request: &BindRequest) -> Result<(), NoMemory>
+    requires { IsSequence request.now.keys.items }
+    ensures { OnOk result (keymap.new ≡ bound_all request.now.menus.items
+        request.now.keys.items (Run request.now.function) keymap.old) }
+{
+    for menu in &request.menus {
+        keymap.bind(*menu, &request.keys, request.function)?;
+    }
+    Ok(())
+}
+
+// Binds the keys to their text in all of the menus.
+fn replace_all(keymap: &mut Keymap, request: &MacroRequest) -> Result<(), NoMemory>
+    requires { IsSequence request.now.keys.items }
+    ensures { OnOk result (keymap.new ≡ bound_all request.now.menus.items
+        request.now.keys.items (Replace request.now.text.items) keymap.old) }
+{
+    for menu in &request.menus {
+        keymap.macro_key(*menu, &request.keys, &request.text)?;
+    }
+    Ok(())
+}
+
+/// A fault, unless memory ran out.
+pub fn refusal(error: RcError) -> Result<Obeyed, NoMemory>
+    ensures value { IfOk result (λ obeyed. plain_obeyed obeyed ≡ Err (plain_error error)) }
+    ensures some { IfOk result (λ _. plain_error error ≢ no_memory) }
+{
+    match error.fault {
+        RcFault::NoMemory => Err(NoMemory),
+        _ => Ok(Obeyed::Refused(error)),
+    }
+}

@@ -1,0 +1,237 @@
+//! Files of commands, each inside of the one that names it.
+
+ghost use Rattle.std.specs.Prelude.{◌≡◌, ◌∷◌, [], IfOk, OnOk, MatchOption};
+ghost use Rattle.mail_base.specs.Series.{plain_texts};
+ghost use Rattle.rc_lang_words.specs.Words.{plain_line};
+ghost use Rattle.session_state.specs.Commands.{plain_obeyed};
+ghost use Rattle.session_state.specs.Frames as spec;
+
+use crate::commands::{Obeyed, refusal};
+use crate::note::add_note;
+use crate::rules::Rules;
+use mail_base::{Bytes, Line, Lines, NoMemory};
+use rc_lang::{RcError, RcFault, RcLine, RcLines, read_rc};
+use std::alloc::Global;
+
+/// How many files may be read inside of one another, the first not counted.
+const MOST_NESTED: u8 = 16;
+
+/// Where commands come from.
+#[derive(Clone, Copy, Debug, PartialEq, Eq)]
+pub enum Origin {
+    /// The file that need not be there.
+    Default,
+    Named,
+    /// A word of the command line.
+    Typed,
+}
+
+/// A file of commands, or a command of the command line.
+#[derive(Drop)]
+pub struct Frame {
+    pub file: Line,
+    pub origin: Origin,
+    pub depth: u8,
+    pub is_read: bool,
+    pub commands: RcLines,
+    /// How many of the commands were run.
+    pub next: usize,
+}
+
+impl Frame {
+    ghost use Rattle.std.specs.Prelude.{◌≡◌, ◌<◌, true, IfOk, OnOk, IfSome};
+    ghost use Rattle.mail_base.specs.Series.{plain_texts};
+    ghost use Rattle.rc_lang.specs.Settings.{plain_shown};
+    ghost use Rattle.session_state.specs.Frames as spec;
+
+    /// A file that is still to be read.
+    pub fn unread(alloc: Global, file: Line, origin: Origin, depth: u8) -> Frame
+        ensures { spec.plain_frame result ≡ spec.unread file.items origin depth }
+    {
+        Frame {
+            file,
+            origin,
+            depth,
+            is_read: false,
+            commands: RcLines::new(alloc),
+            next: 0,
+        }
+    }
+
+    /// Takes the text of the file.
+    pub fn read(&mut self, alloc: Global, text: &[u8]) -> Result<(), NoMemory>
+        ensures { OnOk result (spec.plain_frame self.new
+            ≡ spec.with_text text.now (spec.plain_frame self.old)) }
+    {
+        self.commands = read_rc(alloc, text)?;
+        self.next = 0;
+        self.is_read = true;
+        Ok(())
+    }
+
+    /// Runs the commands that are left, up to one that names a file.
+    pub fn run(
+        &mut self,
+        alloc: Global,
+        rules: &mut Rules,
+        notes: &mut Lines,
+    ) -> Result<Option<Line>, NoMemory>
+        ensures half { IfOk result (λ source. record {
+          rules = rules.new;
+          notes = plain_texts notes.new;
+          left = spec.commands_left self.new;
+          source = plain_shown source;
+        } ≡ spec.file_run (spec.place_of self.old) (spec.commands_left self.old) rules.old
+            (plain_texts notes.old)) }
+        ensures place { spec.place_of self.new ≡ spec.place_of self.old }
+        ensures read { self.new.is_read ≡ self.old.is_read }
+        ensures nested { IfOk result (λ source. IfSome source (λ _. self.old.depth < 16)) }
+    {
+        while self.next < self.commands.len() {
+            let line = &self.commands.as_slice()[self.next];
+            self.next += 1;
+            let obeyed = run_line(alloc, rules, line)?;
+            match judge(alloc, self.depth, obeyed)? {
+                Obeyed::Done => {}
+                Obeyed::Source(path) => return Ok(Some(path)),
+                Obeyed::Refused(error) => {
+                    let number = line_number(self.origin, line.line);
+                    add_note(alloc, notes, &self.file, number, &error)?;
+                }
+            }
+        }
+        Ok(None)
+    }
+}
+
+fn line_number(origin: Origin, line: u32) -> u32
+    ensures { result ≡ spec.line_number origin line }
+{
+    match origin {
+        Origin::Typed => 1,
+        Origin::Default | Origin::Named => line,
+    }
+}
+
+// Runs a command, unless it is faulty as it was read.
+fn run_line(alloc: Global, rules: &mut Rules, line: &RcLine) -> Result<Obeyed, NoMemory>
+    ensures { IfOk result (λ obeyed. record {
+      rules = rules.new;
+      answer = plain_obeyed obeyed;
+    } ≡ spec.ran_line (plain_line line.now) rules.old) }
+{
+    match line.fault {
+        None => rules.run(&line.words),
+        Some(fault) => refusal(RcError::new(alloc, fault, b"")),
+    }
+}
+
+// Refuses a file that is nested too deep.
+fn judge(alloc: Global, depth: u8, obeyed: Obeyed) -> Result<Obeyed, NoMemory>
+    ensures value { IfOk result
+        (λ judged. plain_obeyed judged ≡ spec.judged depth (plain_obeyed obeyed)) }
+    ensures nested { IfOk result (spec.IsNested depth) }
+{
+    match obeyed {
+        Obeyed::Source(_) if depth >= MOST_NESTED => {
+            refusal(RcError::new(alloc, RcFault::TooMuchSource, b""))
+        }
+        obeyed => Ok(obeyed),
+    }
+}
+
+/// Runs the commands of these files, of which the first is read now, up to one that is still to be
+/// read.
+pub fn run_frames(
+    alloc: Global,
+    rules: &mut Rules,
+    frames: &mut Vec<Frame>,
+    notes: &mut Lines,
+) -> Result<(), NoMemory>
+    ensures { OnOk result (spec.script_of rules.new frames.new notes.new
+        ≡ spec.frames_run (spec.plain_frames frames.old) rules.old (plain_texts notes.old)) }
+{
+    while let Some(mut frame) = take_first(frames) {
+        if !frame.is_read {
+            return put_first(frames, frame);
+        }
+        if let Some(path) = frame.run(alloc, rules, notes)? {
+            let inner = Frame::unread(alloc, path, Origin::Named, frame.depth + 1);
+            put_first(frames, frame)?;
+            return put_first(frames, inner);
+        }
+    }
+    Ok(())
+}
+
+/// Takes the text of the first file, and runs the commands up to a file that is still to be read.
+pub fn read_first(
+    alloc: Global,
+    rules: &mut Rules,
+    frames: &mut Vec<Frame>,
+    notes: &mut Lines,
+    text: &[u8],
+) -> Result<(), NoMemory>
+    ensures { OnOk result (spec.script_of rules.new frames.new notes.new ≡ spec.read_script text.now
+        (spec.plain_frames frames.old) rules.old (plain_texts notes.old)) }
+{
+    let Some(mut frame) = take_first(frames) else {
+        return Ok(());
+    };
+    frame.read(alloc, text)?;
+    put_first(frames, frame)?;
+    run_frames(alloc, rules, frames, notes)
+}
+
+/// Leaves the first file, which was not read, and runs the commands up to a file that is still to
+/// be read.
+pub fn skip_first(
+    alloc: Global,
+    rules: &mut Rules,
+    frames: &mut Vec<Frame>,
+    notes: &mut Lines,
+    is_missing: bool,
+    fault: RcFault,
+) -> Result<(), NoMemory>
+    ensures { OnOk result (spec.script_of rules.new frames.new notes.new
+        ≡ spec.skip_script is_missing fault (spec.plain_frames frames.old) rules.old
+        (plain_texts notes.old)) }
+{
+    let Some(frame) = take_first(frames) else {
+        return Ok(());
+    };
+    if !is_quiet(frame.origin, is_missing) {
+        let error = RcError {
+            fault,
+            word: Bytes::new(alloc),
+        };
+        add_note(alloc, notes, &frame.file, 0, &error)?;
+    }
+    run_frames(alloc, rules, frames, notes)
+}
+
+fn is_quiet(origin: Origin, is_missing: bool) -> bool
+    ensures { result ≡ spec.is_quiet origin is_missing }
+{
+    match origin {
+        Origin::Default => is_missing,
+        Origin::Named | Origin::Typed => false,
+    }
+}
+
+fn take_first(frames: &mut Vec<Frame>) -> Option<Frame>
+    ensures { MatchOption result ((frames.old.items ≡ []) × (frames.new.items ≡ []))
+        (λ frame. frames.old.items ≡ frame ∷ frames.new.items) }
+{
+    if frames.is_empty() {
+        return None;
+    }
+    Some(frames.remove(0))
+}
+
+fn put_first(frames: &mut Vec<Frame>, frame: Frame) -> Result<(), NoMemory>
+    ensures { OnOk result (frames.new.items ≡ frame ∷ frames.old.items) }
+{
+    frames.insert(0, frame)?;
+    Ok(())
+}
