@@ -7,8 +7,8 @@ use folder_core::{ScanError, kind_of};
 use mail_base::Kind;
 use std::alloc::Global;
 
-/// Each `path` is looked at in its turn; an empty file there is of the kind of the last `empty` before
-/// it, at first an mbox.
+/// Each `path` is looked at in its turn; an empty file there is of the kind of the last `empty`
+/// before it, at first an mbox.
 pub struct FolderKinds;
 
 impl Subject for FolderKinds {

@@ -11,9 +11,9 @@ use std::alloc::Global;
 use threads::{Parent, ThreadOptions, Threads};
 
 /// All lists of so many `messages` are put into threads with these `options`. Each message has one
-/// of three ids, refers to none of them or to one, and has the subject `t` or `Re: t`. `lists` is how
-/// many lists there are, and `wrong` how many messages have another parent or root than the plain
-/// program finds.
+/// of three ids, refers to none of them or to one, and has the subject `t` or `Re: t`. `lists` is
+/// how many lists there are, and `wrong` how many messages have another parent or root than the
+/// plain program finds.
 pub struct AllLists;
 
 impl Subject for AllLists {

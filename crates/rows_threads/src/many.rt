@@ -9,8 +9,8 @@ use std::alloc::Global;
 use threads::{ThreadOptions, Threads};
 
 /// So many messages are added, with strict threads: message i has the id `<i@x>` and refers to that
-/// of i / 2, rounded down, in a `shape` of `chain` to that of i - 1, and in one of `star` to that of
-/// 1. `wrong` is how many have another parent than that, or a root other than the first message.
+/// of i / 2, rounded down, in a `shape` of `chain` to that of i - 1, and in one of `star` to that
+/// of 1. `wrong` is how many have another parent than that, or a root other than the first message.
 pub struct Many;
 
 /// Whom each message refers to.

@@ -11,9 +11,9 @@ use threads::{Link, Parent, ThreadOptions, Threads};
 
 /// `options` are words of `strict`, `reply_only` and `duplicates`. Each `message ID` is a header,
 /// and stands in the listing by the number behind its id, or else by its id; it was received at
-/// that second. `parent` is the parent of each message, in the order of the case, and `root` its root;
-/// `order` are the ids in the order of threads, where roots and siblings rise by their ids, or fall
-/// where `siblings` is `falling`.
+/// that second. `parent` is the parent of each message, in the order of the case, and `root` its
+/// root; `order` are the ids in the order of threads, where roots and siblings rise by their ids,
+/// or fall where `siblings` is `falling`.
 pub struct ThreadCalls;
 
 impl Subject for ThreadCalls {

@@ -10,13 +10,6 @@ use Rattle.session_state.specs.declared.frame.Origin.TheVariants.{Default, Named
 use Rattle.session_state.specs.Frames.{PlainFrame, unread, with_text}
 use Rattle.session_state.specs.Rules.{first_rules}
 use Rattle.session.specs.declared.setup.Setup.{Setup}
-use Rattle.folder_core.specs.declared.error.ScanError.TheVariants.{Fault, NoMemory}
-use Rattle.session.specs.declared.event.OpenFault.{OpenFault}
-use Rattle.session.specs.declared.event.OpenFault.TheVariants.{Folder}
-use Rattle.session.specs.declared.setup.StartError.{StartError}
-use Rattle.session.specs.declared.setup.StartError.TheVariants.{NotOpened, DiskFault}
-use Rattle.session.specs.declared.setup.StartError.TheVariants.{NoMemory as WantOfMemory}
-use Rattle.session.specs.Events.{Happening, FolderRefused}
 use Rattle.session.specs.Runs.{State}
 
 -- the file of commands: the named one, or one that need not be there
@@ -62,14 +55,3 @@ first_state setup = record {
   listing = [];
   named = option_map (λ path. path.items) setup.path;
 }
-
--- why the folder was not opened
-abbrev pub refusal_of : Happening → Option OpenFault
-refusal_of (FolderRefused path why marks) = Some why
-refusal_of _ = None
-
--- how a start ends whose folder was not opened
-abbrev pub start_error : OpenFault → StartError
-start_error (Folder Fault) = DiskFault
-start_error (Folder NoMemory) = WantOfMemory
-start_error why = NotOpened why

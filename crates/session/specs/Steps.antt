@@ -4,16 +4,13 @@ use Rattle.mail_base.specs.declared.kind.Kind.{Kind}
 use Rattle.disk_model.specs.Seen.{Seen}
 use Rattle.folder_core.specs.Letters.{Mail}
 use Rattle.keymap.specs.declared.key.Key.{Key}
-use Rattle.session_state.specs.declared.desk.Stage.TheVariants.{Idle, Over, Pushing}
-use Rattle.folder_core.specs.declared.error.ScanError.TheVariants.{Fault}
-use Rattle.session.specs.declared.event.OpenFault.{OpenFault}
-use Rattle.session.specs.declared.event.OpenFault.TheVariants.{Folder}
-use Rattle.session.specs.declared.setup.StartError.{StartError}
-use Rattle.session.specs.declared.setup.StartError.TheVariants.{NotOpened, DiskFault, NoMemory}
+use Rattle.session_state.specs.declared.desk.Stage.{Stage}
+use Rattle.session_state.specs.declared.desk.Stage.TheVariants.{Unopened, Pushing, Idle, Ready}
+use Rattle.session_state.specs.declared.desk.Stage.TheVariants.{Over}
 use Rattle.session.specs.declared.setup.Next.{Next}
 use Rattle.session.specs.declared.setup.Next.TheVariants.{Go, Quit}
-use Rattle.session.specs.Events.{Happening, FolderRefused, KeyPressed}
-use Rattle.session.specs.Runs.{IsRunFrom, State, after_events, pushed, screens_from, shown}
+use Rattle.session.specs.Events.{Happening, KeyPressed}
+use Rattle.session.specs.Runs.{IsRunFrom, State, after_events, screens_from, shown}
 use Rattle.session.specs.Runs.{taken}
 use Rattle.session.specs.Telling.{Witnessed}
 
@@ -32,10 +29,13 @@ pub record IsTaken (archive : List Mail) (first : State) (events : List Happenin
   pub idle : before.turn.stage ≡ Idle
   pub taken_is : taken before ≡ state
 
--- the run goes on with a key, or it is over
-abbrev pub IsNext : Next → State → Type 0
-IsNext Go state = state.turn.stage ≡ Idle
-IsNext Quit state = state.turn.stage ≡ Over
+-- the run goes on with a key, unless it is over
+abbrev pub next_of : Stage → Next
+next_of Unopened = Go
+next_of Pushing = Go
+next_of Idle = Go
+next_of Ready = Go
+next_of Over = Quit
 
 -- What a key does to a run: its event is last, and the run stands so behind it.
 pub record PressesKey (key : Key) (moment : ℤ) (old new : State)
@@ -69,34 +69,3 @@ pub record SourcesOff (Has : Kind → Type 0) (first : State) (events : List Hap
   pub run : IsRunFrom first events
   pub screens_are : (archive : List Mail) → screens_from archive first events ≡ []
   pub told : (archive : List Mail) → Witnessed Has archive first events before now
-
--- A folder is open, and the keys that commands have put still wait: the events are a run, which
--- leads
--- to what these keys make of the state; no screen was shown before that.
-pub record Starts (Has : Kind → Type 0) (letters : List Mail) (first : State)
-    (events : List Happening) (state : State) (before now : Seen) : Type 0 where
-  pub run : IsRunFrom first events
-  pub state_is : after_events first events ≡ pushed state
-  pub waits : state.turn.stage ≡ Pushing
-  pub screens_are : (archive : List Mail)
-      → screens_from archive first events ≡ shown archive (pushed state)
-  pub told : Witnessed Has letters first events before now
-
--- No folder was opened: the events are a run without a screen, unless one came that could not be
--- taken in.
-pub record Fails (Has : Kind → Type 0) (letters : List Mail) (first : State)
-    (events : List Happening) (before now : Seen) : Type 0 where
-  pub run : IsRunFrom first events
-  pub told : Witnessed Has letters first events before now
-
--- the last event is the refusal of the folder, for this cause
-abbrev pub EndsRefused : OpenFault → List Happening → Type 0
-EndsRefused why [] = ⊥
-EndsRefused why (FolderRefused path cause marks ∷ []) = cause ≡ why
-EndsRefused why (event ∷ events) = EndsRefused why events
-
--- why a session did not begin
-abbrev pub IsStartError : StartError → List Happening → Type 0
-IsStartError (NotOpened why) events = EndsRefused why events
-IsStartError DiskFault events = EndsRefused (Folder Fault) events
-IsStartError NoMemory events = Unit {0}

@@ -1,5 +1,6 @@
 //! A session: files of commands are read, a folder is opened, and keys act, each with its event.
-//! Call `Session::start`, `pushed`, and for each key `check` and `key`; `screen` gives the screen.
+//! What starts a session is to come; behind it `pushed` is called, and for each key `check` and
+//! `key`; `screen` gives the screen.
 #![tactic(auto)]
 
 mod event;
@@ -12,4 +13,4 @@ mod start;
 
 pub use event::{Event, Events, Marks, OpenFault, Trace};
 pub use session_type::Session;
-pub use setup::{Next, Setup, StartError};
+pub use setup::{Next, Setup};

@@ -18,14 +18,15 @@ impl Session {
     ghost use Rattle.mail_base.specs.Series.{plain_texts};
     ghost use Rattle.session.specs.Events.{plain_events};
     ghost use Rattle.session.specs.Runs.{State, plain_session, pushed as pushed_on};
-    ghost use Rattle.session.specs.Steps.{IsNext, IsTaken, PressesKey, Stands, StaysRun};
+    ghost use Rattle.session.specs.Steps.{IsTaken, next_of, PressesKey, Stands, StaysRun};
     ghost use Rattle.session_state.specs.Screen.{screen as screen_of};
     ghost use Rattle.session_state.specs.declared.desk.Stage.TheVariants.{Idle, Ready};
 
     /// Lets the keys act that commands have put before the first screen.
     pub fn pushed(&mut self, trace: &Trace) -> Result<Next, NoMemory>
-        ensures { OnOk result (plain_session self.new trace.now.notes
+        ensures pushed { OnOk result (plain_session self.new trace.now.notes
             ≡ pushed_on (plain_session self.old trace.now.notes)) }
+        ensures next { IfOk result (λ next. next ≡ next_of self.new.stage) }
     {
         self.push_keys()?;
         Ok(self.next())
@@ -59,6 +60,7 @@ impl Session {
         ensures stays { StaysRun (λ kind. Any (λ d. sort (d.vtable, d.value) ≡ kind)
             drivers.now.list.items) (plain_session self.old trace.old.notes)
             (plain_events trace.old.events.items) (plain_events trace.new.events.items) }
+        ensures next { IfOk result (λ next. next ≡ next_of self.new.stage) }
         ensures archive { trace.new.archive ≡ trace.old.archive }
     {
         trace.events.reserve(1)?;
@@ -66,7 +68,9 @@ impl Session {
         Ok(self.next())
     }
 
-    fn next(&self) -> Next {
+    fn next(&self) -> Next
+        ensures { result ≡ next_of self.now.stage }
+    {
         match self.stage {
             Stage::Over => Next::Quit,
             _ => Next::Go,

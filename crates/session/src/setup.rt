@@ -1,6 +1,5 @@
 //! What a session starts from.
 
-use crate::event::OpenFault;
 use mail_base::{Bytes, Kind, Words};
 
 /// What the words of a command line say.
@@ -22,12 +21,4 @@ pub struct Setup {
 pub enum Next {
     Go,
     Quit,
-}
-
-/// Why a session did not begin.
-#[derive(Clone, Copy, Debug, PartialEq, Eq)]
-pub enum StartError {
-    NotOpened(OpenFault),
-    DiskFault,
-    NoMemory,
 }
