@@ -9,6 +9,7 @@ use Rattle.disk_model.specs.Judge.{GoesOn}
 use Rattle.disk_model.specs.Looking.{OnlyLooks}
 use Rattle.disk_model.specs.Seen.{Seen}
 use Rattle.disk_model.specs.Tree.{TreeNode}
+use Rattle.folder_core.specs.Costs.{letters_behind}
 use Rattle.folder_core.specs.Directory.{DirectoryRefused}
 use Rattle.folder_core.specs.FirstScan.{FolderRefused, IsFirst, ListsFolder, ScansFolder}
 use Rattle.folder_core.specs.FirstScan.{known_listed}
@@ -193,10 +194,11 @@ pub known_scanned : {A : Type 0} (kind : Kind) (archive new_archive : List Mail)
     (length q.journal) q)
     → came ≡ came_of given → new_known ≡ known_listed known came stamps → IsFirst came found
     → ListsFolder (format_of kind) path archive new_archive (Ok given) came_of Sees a c
+    → (format_of kind).Costs (letters_behind archive new_archive) a.bytes_read c.bytes_read
     → ScansFolder kind archive new_archive known new_known (Ok found) a c
 known_scanned kind archive new_archive known new_known path came stamps given came_of Sees found a c
     sees same put is
-    lists =
+    lists costs =
     let listed : came ≡ listed_from (length archive) lists.ok.messages = same ∙ lists.ok.listed in
     record {
       saw = subst (λ (k : KnownFolder). GoesOn (Saw kind archive new_archive k (Ok found)) a.told
@@ -222,6 +224,7 @@ known_scanned kind archive new_archive known new_known path came stamps given ca
             (subst (λ (k : KnownFolder). k ≡ record known
             { listing = came; bytes = k.bytes; stamps = k.stamps }) (sym put) refl);
       };
+      reads = costs;
       err_known = tt;
       full = λ is. absurd (cc);
       only = lists.only;

@@ -17,10 +17,12 @@ use Rattle.disk_model.specs.declared.answers.DiskError.{DiskError}
 use Rattle.disk_model.specs.declared.answers.DiskError.TheVariants.{Missing, WrongNode, Exists, Long, Fault, NoMemory}
 use Rattle.disk_model.specs.declared.answers.FileRead.{FileRead}
 use Rattle.disk_model.specs.declared.answers.Stat.{Stat}
+use Rattle.folder_core.specs.Costs.{RaisesAtMost}
 use Rattle.folder_core.specs.Directory.{file_at, is_folder_at, node_file}
 use Rattle.folder_core.specs.declared.looks.Content.TheVariants.{NoFile, TooLong, Whole}
 use Rattle.folder_core.specs.Looked.{IsContent, Looked, SawAt, node_stat, stat_there}
 use Rattle.folder_core.specs.Mh.{stamp_there}
+use Rattle.folder_core.proofs.CostsLemmas.{raises_by}
 
 -- One step.
 
@@ -58,12 +60,15 @@ saw_told outcome call wanted Tells (Some old) (Some new) step tells =
     saw_step outcome call wanted Tells old new step tells
 
 looked_from : {R A : Type 0} (given : A) (outcome : Result R DiskError) (call : Call)
-    (wanted : List TreeNode → Result R DiskError) (Tells : A → List TreeNode → Type 0) (old new : Seen)
+    (wanted : List TreeNode → Result R DiskError) (Tells : A → List TreeNode → Type 0)
+    (bytes : A → ℕ) (old new : Seen)
     → GoesOn (OneStep outcome call wanted) old.told new.told → Counted outcome old new → LooksOnly old.told new.told
+    → RaisesAtMost old.bytes_read new.bytes_read (bytes given)
     → ((tree : List TreeNode) → IsJudged outcome (wanted tree) → Tells given tree)
-    → Looked (Ok given) call Tells old new
-looked_from given outcome call wanted Tells old new step counts looks tells = record {
+    → Looked (Ok given) call Tells bytes old new
+looked_from given outcome call wanted Tells bytes old new step counts looks reads tells = record {
   saw = saw_told outcome call wanted (Tells given) old.told new.told step tells;
+  reads = reads;
   only = record { looks = looks; marks = counts.marks; faults = counts.faults };
   cause = λ is. absurd (cc);
   errors = tt;
@@ -71,12 +76,15 @@ looked_from given outcome call wanted Tells old new step counts looks tells = re
 
 -- a call that gave a value
 pub looked_ok : {R A : Type 0} {call : Call} {wanted : List TreeNode → Result R DiskError} {count : ℕ}
-    {Tells : A → List TreeNode → Type 0} {old new : Seen} (given : A) (value : R)
-    → MakesStep (Ok value) call wanted count old new → LooksOnly old.told new.told
+    {Tells : A → List TreeNode → Type 0} {bytes : A → ℕ} {old new : Seen} (given : A) (value : R)
+    → count ≤ bytes given → MakesStep (Ok value) call wanted count old new
+    → LooksOnly old.told new.told
     → ((tree : List TreeNode) → Ok value ≡ wanted tree → Tells given tree)
-    → Looked (Ok given) call Tells old new
-looked_ok {R} {A} {call} {wanted} {count} {Tells} {old} {new} given value step looks tells =
-    looked_from given (Ok value) call wanted Tells old new step.called.goes step.counts looks tells
+    → Looked (Ok given) call Tells bytes old new
+looked_ok {R} {A} {call} {wanted} {count} {Tells} {bytes} {old} {new} given value gives step looks
+    tells =
+    looked_from given (Ok value) call wanted Tells bytes old new step.called.goes step.counts looks
+    (raises_by old.bytes_read new.bytes_read count (bytes given) gives step.reads) tells
 
 -- a refusal that stands in the journal
 abbrev pub is_entered : DiskError → Bool
@@ -99,15 +107,19 @@ entered_step Fault call wanted old new entered step = step
 
 -- a call that was refused for this cause
 pub looked_err : {R A : Type 0} {call : Call} {wanted : List TreeNode → Result R DiskError} {count : ℕ}
-    {Tells : A → List TreeNode → Type 0} {old new : Seen} (given : A) (error why : DiskError)
-    → error ≡ why → is_entered why ≡ true → MakesStep (Err error) call wanted count old new
+    {Tells : A → List TreeNode → Type 0} {bytes : A → ℕ} {old new : Seen} (given : A)
+    (error why : DiskError)
+    → error ≡ why → is_entered why ≡ true → count ≤ bytes given
+    → MakesStep (Err error) call wanted count old new
     → LooksOnly old.told new.told → ((tree : List TreeNode) → IsJudged (Err why) (wanted tree) → Tells given tree)
-    → Looked (Ok given) call Tells old new
-looked_err {R} {A} {call} {wanted} {count} {Tells} {old} {new} given error why is entered step looks tells =
+    → Looked (Ok given) call Tells bytes old new
+looked_err {R} {A} {call} {wanted} {count} {Tells} {bytes} {old} {new} given error why is entered
+    gives step looks tells =
     let made : MakesStep {A = R} (Err why) call wanted count old new =
     subst (λ (e : DiskError). MakesStep {A = R} (Err e) call wanted count old new) is step in
-    looked_from {R = R} given (Err why) call wanted Tells old new
-    (entered_step why call wanted old.told new.told entered made.called.goes) made.counts looks tells
+    looked_from {R = R} given (Err why) call wanted Tells bytes old new
+    (entered_step why call wanted old.told new.told entered made.called.goes) made.counts looks
+    (raises_by old.bytes_read new.bytes_read count (bytes given) gives made.reads) tells
 
 -- What the answers tell of what stands there.
 

@@ -8,12 +8,13 @@ use Rattle.disk_model.specs.Journal.{Past}
 use Rattle.disk_model.specs.Judge.{GoesOn}
 use Rattle.disk_model.specs.Looking.{OnlyLooks}
 use Rattle.disk_model.specs.Seen.{Seen}
+use Rattle.folder_core.specs.Costs.{letters_behind}
 use Rattle.folder_core.specs.Format.{Format}
 use Rattle.folder_core.specs.Known.{KnownFolder}
 use Rattle.folder_core.specs.Letters.{Mail}
 use Rattle.folder_core.specs.Limits.{list_refusal, most_letters, most_messages}
 use Rattle.folder_core.specs.Message.{Message}
-use Rattle.folder_core.specs.Reads.{letters_from, listed_from}
+use Rattle.folder_core.specs.Reads.{format_of, letters_from, listed_from}
 use Rattle.folder_core.specs.Scanned.{ListsNew, Saw}
 use Rattle.folder_core.specs.declared.error.ScanError.{ScanError}
 use Rattle.folder_core.specs.declared.error.ScanError.TheVariants.{ArchiveFull, Fault}
@@ -67,6 +68,8 @@ pub record ScansFolder (kind : Kind) (archive new_archive : List Mail)
     (result : Result Found ScanError) (old new : Seen) : Type 0 where
   pub saw : GoesOn (Saw kind archive new_archive new_known result) old.told new.told
   pub lists : IfOk result (λ found. ListsNew found archive new_archive known new_known)
+  pub reads : IfOk result (λ found. (format_of kind).Costs (letters_behind archive new_archive)
+      old.bytes_read new.bytes_read)
   pub err_known : OnErr result (new_known ≡ known)
   pub full : IsErrOf result ArchiveFull → most_letters < length archive + most_messages
   pub only : OnlyLooks old new

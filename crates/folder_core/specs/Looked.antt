@@ -11,6 +11,7 @@ use Rattle.disk_model.specs.Seen.{Seen}
 use Rattle.disk_model.specs.State.{tree_at}
 use Rattle.disk_model.specs.Tree.{TreeNode, node_at}
 use Rattle.disk_model.specs.declared.answers.Stat.{Stat}
+use Rattle.folder_core.specs.Costs.{RaisesAtMost}
 use Rattle.folder_core.specs.Directory.{file_at, is_folder_at}
 use Rattle.folder_core.specs.Mh.{stamp_there}
 use Rattle.folder_core.specs.declared.error.ScanError.{ScanError}
@@ -31,11 +32,13 @@ pub record SawAt (call : Call) (Tells : List TreeNode → Type 0) (old new : Pas
   pub own : take 1 (drop mark new.journal) ≡ Own call answer ∷ []
   pub tells : Tells (tree_at new mark)
 
--- What a look gives is told of the tree that it met; it changes nothing, and fails for a fault or for want of memory
--- alone.
-pub record Looked {A : Type 0} (result : Result A ScanError) (call : Call) (Tells : A → List TreeNode → Type 0)
+-- What a look gives is told of the tree that it met, and no more than so many bytes were read for
+-- it; it changes nothing, and fails for a fault or for want of memory alone.
+pub record Looked {A : Type 0}
+    (result : Result A ScanError) (call : Call) (Tells : A → List TreeNode → Type 0) (bytes : A → ℕ)
     (old new : Seen) : Type 0 where
   pub saw : IfOk result (λ given. GoesOn (SawAt call (Tells given)) old.told new.told)
+  pub reads : IfOk result (λ given. RaisesAtMost old.bytes_read new.bytes_read (bytes given))
   pub only : OnlyLooks old new
   pub cause : IsErrOf result Fault → Rose old.faults new.faults
   pub errors : IfErr result (λ why. (why ≡ Fault) ⊎ (why ≡ NoMemory))
@@ -64,6 +67,12 @@ IsContent limit (TooLong size) tree path =
 IsContent limit (Whole read) tree path =
     (file_at tree path ≡ Some read.bytes.items) × (stamp_there (node_at tree path) ≡ read.stat.stamp)
     × (length read.bytes.items ≤ limit)
+
+-- the bytes that were read for it
+abbrev pub content_length : Content → ℕ
+content_length NoFile = 0
+content_length (TooLong size) = 0
+content_length (Whole read) = length read.bytes.items
 
 -- what is too long has more bytes than so many
 abbrev pub IsPast : ℕ → Content → Type 0

@@ -10,6 +10,7 @@ use Rattle.disk_model.specs.Journal.{Answer, ListDir, Own, Past}
 use Rattle.disk_model.specs.Names.{names_in}
 use Rattle.disk_model.specs.State.{tree_at}
 use Rattle.disk_model.specs.Tree.{TreeNode}
+use Rattle.folder_core.specs.Costs.{RaisesAtMost, cores_together}
 use Rattle.folder_core.specs.Directory.{AloneBetween, DirectoryRefused, file_at, is_folder_at, is_name, path_in}
 use Rattle.folder_core.specs.Format.{Format}
 use Rattle.folder_core.specs.Known.{KnownFolder}
@@ -167,4 +168,5 @@ maildir_format = record {
   Saw = SawListed;
   Refused = λ letters path why m n past.
       DirectoryRefused is_maildir (λ messages. SawMaildir path messages m n past) letters path why m n past;
+  Costs = λ came old new. RaisesAtMost old new (cores_together came);
 }

@@ -137,4 +137,5 @@ mh_format = record {
   Saw = SawNumbered;
   Refused = λ letters path why m n past.
       DirectoryRefused is_folder_at (λ messages. SawStamped path messages m n past) letters path why m n past;
+  Costs = λ came old new. Unit {0};
 }

@@ -26,4 +26,5 @@ mmdf_format = record {
   letter = mmdf_letter;
   Saw = λ letters known messages m n past. ⊥;
   Refused = mmdf_refused;
+  Costs = λ came old new. Unit {0};
 }

@@ -46,7 +46,8 @@ pub enum Front {
 /// What stands at a path.
 pub fn look_at(disk: &mut dyn Disk, path: &str) -> Result<Option<Stat>, ScanError>
     ensures { spec.Looked result (StatPath path.now)
-        (λ found tree. found ≡ spec.stat_there (node_at tree path.now)) (seen disk.old) (seen disk.new) }
+        (λ found tree. found ≡ spec.stat_there (node_at tree path.now)) (λ found. 0)
+        (seen disk.old) (seen disk.new) }
 {
     match disk.stat(path) {
         Ok(stat) => Ok(Some(stat)),
@@ -60,7 +61,8 @@ pub fn look_at(disk: &mut dyn Disk, path: &str) -> Result<Option<Stat>, ScanErro
 /// The names in a directory.
 pub fn contents_of(alloc: Global, disk: &mut dyn Disk, dir: &str) -> Result<Contents, ScanError>
     ensures looked { spec.Looked result (ListDir dir.now)
-        (λ contents tree. spec.IsContents contents tree dir.now) (seen disk.old) (seen disk.new) }
+        (λ contents tree. spec.IsContents contents tree dir.now) (λ contents. 0)
+        (seen disk.old) (seen disk.new) }
     ensures text { IfOk result spec.HasText }
 {
     match disk.list(alloc, dir) {
@@ -81,7 +83,8 @@ pub fn content_of(
     limit: u64,
 ) -> Result<Content, ScanError>
     ensures looked { spec.Looked result (ReadAll path.now limit)
-        (λ content tree. spec.IsContent limit content tree path.now) (seen disk.old) (seen disk.new) }
+        (λ content tree. spec.IsContent limit content tree path.now) spec.content_length
+        (seen disk.old) (seen disk.new) }
     ensures long { IfOk result (spec.IsPast limit) }
 {
     match disk.read_all(alloc, path, limit) {
@@ -98,7 +101,8 @@ pub fn content_of(
 /// The first bytes of what stands at a path.
 pub fn front_of(alloc: Global, disk: &mut dyn Disk, path: &str) -> Result<Front, ScanError>
     ensures { spec.Looked result (ReadFront path.now 5)
-        (λ front tree. spec.IsFrontOf front tree path.now) (seen disk.old) (seen disk.new) }
+        (λ front tree. spec.IsFrontOf front tree path.now) (λ front. 5)
+        (seen disk.old) (seen disk.new) }
 {
     let mut front = [0; 5];
     match disk.read_front(path, &mut front) {

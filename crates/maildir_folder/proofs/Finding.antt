@@ -16,6 +16,7 @@ use Rattle.disk_model.specs.Tree.{TreeNode, are_distinct, are_placed, folder_of,
 use Rattle.disk_model.specs.Tree.{node_at}
 use Rattle.disk_model.proofs.LawsOfTrees.{each_mark_has_a_tree}
 use Rattle.disk_model.proofs.Trees.{bytes_same}
+use Rattle.folder_core.specs.Costs.{RaisesAtMost}
 use Rattle.folder_core.specs.Directory.{file_at, is_folder_at, node_file}
 use Rattle.folder_core.specs.Looked.{IsContents, SawAt}
 use Rattle.folder_core.specs.Maildir.{directory}
@@ -81,6 +82,7 @@ refused_later path why a b c before found = record {
       refused_from path why p q r (longer_later p q x) was) before.looks found.only.looks before.looks found.refused;
   errors = found.errors;
   only = only_then a b c before found.only;
+  reads = tt;
   cause = λ is. rose_later a.faults b.faults c.faults before.faults
       (found.cause (let e : why ≡ Fault = cc in ap Err e));
 }
@@ -93,17 +95,20 @@ no_memory path a b before = record {
   refused = goes_as a.told b.told (λ p q x. tt) before.looks;
   errors = tt;
   only = before;
+  reads = tt;
   cause = λ is. absurd (cc);
 }
 
 -- what was found
 pub was_found : {A : Type 0} {Sees : A → Option Past → Option Past → Type 0} (path : List ℕ) (given : A) (a b : Seen)
-    → OnlyLooks a b → Sees given a.told b.told → Finds path (Ok given) Sees a b
-was_found path given a b only saw = record {
+    → OnlyLooks a b → RaisesAtMost a.bytes_read b.bytes_read 0 → Sees given a.told b.told
+    → Finds path (Ok given) Sees a b
+was_found path given a b only reads saw = record {
   saw = saw;
   refused = tt;
   errors = tt;
   only = only;
+  reads = reads;
   cause = λ is. absurd (cc);
 }
 

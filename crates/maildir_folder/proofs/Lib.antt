@@ -2,6 +2,7 @@ pub mod OrderLemmas
 pub mod NameLemmas
 pub mod Sorting
 pub mod Storing
+pub mod Reading
 pub mod Walking
 pub mod WalkSteps
 pub mod Finding

@@ -26,11 +26,13 @@ count_by file None store = omega arith
 count_by file (Some raw) store = omega arith
 
 -- the count goes up by one at most, and a file less is left
-pub room_left : (path : List ℕ) (last : Option (List ℕ)) (file : MaildirFile) (taken : Bool) (store new_store : Store)
-    (a b : Option Past) (all rest : List Candidate) (item : Candidate) (total : ℕ) → all ≡ item ∷ rest
+pub room_left : {path : List ℕ} {last : Option (List ℕ)} {file : MaildirFile} {taken : Bool}
+    {store new_store : Store} {a b : Option Past} (all rest : List Candidate) (item : Candidate)
+    (total : ℕ) → all ≡ item ∷ rest
     → TakesNext path last file taken store new_store a b → store.count + length all ≤ total
     → new_store.count + length rest ≤ total
-room_left path last file taken store new_store a b all rest item total whole t room =
+room_left {path} {last} {file} {taken} {store} {new_store} {a} {b} all rest item total whole t
+    room =
     omega (arith, ap length whole, count_by file t.found store, ap (λ (s : Store). s.count) t.store_is, room)
 
 last_left : (file : MaildirFile) (found last : Option (List ℕ)) → is_some found ≡ false → last_by file found last ≡ last
@@ -64,25 +66,27 @@ stepped path files all rest item last new_last first store new_store taken a b c
     })
 
 pub stepped_left : (path : List ℕ) (files : List MaildirFile) (all rest : List Candidate) (item : Candidate)
-    (last : Option (List ℕ)) (first store new_store : Store) (taken : Bool) (a b c : Option Past)
+    {last : Option (List ℕ)} {first store new_store : Store} (taken : Bool) {a b c : Option Past}
     → all ≡ item ∷ rest → taken ≡ false → All IsCandidate all → Rises last (map plain_file all)
     → LooksOnly a b → LooksOnly b c
     → Walking path files (map plain_file all) last first store a b
     → TakesNext path last (plain_file item) taken store new_store b c
     → Stepped path files rest last first new_store a c
-stepped_left path files all rest item last first store new_store taken a b c whole not each rises before next w t =
+stepped_left path files all rest item {last} {first} {store} {new_store} taken {a} {b} {c} whole
+    not each rises before next w t =
     stepped path files all rest item last last first store new_store taken a b c whole each rises before next w t
     (last_left (plain_file item) t.found last (sym t.is ∙ not))
 
 pub stepped_taken : (path : List ℕ) (files : List MaildirFile) (all rest : List Candidate) (item : Candidate)
-    (last : Option (List ℕ)) (base : List ℕ) (first store new_store : Store) (taken : Bool) (a b c : Option Past)
+    {last : Option (List ℕ)} (base : List ℕ) {first store new_store : Store} (taken : Bool)
+    {a b c : Option Past}
     → all ≡ item ∷ rest → taken ≡ true → base ≡ item.base.items → All IsCandidate all
     → Rises last (map plain_file all) → LooksOnly a b → LooksOnly b c
     → Walking path files (map plain_file all) last first store a b
     → TakesNext path last (plain_file item) taken store new_store b c
     → Stepped path files rest (Some base) first new_store a c
-stepped_taken path files all rest item last base first store new_store taken a b c whole is same each rises before next
-    w t =
+stepped_taken path files all rest item {last} base {first} {store} {new_store} taken {a} {b} {c}
+    whole is same each rises before next w t =
     stepped path files all rest item last (Some base) first store new_store taken a b c whole each rises before next w t
     (last_taken (plain_file item) t.found last (sym t.is ∙ is)
     ∙ ap Some (sym (same ∙ (candidate_head all rest item whole each).base)))

@@ -7,6 +7,7 @@ use Rattle.disk_model.specs.Judge.{GoesOn}
 use Rattle.disk_model.specs.Looking.{OnlyLooks}
 use Rattle.disk_model.specs.Names.{names_in}
 use Rattle.disk_model.specs.Seen.{Seen}
+use Rattle.folder_core.specs.Costs.{RaisesAtMost}
 use Rattle.folder_core.specs.Directory.{DirectoryRefused, file_at, is_folder_at}
 use Rattle.folder_core.specs.Looked.{SawAt}
 use Rattle.folder_core.specs.Maildir.{directory, is_maildir}
@@ -60,13 +61,14 @@ IsListError ArchiveFull = ⊥
 IsListError Fault = Unit {0}
 IsListError NoMemory = Unit {0}
 
--- What was found was seen; a refusal has its cause.
+-- What was found was seen, and no byte was read; a refusal has its cause.
 pub record Finds {A : Type 0} (path : List ℕ) (result : Result A ScanError)
     (Sees : A → Option Past → Option Past → Type 0) (old new : Seen) : Type 0 where
   pub saw : IfOk result (λ given. Sees given old.told new.told)
   pub refused : IfErr result (λ why. GoesOn (WasRefused path why) old.told new.told)
   pub errors : IfErr result IsListError
   pub only : OnlyLooks old new
+  pub reads : IfOk result (λ given. RaisesAtMost old.bytes_read new.bytes_read 0)
   pub cause : IsErrOf result Fault → Rose old.faults new.faults
 
 -- a list of names as plain lists

@@ -1,16 +1,24 @@
 -- What a walk over the files of a folder has found.
-use Rattle.std.specs.Prelude.{◌≡◌, ℕ, Bool, true, false, List, Option, None, is_some, length}
+use Rattle.std.specs.Prelude.{◌≡◌, ◌≤◌, ◌-◌, ℕ, Bool, true, false, List, Option, None, is_some}
+use Rattle.std.specs.Prelude.{length}
 use Rattle.std.specs.Prelude.{option_map}
 use Rattle.disk_model.specs.Journal.{Past, ReadAll}
 use Rattle.disk_model.specs.Judge.{GoesOn}
 use Rattle.disk_model.specs.Tree.{TreeNode}
+use Rattle.folder_core.specs.Costs.{RaisesAtMost}
 use Rattle.folder_core.specs.Directory.{file_at}
+use Rattle.folder_core.specs.Limits.{most_bytes}
 use Rattle.folder_core.specs.ListedSoFar.{Holds, Store, store_found}
 use Rattle.folder_core.specs.Looked.{IsTreeOfAll, SawAt}
 use Rattle.folder_core.specs.Maildir.{AllStood, MaildirFile, StaysThere, base_of, is_taken, maildir_format}
 use Rattle.folder_core.specs.Maildir.{message_of, messages_behind, path_of}
 use Rattle.folder_core.specs.Message.{Message, are_in_order, has_key}
 use Rattle.folder_core.specs.Ordered.{IsIn}
+
+-- as long as so many bytes may be listed, no more were read than these are beyond those before
+abbrev pub ReadsFound : ℕ → ℕ → Option ℕ → Option ℕ → Type 0
+ReadsFound bytes new_bytes old new =
+    new_bytes ≤ most_bytes → (bytes ≤ new_bytes) × RaisesAtMost old new (new_bytes - bytes)
 
 -- a file was met with these bytes, or was not met
 abbrev pub SawFile : List ℕ → MaildirFile → Option (List ℕ) → Past → Past → Type 0

@@ -1,7 +1,8 @@
 //! The driver of folders of a file a message.
 
-ghost use Rattle.std.specs.Prelude.{◌≡◌, length, map, take};
+ghost use Rattle.std.specs.Prelude.{◌≡◌, IfOk, length, map, take};
 ghost use Rattle.mail_base.specs.declared.kind.Kind.TheVariants.{Maildir};
+ghost use Rattle.folder_core.specs.Costs.{RaisesAtMost, cores_together, letters_behind};
 ghost use Rattle.folder_core.specs.FirstScan.{ListsFolder, ScansFolder};
 ghost use Rattle.folder_core.specs.Letters.{plain_letter};
 ghost use Rattle.folder_core.specs.Maildir.{maildir_format};
@@ -100,6 +101,9 @@ fn list_folder(
     ensures lists { ListsFolder maildir_format path.now (map plain_letter archive.old.items)
         (map plain_letter archive.new.items) result (λ came. came.items)
         (λ came. spec.MessagesSeen path.now) (seen disk.old) (seen disk.new) }
+    ensures reads { IfOk result (λ came. RaisesAtMost (seen disk.old).bytes_read
+        (seen disk.new).bytes_read (cores_together (letters_behind
+        (map plain_letter archive.old.items) (map plain_letter archive.new.items)))) }
     ensures front { take (length archive.old.items) archive.new.items ≡ archive.old.items }
 {
     let files = match list_files(alloc, disk, path) {

@@ -58,6 +58,8 @@ fn take(
     ensures taken { IfOk result (λ taken. spec.Takes path.now (plain_file file.now) taken
         (store_of so_far.old archive.old.items) (store_of so_far.new archive.new.items)
         (seen disk.old).told (seen disk.new).told) }
+    ensures reads { IfOk result (λ taken. spec.ReadsFound so_far.old.bytes so_far.new.bytes
+        (seen disk.old).bytes_read (seen disk.new).bytes_read) }
     ensures meets { OnlyMeets result (seen disk.old) (seen disk.new) }
     ensures front { take_lem (length archive.old.items) archive.new.items ≡ archive.old.items }
 {
@@ -91,6 +93,8 @@ fn take_next(
         (option_map (λ r. r.now) last.entry) (plain_file file.now) taken
         (store_of so_far.old archive.old.items) (store_of so_far.new archive.new.items)
         (seen disk.old).told (seen disk.new).told) }
+    ensures reads { IfOk result (λ taken. spec.ReadsFound so_far.old.bytes so_far.new.bytes
+        (seen disk.old).bytes_read (seen disk.new).bytes_read) }
     ensures meets { OnlyMeets result (seen disk.old) (seen disk.new) }
     ensures front { take_lem (length archive.old.items) archive.new.items ≡ archive.old.items }
 {
@@ -115,6 +119,8 @@ pub fn take_all(
     ensures walked { OnOk result (spec.IsWalked path.now (map plain_file files.now)
         (store_of so_far.old archive.old.items) (store_of so_far.new archive.new.items)
         (seen disk.old).told (seen disk.new).told) }
+    ensures reads { OnOk result (spec.ReadsFound so_far.old.bytes so_far.new.bytes
+        (seen disk.old).bytes_read (seen disk.new).bytes_read) }
     ensures meets { OnlyMeets result (seen disk.old) (seen disk.new) }
     ensures front { take_lem (length archive.old.items) archive.new.items ≡ archive.old.items }
 {

@@ -31,12 +31,12 @@ use Rattle.folder_core.proofs.KindsLemmas.{number_is_name}
 use Rattle.folder_core.proofs.NamesIn.{file_held, holds_name}
 use Rattle.folder_core.proofs.SeenLemmas.{alone_foreign, goes_as, goes_then, longer_later}
 use Rattle.folder_core.proofs.SeenLemmas.{saw_later}
-use Rattle.mh_folder.specs.Folder.{Finds, ListsNumbers, NamesSeen, ReadsSequences, SequencesSeen}
+use Rattle.mh_folder.specs.Folder.{Finds, ListsNumbers, NamesSeen, ReadsMarks, SequencesSeen}
+use Rattle.mh_folder.specs.Marks.{AreMarks}
 use Rattle.mh_folder.specs.NumberedName.{plain_names}
 use Rattle.mh_folder.specs.Scan.{MessagesSeen, StampedSeen}
-use Rattle.mh_folder.specs.SequenceLine.{PlainLine}
-use Rattle.mh_folder.specs.Sequences.{sequences_of}
 use Rattle.mh_folder.specs.Walk.{IsWalked, Kept, WalkSeen}
+use Rattle.mh_folder.specs.declared.marks.Marks.{Marks}
 use Rattle.mh_folder.specs.declared.numbered_name.NumberedName.{NumberedName}
 use Rattle.mh_folder.proofs.NumberedNameLemmas.{numbers_held}
 use Rattle.mh_folder.proofs.WalkLemmas.{stood_as}
@@ -143,17 +143,17 @@ pub record MhWalked (path : List ℕ) (first kept : Kept) (old new : Option Past
   pub stamps_are : list_refusal first.store.letters messages ≡ None → kept.stamps ≡ stamps
   pub saw : GoesOn (StampedSeen path stamps messages) old new
 
-pub folder_walked : (path : List ℕ) (files listed : List NumberedName) (lines : List PlainLine)
+pub folder_walked : (path : List ℕ) (files listed : List NumberedName) (marks : Marks)
     (first kept : Kept)
     (a b c d : Option Past) → listed ≡ files → LooksOnly a b → LooksOnly b c → LooksOnly c d
     → LooksOnly b d
-    → ListsNumbers path files a b → ReadsSequences path lines b c
-    → ((bytes : List ℕ) → lines ≡ sequences_of bytes
+    → ListsNumbers path files a b → ReadsMarks path marks b c
+    → ((bytes : List ℕ) → AreMarks bytes marks
     → IsWalked path bytes (plain_names listed) first kept c d)
     → MhWalked path first kept a d
-folder_walked path files listed lines first kept a b c d same one two three last lists reads
+folder_walked path files listed marks first kept a b c d same one two three last lists reads
     walked =
-    let walk = walked reads.bytes reads.is in
+    let walk = walked reads.bytes reads.are in
     let order : plain_names listed ≡ numbers_of lists.names = ap plain_names same
     ∙ lists.order.sorted in
     record {

@@ -3,7 +3,9 @@ pub mod RisingLemmas
 pub mod HoldingLemmas
 pub mod ChangeLemmas
 pub mod UprightLemmas
+pub mod MembersLemmas
 pub mod WrittenLemmas
+pub mod MarksLemmas
 pub mod NumberedNameLemmas
 pub mod WalkLemmas
 pub mod FolderLemmas

@@ -11,14 +11,9 @@ use Rattle.mh_folder.specs.declared.range.Range.{Range}
 use Rattle.mh_folder.specs.Laws.{is_upright}
 use Rattle.mh_folder.specs.Ranges.{added_to, any_holds, holds as range_holds, in_order, is_before}
 use Rattle.mh_folder.specs.Ranges.{joined}
-use Rattle.mh_folder.specs.Ranges.{joined_behind, joined_sorted, with_range}
+use Rattle.mh_folder.specs.Ranges.{joined_behind, joined_sorted, rises_from, with_range}
 use Rattle.mh_folder.proofs.HoldingLemmas.{holds_with, joined_holds, joined_upright, or_three}
 use Rattle.mh_folder.proofs.UprightLemmas.{ordered_upright}
-
--- each range begins at this number or behind it, and with a number between it and the one before
-abbrev pub rises_from : ℕ → List Range → Bool
-rises_from k [] = true
-rises_from k (r ∷ ranges) = nat_le k r.first && rises_from (r.last + 2) ranges
 
 abbrev pub all_up : List Range → Bool
 all_up ranges = list_all is_upright ranges
@@ -33,10 +28,10 @@ rises_less k m (r ∷ ranges) rises less =
     let both = and_parts (nat_le k r.first) (rises_from (r.last + 2) ranges) rises in
     and_from (nat_le m r.first) _ (from_less k r.first m both.0 less) both.1
 
-up_bounds : (r : Range) → is_upright r ≡ true → r.first ≤ r.last
+pub up_bounds : (r : Range) → is_upright r ≡ true → r.first ≤ r.last
 up_bounds r up = grind (arith, nat_tests)
 
-le_true : (m n : ℕ) → nat_le m n ≡ true → m ≤ n
+pub le_true : (m n : ℕ) → nat_le m n ≡ true → m ≤ n
 le_true m n e = grind (arith, nat_tests)
 
 true_le : (m n : ℕ) → m ≤ n → nat_le m n ≡ true
@@ -81,7 +76,7 @@ rises_with k new (r ∷ ranges) up all low rises =
     by_place false false before behind up_r low_r rise more join = join
 
 -- no number below the first is held
-none_below : (k n : ℕ) (ranges : List Range) → rises_from k ranges ≡ true
+pub none_below : (k n : ℕ) (ranges : List Range) → rises_from k ranges ≡ true
     → all_up ranges ≡ true → n < k
     → any_holds n ranges ≡ false
 none_below k n [] rises all low = refl
@@ -224,7 +219,7 @@ unique (r ∷ xs) (s ∷ ys) up_x up_y rise_x rise_y same =
 ordered_up : (ranges : List Range) → all_up ranges ≡ true → all_up (added_to [] ranges) ≡ true
 ordered_up ranges all = ordered_upright ranges all
 
-ordered_rises : (ranges : List Range) → all_up ranges ≡ true
+pub ordered_rises : (ranges : List Range) → all_up ranges ≡ true
     → rises_from 0 (added_to [] ranges) ≡ true
 ordered_rises [] all = refl
 ordered_rises (r ∷ ranges) all =

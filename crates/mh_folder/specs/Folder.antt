@@ -12,9 +12,9 @@ use Rattle.folder_core.specs.Looked.{SawAt}
 use Rattle.folder_core.specs.Mh.{mh_format, sequences_at, sequences_path}
 use Rattle.folder_core.specs.declared.error.ScanError.{ScanError}
 use Rattle.folder_core.specs.declared.error.ScanError.TheVariants.{ArchiveFull, Fault}
+use Rattle.mh_folder.specs.Marks.{AreMarks}
 use Rattle.mh_folder.specs.NumberedName.{AreInOrder}
-use Rattle.mh_folder.specs.SequenceLine.{PlainLine}
-use Rattle.mh_folder.specs.Sequences.{sequences_of}
+use Rattle.mh_folder.specs.declared.marks.Marks.{Marks}
 use Rattle.mh_folder.specs.declared.numbered_name.NumberedName.{NumberedName}
 
 -- a directory with these names stood at the path
@@ -36,11 +36,10 @@ SequencesSeen path bytes old new =
     (limit : ℕ) × SawAt (ReadAll (sequences_path path) limit)
     (λ tree. sequences_at tree path ≡ bytes) old new
 
--- the sequences that the file tells
-pub record ReadsSequences (path : List ℕ) (lines : List PlainLine)
-    (old new : Option Past) : Type 0 where
+-- what the file of the sequences marks
+pub record ReadsMarks (path : List ℕ) (marks : Marks) (old new : Option Past) : Type 0 where
   pub bytes : List ℕ
-  pub is : lines ≡ sequences_of bytes
+  pub are : AreMarks bytes marks
   pub saw : GoesOn (SequencesSeen path bytes) old new
 
 -- What was found was seen; a refusal has its cause, whatever is in the archive.

@@ -2,6 +2,7 @@ pub mod Ranges
 pub mod SequenceLine
 pub mod Sequences
 pub mod Laws
+pub mod Marks
 pub mod NumberedName
 pub mod Folder
 pub mod Walk

@@ -1,5 +1,5 @@
 -- Ranges of numbers (mh-sequence(5)).
-use Rattle.std.specs.Prelude.{◌+◌, ◌-◌, ◌&&◌, ℕ, Bool, true, nat_le, nat_lt, min, max}
+use Rattle.std.specs.Prelude.{◌+◌, ◌-◌, ◌&&◌, ℕ, Bool, true, false, nat_le, nat_lt, min, max}
 use Rattle.std.specs.Prelude.{List, [], ◌∷◌, ◌++◌, Option, Some, None, if◌then◌else◌}
 use Rattle.std.specs.Fmt.{decimal}
 use Rattle.std.specs.List.{list_any, flat_map}
@@ -32,6 +32,11 @@ holds n r = nat_le r.first n && nat_le n r.last
 abbrev pub any_holds : ℕ → List Range → Bool
 any_holds n ranges = list_any (holds n) ranges
 
+-- the range, if there is one, begins at the number or before it
+abbrev pub begins_by : ℕ → Option Range → Bool
+begins_by n None = false
+begins_by n (Some r) = nat_le r.first n
+
 -- it ends before the other begins, with a number between them
 abbrev pub is_before : Range → Range → Bool
 is_before r s = nat_lt (r.last + 1) s.first
@@ -62,6 +67,11 @@ abbrev pub is_rising : List Range → Bool
 is_rising [] = true
 is_rising (r ∷ []) = true
 is_rising (r ∷ s ∷ ranges) = is_before r s && is_rising (s ∷ ranges)
+
+-- each range begins at this number or behind it, and with a number between it and the one before
+abbrev pub rises_from : ℕ → List Range → Bool
+rises_from k [] = true
+rises_from k (r ∷ ranges) = nat_le k r.first && rises_from (r.last + 2) ranges
 
 -- ranges added to others, the last one first
 abbrev pub added_to : List Range → List Range → List Range

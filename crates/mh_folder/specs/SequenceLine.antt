@@ -69,6 +69,14 @@ abbrev pub line_holds : List ℕ → ℕ → PlainLine → Bool
 line_holds name n (Named own ranges) = bytes_eq own name && any_holds n ranges
 line_holds name n (Kept text) = false
 
+-- its ranges, if it is a sequence of the name
+abbrev pub ranges_if : Bool → List Range → List Range
+ranges_if is_named ranges = if is_named then ranges else []
+
+abbrev pub ranges_named : List ℕ → PlainLine → List Range
+ranges_named name (Named own ranges) = ranges_if (bytes_eq own name) ranges
+ranges_named name (Kept text) = []
+
 abbrev pub with_number : ℕ → PlainLine → PlainLine
 with_number n (Named name ranges) = Named name (with_range (one n) ranges)
 with_number n (Kept text) = Kept text

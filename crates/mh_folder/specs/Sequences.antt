@@ -1,11 +1,11 @@
 -- The file of sequences (mh-sequence(5)), line by line, and what a change makes of it.
-use Rattle.std.specs.Prelude.{◌==◌, ℕ, Bool, true, false, not, List, [], ◌∷◌, ◌++◌, map, codes}
+use Rattle.std.specs.Prelude.{◌==◌, ℕ, Bool, true, false, List, [], ◌∷◌, ◌++◌, map, codes}
 use Rattle.std.specs.Prelude.{if◌then◌else◌}
 use Rattle.std.specs.List.{flat_map, list_any}
-use Rattle.mail_base.specs.declared.flags.Flags.{Flags}
+use Rattle.mh_folder.specs.declared.range.Range.{Range}
 use Rattle.mh_folder.specs.declared.sequence_line.SequenceLine.{SequenceLine}
 use Rattle.mh_folder.specs.SequenceLine.{PlainLine, empty_line, has_name, line_holds, line_of}
-use Rattle.mh_folder.specs.SequenceLine.{line_text, plain_line}
+use Rattle.mh_folder.specs.SequenceLine.{line_text, plain_line, ranges_named}
 use Rattle.mh_folder.specs.SequenceLine.{with_number as line_with, without_number as line_without}
 
 abbrev pub plain_lines : List SequenceLine → List PlainLine
@@ -39,17 +39,9 @@ sequences_of bytes =
 abbrev pub holds : List ℕ → ℕ → List PlainLine → Bool
 holds name n lines = list_any (line_holds name n) lines
 
--- the flags of a message: seen is what is not in `unseen`
-abbrev pub flags_of : List PlainLine → ℕ → Flags
-flags_of lines n = record {
-  seen = not (holds (codes "unseen") n lines);
-  aged = not (holds (codes "unseen") n lines);
-  replied = holds (codes "replied") n lines;
-  flagged = holds (codes "flagged") n lines;
-  passed = false;
-  draft = false;
-  trashed = false;
-}
+-- the ranges of all lines of the name
+abbrev pub ranges_of : List ℕ → List PlainLine → List Range
+ranges_of name lines = flat_map (ranges_named name) lines
 
 -- in the first line of the name, or in a new one
 abbrev pub with_member : List ℕ → ℕ → List PlainLine → List PlainLine

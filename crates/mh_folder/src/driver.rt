@@ -8,7 +8,7 @@ ghost use Rattle.folder_core.specs.Mh.{mh_format};
 ghost use Rattle.folder_core.specs.Scanned.{Scans};
 ghost use Rattle.mh_folder.specs.Scan as spec;
 
-use crate::folder::{list_numbers, read_sequences};
+use crate::folder::{list_numbers, read_marks};
 use crate::walk::Walk;
 use disk_model::{Device, Disk};
 use folder_core::{Archive, Driver, Found, Known, Listing, ScanError};
@@ -106,12 +106,12 @@ fn list_folder(
         Ok(files) => files,
         Err(why) => return Err(why),
     };
-    let sequences = match read_sequences(alloc, disk, path) {
-        Ok(sequences) => sequences,
+    let marks = match read_marks(alloc, disk, path) {
+        Ok(marks) => marks,
         Err(why) => return Err(why),
     };
     let mut walk = Walk::new(alloc, archive.len());
-    match walk.take_all(alloc, disk, path, &sequences, files.as_slice(), archive) {
+    match walk.take_all(alloc, disk, path, &marks, files.as_slice(), archive) {
         Ok(()) => {}
         Err(why) => return Err(why),
     }

@@ -1,12 +1,13 @@
-//! What looks at a folder tell before its files are read: the numbers in it, and its sequences.
+//! What looks at a folder tell before its files are read: the numbers in it, and what its
+//! sequences mark.
 
 ghost use Rattle.std.specs.Prelude.{IfOk, map};
 ghost use Rattle.disk_model.specs.Judge.{GoesOn};
 ghost use Rattle.folder_core.specs.Looked.{OnlyMeets};
 ghost use Rattle.mh_folder.specs.Folder as spec;
 
+use crate::marks::Marks;
 use crate::numbered_name::{NumberedName, numbered_names};
-use crate::sequences::Sequences;
 use disk_model::Disk;
 use folder_core::{Content, Contents, ScanError, content_of, contents_of, path_in};
 use mail_base::NoMemory;
@@ -34,20 +35,16 @@ pub fn list_numbers(
     }
 }
 
-/// The sequences of the folder at a path; without a file of them each is empty.
-pub fn read_sequences(
-    alloc: Global,
-    disk: &mut dyn Disk,
-    path: &str,
-) -> Result<Sequences, ScanError>
-    ensures read { IfOk result (λ sequences. spec.ReadsSequences path.now sequences
+/// What the sequences of the folder at a path mark; without a file of them each is empty.
+pub fn read_marks(alloc: Global, disk: &mut dyn Disk, path: &str) -> Result<Marks, ScanError>
+    ensures read { IfOk result (λ marks. spec.ReadsMarks path.now marks
         (seen disk.old).told (seen disk.new).told) }
     ensures meets { OnlyMeets result (seen disk.old) (seen disk.new) }
 {
     let file = path_in(alloc, path, ".mh_sequences")?;
     match content_of(alloc, disk, file.as_str(), u64::MAX)? {
-        Content::NoFile => Ok(Sequences::read(alloc, &[])?),
-        Content::Whole(read) => Ok(Sequences::read(alloc, read.bytes.as_slice())?),
+        Content::NoFile => Ok(Marks::read(alloc, &[])?),
+        Content::Whole(read) => Ok(Marks::read(alloc, read.bytes.as_slice())?),
         Content::TooLong(_) => unreachable!(),
     }
 }

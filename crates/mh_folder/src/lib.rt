@@ -6,6 +6,8 @@
 mod driver;
 mod folder;
 mod laws;
+mod marks;
+mod members;
 mod numbered_name;
 mod range;
 mod sequence_line;

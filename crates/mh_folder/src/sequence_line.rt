@@ -135,6 +135,16 @@ impl SequenceLine {
         }
     }
 
+    /// The ranges of a sequence of this name.
+    pub fn ranges_of(&self, name: &[u8]) -> &[Range]
+        ensures { result.now ≡ spec.ranges_named name.now (spec.plain_line self.now) }
+    {
+        match self {
+            SequenceLine::Named(own, ranges) if own.as_slice() == name => ranges.as_slice(),
+            _ => &[],
+        }
+    }
+
     pub fn copy(&self, alloc: Global) -> Result<SequenceLine, NoMemory>
         ensures { IfOk result (λ l. spec.plain_line l ≡ spec.plain_line self.now) }
     {

@@ -1,10 +1,14 @@
 //! The sequences of a folder (mh-sequence(5)).
 
-ghost use Rattle.std.specs.Prelude.{◌≡◌, ◌++◌, [], IfOk, OnOk, OnErr};
+ghost use Rattle.std.specs.Prelude.{◌≡◌, ◌++◌, ℕ, [], IfOk, OnOk, OnErr, true};
+ghost use Rattle.mh_folder.specs.Laws.{are_upright};
+ghost use Rattle.mh_folder.specs.Marks.{has_member};
 ghost use Rattle.mh_folder.specs.Sequences as spec;
 
+use crate::members::Members;
+use crate::range::Range;
 use crate::sequence_line::SequenceLine;
-use mail_base::{Bytes, Flags, NoMemory, Series};
+use mail_base::{Bytes, NoMemory, Series};
 use std::alloc::Global;
 use std::marker::Model;
 
@@ -50,6 +54,19 @@ fn any_holds(lines: &[SequenceLine], name: &[u8], number: u32) -> bool
         left = rest;
     }
     false
+}
+
+// The ranges of the sequences of the name, as they stand in the lines.
+fn ranges_of(alloc: Global, lines: &[SequenceLine], name: &[u8]) -> Result<Vec<Range>, NoMemory>
+    ensures { IfOk result (λ r. r.items ≡ spec.ranges_of name.now (spec.plain_lines lines.now)) }
+{
+    let mut ranges = Vec::new(alloc);
+    let mut left = lines;
+    while let [line, rest @ ..] = left {
+        ranges.extend_from_slice(line.ranges_of(name))?;
+        left = rest;
+    }
+    Ok(ranges)
 }
 
 fn read_lines(alloc: Global, bytes: &[u8]) -> Result<Series<SequenceLine>, NoMemory>
@@ -198,20 +215,13 @@ impl Sequences {
         any_holds(self.lines.as_slice(), name, number)
     }
 
-    /// The flags of a message: seen and aged is what is not in `unseen`.
-    pub fn flags(&self, number: u32) -> Flags
-        ensures { result ≡ spec.flags_of self.now number }
+    /// The numbers in the sequences of the name.
+    pub fn members(&self, alloc: Global, name: &[u8]) -> Result<Members, NoMemory>
+        requires { are_upright self.now ≡ true }
+        ensures { IfOk result (λ m. (n : ℕ) → has_member m n ≡ spec.holds name.now n self.now) }
     {
-        let is_seen = !self.holds(b"unseen", number);
-        Flags {
-            seen: is_seen,
-            aged: is_seen,
-            replied: self.holds(b"replied", number),
-            flagged: self.holds(b"flagged", number),
-            passed: false,
-            draft: false,
-            trashed: false,
-        }
+        let ranges = ranges_of(alloc, self.lines.as_slice(), name)?;
+        Ok(Members::of(alloc, ranges)?)
     }
 
     /// Puts the number into the first sequence of the name, or takes it out of all of the name.

@@ -7,12 +7,12 @@ ghost use Rattle.std.specs.List.{All};
 ghost use Rattle.folder_core.specs.Letters.{plain_letter};
 ghost use Rattle.folder_core.specs.ListedSoFar.{IsEmpty, store_of};
 ghost use Rattle.folder_core.specs.Looked.{OnlyMeets};
+ghost use Rattle.mh_folder.specs.Marks.{AreMarks};
 ghost use Rattle.mh_folder.specs.NumberedName.{IsNumbered, Rises, plain_names};
-ghost use Rattle.mh_folder.specs.Sequences.{sequences_of};
 ghost use Rattle.mh_folder.specs.Walk as spec;
 
+use crate::marks::Marks;
 use crate::numbered_name::NumberedName;
-use crate::sequences::Sequences;
 use disk_model::{Disk, FileRead};
 use folder_core::{Archive, Content, Letter, ListedSoFar, ScanError, content_of, path_in};
 use mail_base::{Bytes, NoMemory, Stamps};
@@ -41,14 +41,14 @@ impl Walk {
     fn add(
         &mut self,
         alloc: Global,
-        sequences: &Sequences,
+        marks: &Marks,
         file: &NumberedName,
         read: FileRead,
         archive: &mut Archive,
     ) -> Result<(), NoMemory>
         requires room { self.old.so_far.count + 1 < 2 ^ 64 }
         requires file { IsNumbered file.now }
-        ensures ok { OnOk result ((bytes : List ℕ) → sequences.now ≡ sequences_of bytes
+        ensures ok { OnOk result ((bytes : List ℕ) → AreMarks bytes marks.now
             → spec.Adds bytes file.now.name.items read.bytes.items read.stat.stamp
             (spec.kept_of self.old archive.old.items)
             (spec.kept_of self.new archive.new.items)) }
@@ -59,8 +59,7 @@ impl Walk {
             return Ok(());
         }
         let letter = letter_of(alloc, file, read.bytes)?;
-        self.so_far
-            .add(sequences.flags(file.number), letter, archive)?;
+        self.so_far.add(marks.flags(file.number), letter, archive)?;
         self.stamps.push(read.stat.stamp)?;
         Ok(())
     }
@@ -71,13 +70,13 @@ impl Walk {
         alloc: Global,
         disk: &mut dyn Disk,
         path: &str,
-        sequences: &Sequences,
+        marks: &Marks,
         file: &NumberedName,
         archive: &mut Archive,
     ) -> Result<(), ScanError>
         requires room { self.old.so_far.count + 1 < 2 ^ 64 }
         requires file { IsNumbered file.now }
-        ensures taken { OnOk result ((bytes : List ℕ) → sequences.now ≡ sequences_of bytes
+        ensures taken { OnOk result ((bytes : List ℕ) → AreMarks bytes marks.now
             → spec.Takes path.now bytes file.now.name.items
             (spec.kept_of self.old archive.old.items) (spec.kept_of self.new archive.new.items)
             (seen disk.old).told (seen disk.new).told) }
@@ -96,7 +95,7 @@ impl Walk {
                 Ok(())
             }
             Content::Whole(read) => {
-                self.add(alloc, sequences, file, read, archive)?;
+                self.add(alloc, marks, file, read, archive)?;
                 Ok(())
             }
         }
@@ -108,14 +107,14 @@ impl Walk {
         alloc: Global,
         disk: &mut dyn Disk,
         path: &str,
-        sequences: &Sequences,
+        marks: &Marks,
         files: &[NumberedName],
         archive: &mut Archive,
     ) -> Result<(), ScanError>
         requires each { All IsNumbered files.now }
         requires rises { Rises None (plain_names files.now) }
         requires empty { spec.IsNothing (spec.kept_of self.old archive.old.items) }
-        ensures walked { OnOk result ((bytes : List ℕ) → sequences.now ≡ sequences_of bytes
+        ensures walked { OnOk result ((bytes : List ℕ) → AreMarks bytes marks.now
             → spec.IsWalked path.now bytes (plain_names files.now)
             (spec.kept_of self.old archive.old.items) (spec.kept_of self.new archive.new.items)
             (seen disk.old).told (seen disk.new).told) }
@@ -124,7 +123,7 @@ impl Walk {
     {
         let mut left = files;
         while let [file, rest @ ..] = left {
-            match self.take(alloc, disk, path, sequences, file, archive) {
+            match self.take(alloc, disk, path, marks, file, archive) {
                 Ok(()) => {}
                 Err(why) => return Err(why),
             }

@@ -6,9 +6,8 @@ use disk_model::Device;
 use real_disk::RealDisk;
 use std::alloc::Global;
 
-/// Each `call` as the cases of a disk in memory have it, and `agree PATH LIMIT`, whether a look at a
-/// file and a read of it tell the same. What a case makes stands there for the
-/// next ones.
+/// Each `call` as the cases of a disk in memory have it, and `agree PATH LIMIT`, whether a look at
+/// a file and a read of it tell the same. What a case makes stands there for the next ones.
 #[derive(Drop)]
 pub struct FileCalls<'a> {
     pub rt: &'a HostRuntime,

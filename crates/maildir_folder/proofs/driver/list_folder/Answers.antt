@@ -1,4 +1,4 @@
-use Rattle.std.proofs.Common.{◌∙◌, List, length, refl, sym}
+use Rattle.std.proofs.Common.{◌∙◌, List, length, map, refl, sym}
 use Rattle.std.proofs.lemmas.List.{length-map}
 use Rattle.mail_base.specs.Series.{Held}
 use Rattle.folder_core.specs.Letters.{plain_letter}
@@ -9,6 +9,8 @@ use Rattle.folder_core.proofs.FirstScanLemmas.{folder_listed, folder_refused, no
 use Rattle.folder_core.proofs.FirstScanLemmas.{walk_failed}
 use Rattle.folder_core.proofs.SeenLemmas.{only_then}
 use Rattle.maildir_folder.specs.Scan.{MessagesSeen}
+use Rattle.maildir_folder.specs.Candidates.{plain_file}
+use Rattle.maildir_folder.proofs.Reading.{folder_costs}
 use Rattle.maildir_folder.proofs.Driving.{folder_walked}
 use Rattle.maildir_folder.proofs.driver.list_folder.Goals as goal
 
@@ -57,3 +59,13 @@ returns-clause-lists g c =
     (store_of c.take_all.new.so_far c.take_all.new.archive.items) _ _ _ c.as_slice.ensures.value
     c.list_files.ensures.only.looks c.in-Ok-take_all.ensures.meets.only.looks c.in-Ok.ensures.saw
     c.in-Ok-take_all.ensures.walked)
+
+pub returns-clause-reads : goal.returns-clause-reads
+returns-clause-reads g c =
+    folder_costs c.args.path.now (map plain_file c.as_slice.result.now)
+    (store_of c.new-so_far.result c.args.archive.now.items)
+    (store_of c.take_all.new.so_far c.take_all.new.archive.items) _ _ _ _ _
+    (c.new-so_far.ensures.letters ∙ c.len.ensures
+    ∙ sym (length-map c.args.archive.now.items plain_letter))
+    c.new-so_far.ensures.bytes (sym c.refusal.ensures ∙ c.in-None.is)
+    c.in-Ok-take_all.ensures.walked c.in-Ok.ensures.reads c.in-Ok-take_all.ensures.reads

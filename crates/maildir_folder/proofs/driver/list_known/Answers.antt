@@ -24,3 +24,4 @@ returns-in-Ok-first-clause-scans g c =
     (c.in-Ok-first.ensures.known ∙ ap (λ (l : List ℕ). known_listed c.args.known.now came.items l)
     c.new.ensures)
     c.in-Ok-first.ensures.found c.in-Ok-list_folder.ensures.lists
+    c.in-Ok-list_folder.ensures.reads

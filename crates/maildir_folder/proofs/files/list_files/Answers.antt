@@ -1,5 +1,6 @@
 use Rattle.std.proofs.Common.{◌≡◌, ℕ, List, map, subst}
 use Rattle.mail_base.specs.Series.{Held}
+use Rattle.folder_core.proofs.CostsLemmas.{raises_then}
 use Rattle.folder_core.proofs.SeenLemmas.{only_then}
 use Rattle.maildir_folder.specs.declared.candidates.Candidate.{Candidate}
 use Rattle.maildir_folder.specs.Candidates.{AreInOrder}
@@ -29,7 +30,11 @@ pub returns-in-Ok-candidates : goal.returns-in-Ok-candidates
 returns-in-Ok-candidates g c =
     let curs = c.cur_names.ensures.found.only in
     let rest = only_then _ _ _ c.new_names.ensures.found.only curs in
-    was_found c.args.path.now c.in-Ok-candidates.files _ _ (only_then _ _ _ c.find_folder.ensures.only rest) (record {
+    was_found c.args.path.now c.in-Ok-candidates.files _ _
+    (only_then _ _ _ c.find_folder.ensures.only rest)
+    (raises_then _ _ _ 0 0 c.in-Ok.ensures.reads
+    (raises_then _ _ _ 0 0 c.in-Ok-new_names.ensures.found.reads
+    c.in-Ok-cur_names.ensures.found.reads)) (record {
       cur = plain_names c.in-Ok-cur_names.names;
       new_names = plain_names c.in-Ok-new_names.names;
       order = both_names c.as_slice.result.now c.in-Ok-cur_names.names.items c.as_slice-2.result.now

@@ -4,6 +4,7 @@ use Rattle.folder_core.proofs.SeenLemmas.{first_and_rest, front_then, meets_late
 use Rattle.folder_core.proofs.SeenLemmas.{only_then}
 use Rattle.maildir_folder.specs.Candidates.{IsCandidate, plain_file}
 use Rattle.folder_core.specs.ListedSoFar.{store_of}
+use Rattle.maildir_folder.proofs.Reading.{found_same, found_then}
 use Rattle.maildir_folder.proofs.Walking.{walking_first}
 use Rattle.maildir_folder.proofs.WalkSteps.{room_left, stepped_left, stepped_taken}
 use Rattle.maildir_folder.proofs.walk.take_all.Goals as goal
@@ -15,6 +16,7 @@ loop-left-init g c = record {
   room = omega (arith, c.requires.empty.count);
   front = take_all (length c.args.archive.now.items) c.args.archive.now.items (omega arith);
   only = only_same _;
+  reads = found_same c.args.so_far.now.bytes _;
   walked = walking_first c.args.path.now (map plain_file c.args.files.now)
       (store_of c.args.so_far.now c.args.archive.now.items) _ c.requires.empty;
 }
@@ -29,18 +31,20 @@ loop-left-preserved-then-taken g c =
     let whole = first_and_rest c.loop-left.left.now _ c.file-item.result c.file-item.is
     c.in-len1-up.len_at_least in
     let step = stepped_taken c.args.path.now (map plain_file c.args.files.now) c.loop-left.left.now
-    _ c.file-item.result
-    _ c.as_slice.result.now _ _ _ c.in-Ok.taken _ _ _ whole c.if-taken.true c.as_slice.ensures.value
+    _ c.file-item.result c.as_slice.result.now c.in-Ok.taken whole c.if-taken.true
+    c.as_slice.ensures.value
     inv.each inv.rises
     inv.only.looks c.in-Ok.ensures.meets.only.looks inv.walked c.in-Ok.ensures.taken in
     record {
       each = All-rest IsCandidate c.file-item.result _ c.loop-left.left.now whole inv.each;
       rises = step.rises;
-      room = room_left c.args.path.now _ _ _ _ _ _ _ c.loop-left.left.now _ c.file-item.result
+      room = room_left c.loop-left.left.now _ c.file-item.result
           (length c.args.files.now) whole c.in-Ok.ensures.taken inv.room;
       front = front_then c.args.archive.now.items c.loop-left.archive.items _ inv.front
           c.in-Ok.ensures.front;
       only = only_then _ _ _ inv.only c.in-Ok.ensures.meets.only;
+      reads = found_then c.args.so_far.now.bytes c.loop-left.so_far.bytes _ _ _ _ inv.reads
+          c.in-Ok.ensures.reads;
       walked = step.walked;
     }
 
@@ -50,16 +54,17 @@ loop-left-preserved g c =
     let whole = first_and_rest c.loop-left.left.now _ c.file-item.result c.file-item.is
     c.in-len1-up.len_at_least in
     let step = stepped_left c.args.path.now (map plain_file c.args.files.now) c.loop-left.left.now _
-    c.file-item.result
-    _ _ _ _ c.in-Ok.taken _ _ _ whole c.if-taken.false inv.each inv.rises
+    c.file-item.result c.in-Ok.taken whole c.if-taken.false inv.each inv.rises
     inv.only.looks c.in-Ok.ensures.meets.only.looks inv.walked c.in-Ok.ensures.taken in
     record {
       each = All-rest IsCandidate c.file-item.result _ c.loop-left.left.now whole inv.each;
       rises = step.rises;
-      room = room_left c.args.path.now _ _ _ _ _ _ _ c.loop-left.left.now _ c.file-item.result
+      room = room_left c.loop-left.left.now _ c.file-item.result
           (length c.args.files.now) whole c.in-Ok.ensures.taken inv.room;
       front = front_then c.args.archive.now.items c.loop-left.archive.items _ inv.front
           c.in-Ok.ensures.front;
       only = only_then _ _ _ inv.only c.in-Ok.ensures.meets.only;
+      reads = found_then c.args.so_far.now.bytes c.loop-left.so_far.bytes _ _ _ _ inv.reads
+          c.in-Ok.ensures.reads;
       walked = step.walked;
     }

@@ -4,6 +4,7 @@ use Rattle.std.specs.List.{All}
 use Rattle.disk_model.specs.Looking.{OnlyLooks}
 use Rattle.maildir_folder.specs.Candidates.{IsCandidate, Rises, plain_file}
 use Rattle.folder_core.specs.ListedSoFar.{store_of}
+use Rattle.maildir_folder.specs.Walk.{ReadsFound}
 use Rattle.maildir_folder.proofs.Walking.{Walking}
 use Rattle.maildir_folder.proofs.walk.take_all.Given as goal
 
@@ -15,6 +16,9 @@ invariant-loop-left g l = record {
   front : take (length l.initial.archive.items) l.archive.items ≡ l.initial.archive.items;
   only : OnlyLooks ((goal.Disk-dyn g l.initial.disk.now).seen l.initial.disk.now.1)
       ((goal.Disk-dyn g l.disk.now).seen l.disk.now.1);
+  reads : ReadsFound l.initial.so_far.bytes l.so_far.bytes
+      ((goal.Disk-dyn g l.initial.disk.now).seen l.initial.disk.now.1).bytes_read
+      ((goal.Disk-dyn g l.disk.now).seen l.disk.now.1).bytes_read;
   walked : Walking l.path (map plain_file l.files) (map plain_file l.left)
       (option_map (λ r. r.now) l.last)
       (store_of l.initial.so_far l.initial.archive.items) (store_of l.so_far l.archive.items)

@@ -12,6 +12,7 @@ returns-in-Ok-list_known g c = record {
   saw = saw_found c.in-Ok.file c.in-Ok-list_known.found _ _ c.args.known.now _ _ _ c.in-Ok-list_known.ensures.ok
       (seen_at (Ok c.in-Ok.file) _ _ _ _ c.path.ensures.path c.in-Ok.ensures.seen);
   lists = lists_new c.in-Ok.file c.in-Ok-list_known.found _ _ _ _ c.in-Ok-list_known.ensures.ok;
+  reads = tt;
   err_archive = search rules;
   err_known = search rules;
   full = search rules;
@@ -25,6 +26,7 @@ returns-in-Err-list_known g c = record {
       c.args.known.now _ _ _ c.in-Err-list_known.ensures.unknown c.in-Err-list_known.ensures.unlisted
       (seen_at (Ok c.in-Ok.file) _ _ _ _ c.path.ensures.path c.in-Ok.ensures.seen);
   lists = search rules;
+  reads = tt;
   err_archive = search rules;
   err_known = c.in-Err-list_known.ensures.unknown;
   full = λ is. let full : c.in-Err-list_known.why ≡ ArchiveFull = cc in subst (λ (n : ℕ). most_letters < n + most_messages) (length-map c.args.archive.now.items plain_letter)

@@ -16,14 +16,14 @@ use Rattle.mh_folder.proofs.driver.list_folder.Goals as goal
 abbrev came_of : Held Listed × Held ℕ → List Listed
 came_of listed = listed.0.items
 
-pub returns-in-Err-read_sequences-clause-lists : goal.returns-in-Err-read_sequences-clause-lists
-returns-in-Err-read_sequences-clause-lists g c =
-    walk_failed mh_format c.args.path.now _ _ c.in-Err-read_sequences.why came_of
+pub returns-in-Err-read_marks-clause-lists : goal.returns-in-Err-read_marks-clause-lists
+returns-in-Err-read_marks-clause-lists g c =
+    walk_failed mh_format c.args.path.now _ _ c.in-Err-read_marks.why came_of
     (λ listed. StampedSeen c.args.path.now listed.1.items) _ _ _
     (λ p q. no_cause is_folder_at
     (λ messages. SawStamped c.args.path.now messages (length p.journal) (length q.journal) q)
-    _ c.args.path.now c.in-Err-read_sequences.why _ _ q)
-    c.list_numbers.ensures.only c.in-Err-read_sequences.ensures.meets
+    _ c.args.path.now c.in-Err-read_marks.why _ _ q)
+    c.list_numbers.ensures.only c.in-Err-read_marks.ensures.meets
 
 pub returns-in-Err-take_all-clause-lists : goal.returns-in-Err-take_all-clause-lists
 returns-in-Err-take_all-clause-lists g c =
@@ -32,12 +32,12 @@ returns-in-Err-take_all-clause-lists g c =
     (λ p q. no_cause is_folder_at
     (λ messages. SawStamped c.args.path.now messages (length p.journal) (length q.journal) q)
     _ c.args.path.now c.in-Err-take_all.why _ _ q)
-    (only_then _ _ _ c.list_numbers.ensures.only c.read_sequences.ensures.meets.only)
+    (only_then _ _ _ c.list_numbers.ensures.only c.read_marks.ensures.meets.only)
     c.in-Err-take_all.ensures.meets
 
 pub returns-in-Some-clause-lists : goal.returns-in-Some-clause-lists
 returns-in-Some-clause-lists g c =
-    let sequences = c.in-Ok-read_sequences.ensures.meets.only in
+    let sequences = c.in-Ok-read_marks.ensures.meets.only in
     let walk = c.in-Ok-take_all.ensures.meets.only in
     let rest = only_then _ _ _ sequences walk in
     let first = kept_of c.new-walk.result c.args.archive.now.items in
@@ -53,14 +53,14 @@ returns-in-Some-clause-lists g c =
     (sym c.refusal.ensures ∙ c.in-Some.is) (only_then _ _ _ c.list_numbers.ensures.only rest)
     (refused_walked c.args.path.now first kept _ _
     (folder_walked c.args.path.now c.in-Ok.files.items c.as_slice.result.now
-    c.in-Ok-read_sequences.sequences first kept
+    c.in-Ok-read_marks.marks first kept
     _ _ _ _ c.as_slice.ensures.value c.list_numbers.ensures.only.looks sequences.looks walk.looks
     rest.looks
-    c.in-Ok.ensures.saw c.in-Ok-read_sequences.ensures.read c.in-Ok-take_all.ensures.walked))
+    c.in-Ok.ensures.saw c.in-Ok-read_marks.ensures.read c.in-Ok-take_all.ensures.walked))
 
 pub returns-clause-lists : goal.returns-clause-lists
 returns-clause-lists g c =
-    let sequences = c.in-Ok-read_sequences.ensures.meets.only in
+    let sequences = c.in-Ok-read_marks.ensures.meets.only in
     let walk = c.in-Ok-take_all.ensures.meets.only in
     let rest = only_then _ _ _ sequences walk in
     let first = kept_of c.new-walk.result c.args.archive.now.items in
@@ -73,7 +73,7 @@ returns-clause-lists g c =
     refl (sym c.refusal.ensures ∙ c.in-None.is) (only_then _ _ _ c.list_numbers.ensures.only rest)
     (listed_walked c.args.path.now first kept _ _ (sym c.refusal.ensures ∙ c.in-None.is)
     (folder_walked c.args.path.now c.in-Ok.files.items c.as_slice.result.now
-    c.in-Ok-read_sequences.sequences first kept
+    c.in-Ok-read_marks.marks first kept
     _ _ _ _ c.as_slice.ensures.value c.list_numbers.ensures.only.looks sequences.looks walk.looks
     rest.looks
-    c.in-Ok.ensures.saw c.in-Ok-read_sequences.ensures.read c.in-Ok-take_all.ensures.walked))
+    c.in-Ok.ensures.saw c.in-Ok-read_marks.ensures.read c.in-Ok-take_all.ensures.walked))

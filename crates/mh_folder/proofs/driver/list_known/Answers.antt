@@ -21,3 +21,4 @@ returns-in-Ok-first-clause-scans g c =
       bytes = refl;
     })
     refl c.in-Ok-first.ensures.known c.in-Ok-first.ensures.found c.in-Ok-list_folder.ensures.lists
+    tt

@@ -1,10 +1,11 @@
-use Rattle.std.proofs.Common.{length, take_all, arith}
+use Rattle.std.proofs.Common.{length, take_all, ap, arith}
+use Rattle.std.proofs.lemmas.List.{nil_from_length}
 use Rattle.std.proofs.lemmas.List.Elements.{All-rest}
 use Rattle.folder_core.proofs.SeenLemmas.{first_and_rest, front_then, meets_later, only_same}
 use Rattle.folder_core.proofs.SeenLemmas.{only_then}
 use Rattle.mh_folder.specs.NumberedName.{IsNumbered, plain_names}
 use Rattle.mh_folder.specs.Walk.{kept_of}
-use Rattle.mh_folder.proofs.WalkLemmas.{stepped, walking_first}
+use Rattle.mh_folder.proofs.WalkLemmas.{stepped, walking_done, walking_first}
 use Rattle.mh_folder.proofs.walk.Walk.take_all.Goals as goal
 
 pub loop-left-init : goal.loop-left-init
@@ -39,3 +40,12 @@ loop-left-preserved g c =
           inv.only.looks c.in-Ok.ensures.meets.only.looks (inv.walked bytes is)
           (c.in-Ok.ensures.taken bytes is);
     }
+
+pub returns-clause-walked : goal.returns-clause-walked
+returns-clause-walked g c =
+    λ bytes are.
+    walking_done c.args.path.now bytes (plain_names c.args.files.now)
+    (plain_names c.loop-left.left.now) (kept_of c.args.self.now c.args.archive.now.items)
+    (kept_of c.loop-left.self c.loop-left.archive.items) _ _
+    (ap plain_names (nil_from_length c.loop-left.left.now (omega (arith, c.in_default.len_below))))
+    (c.loop-left.invariant.walked bytes are)

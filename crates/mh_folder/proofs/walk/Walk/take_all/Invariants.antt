@@ -1,8 +1,8 @@
 use Rattle.std.proofs.Common.{◌≡◌, ◌≤◌, ◌+◌, ℕ, List, length, take}
 use Rattle.std.specs.List.{All}
 use Rattle.disk_model.specs.Looking.{OnlyLooks}
+use Rattle.mh_folder.specs.Marks.{AreMarks}
 use Rattle.mh_folder.specs.NumberedName.{IsNumbered, plain_names}
-use Rattle.mh_folder.specs.Sequences.{sequences_of}
 use Rattle.mh_folder.specs.Walk.{kept_of}
 use Rattle.mh_folder.proofs.WalkLemmas.{Walking}
 use Rattle.mh_folder.proofs.walk.Walk.take_all.Given as goal
@@ -14,7 +14,7 @@ invariant-loop-left g l = record {
   front : take (length l.initial.archive.items) l.archive.items ≡ l.initial.archive.items;
   only : OnlyLooks ((goal.Disk-dyn g l.initial.disk.now).seen l.initial.disk.now.1)
       ((goal.Disk-dyn g l.disk.now).seen l.disk.now.1);
-  walked : (bytes : List ℕ) → l.sequences ≡ sequences_of bytes
+  walked : (bytes : List ℕ) → AreMarks bytes l.marks
       → Walking l.path bytes (plain_names l.files) (plain_names l.left)
       (kept_of l.initial.self l.initial.archive.items) (kept_of l.self l.archive.items)
       ((goal.Disk-dyn g l.initial.disk.now).seen l.initial.disk.now.1).told
