@@ -9,3 +9,13 @@ pub mod Patterns
 pub mod Days
 pub mod Dates
 pub mod Laws
+pub mod Needs
+pub mod Operations
+pub mod States
+pub mod Errors
+pub mod Asked
+pub mod Causes
+pub mod Readings
+pub mod Listings
+pub mod Satisfies
+pub mod Machine

@@ -36,6 +36,9 @@ pub record State : Type 0 where
   pub side : Side
   pub opened : List Opened
 
+abbrev pub at_first : State
+at_first = record { side = nothing_read; opened = [] }
+
 -- a tree beside those before it
 abbrev pub joined : (Tree → Tree → Tree) → Option Tree → Tree → Tree
 joined join None tree = tree
@@ -134,4 +137,4 @@ abbrev pub pattern_of : (List ℕ → Option Days) → List ℕ → Reading Tree
 pattern_of days [] = Err Empty
 pattern_of days (b ∷ rest) =
     if is_simple (b ∷ rest) then Ok (simple (b ∷ rest))
-    else read_from days 0 0 (Ok (record { side = nothing_read; opened = [] })) (b ∷ rest)
+    else read_from days 0 0 (Ok at_first) (b ∷ rest)

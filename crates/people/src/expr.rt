@@ -67,7 +67,7 @@ impl Expr {
     }
 
     /// The same, of an expression that is lent to be read alone.
-    pub(crate) fn search(&self, text: &[u8]) -> Result<bool, NoMemory>
+    pub fn search(&self, text: &[u8]) -> Result<bool, NoMemory>
         ensures value { IfOk result (λ found. found ≡ spec.finds self.now text.now) }
         ensures literal { spec.is_literal self.now ≡ true → IsOk result }
     {

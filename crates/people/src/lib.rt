@@ -17,6 +17,7 @@ pub use builder::Builder;
 pub use error::ExprError;
 pub use expr::Expr;
 pub use judged::{Judged, Verdict};
+pub use literal::literal_found;
 pub use people::{People, PeopleTable};
 pub use regex_build::RegexBuild;
 pub use verdicts::{Kept, Verdicts};

@@ -1,11 +1,13 @@
-//! The worked rows of expressions and of the tables of people: each case file is read, each case's
+//! The worked rows of expressions, of the tables of people and of patterns: each case file is read, each case's
 //! calls made and compared.
 #![tactic(auto)]
 
 mod expressions;
+mod pattern_texts;
 mod people_calls;
 
 use crate::expressions::Expressions;
+use crate::pattern_texts::PatternTexts;
 use crate::people_calls::PeopleCalls;
 use case_files::{Report, play_file, print_report};
 use mail_base::NoMemory;
@@ -23,5 +25,6 @@ fn main(rt: HostRuntime) -> io::Result<ExitCode> {
 /// Plays each case file, a line a file.
 fn play_all(rt: &HostRuntime, report: &mut Report) -> Result<(), NoMemory> {
     play_file(rt, &Expressions, "expressions", report)?;
-    play_file(rt, &PeopleCalls, "tables", report)
+    play_file(rt, &PeopleCalls, "tables", report)?;
+    play_file(rt, &PatternTexts, "patterns", report)
 }

@@ -1,0 +1,271 @@
+-- Verdicts on the expressions of a pattern.
+use Rattle.std.proofs.Common.{◌≡◌, ◌∙◌, ◌++◌, ◌≤◌, ◌⊎◌, ◌&&◌, ℕ, Bool, true, false, List, [], ◌∷◌}
+use Rattle.std.proofs.Common.{Option, Some, None, Ok, Err, is_some, option_map, append_assoc, map, refl}
+use Rattle.std.proofs.Common.{sym, ap, subst, arith, inl, inr}
+use Rattle.std.specs.Prelude.{if◌then◌else◌}
+use Rattle.std.specs.List.{list_all}
+use Rattle.std.specs.Str.{bytes_eq}
+use Rattle.mail_base.specs.Faults.{Rose}
+use Rattle.mail_base.specs.Shown.{utf8_text}
+use Rattle.people.specs.Cause.{is_readable}
+use Rattle.people.specs.Expr.{is_literal}
+use Rattle.people.specs.Judged.{PlainJudged, Reads, judged_of, verdict_of, verdict_on}
+use Rattle.people.specs.Judged.{with_verdict}
+use Rattle.people.specs.declared.error.ExprError.{ExprError}
+use Rattle.people.specs.declared.error.ExprError.TheVariants as expr
+use Rattle.people.specs.declared.judged.Verdict.{Verdict}
+use Rattle.people.specs.declared.judged.Verdict.TheVariants.{Good, Size}
+use Rattle.std.proofs.lemmas.List.{map-append}
+use Rattle.patterns.specs.Asked.{asked, asked_operations, expr_of, exprs_in, leaf_expr}
+use Rattle.patterns.specs.Asked.{plain_asked, with_expr}
+use Rattle.patterns.specs.Operations.{operation_map}
+use Rattle.patterns.specs.Trees.{Tells, Searches, Dated, Counts}
+use Rattle.patterns.specs.declared.asked.Asked.{Asked}
+use Rattle.patterns.specs.declared.operation.Operation.TheVariants as operation
+use Rattle.patterns.specs.Causes.{Halfway, Judges, SomeOf, is_good}
+use Rattle.patterns.specs.Errors.{is_fault, of_expr_error}
+use Rattle.patterns.specs.Trees.{Leaf}
+use Rattle.patterns.specs.declared.letter.Field.{Field}
+use Rattle.patterns.specs.declared.operation.Operation.{Operation}
+use Rattle.patterns.specs.declared.pattern_error.PatternError.{PatternError}
+use Rattle.patterns.specs.declared.pattern_error.PatternError.TheVariants as error
+
+-- what is judged stays so with a further text
+judged_stays : (list : List PlainJudged) (j k : PlainJudged) (text : List ℕ)
+    → judged_of list text ≡ Some k → judged_of (list ++ j ∷ []) text ≡ Some k
+judged_stays [] j k text is = cc
+judged_stays (i ∷ list) j k text is = by_test (bytes_eq i.text text) is (judged_stays list j k text)
+  where
+    by_test : (t : Bool)
+        → (if t then Some i else judged_of list text) ≡ Some k
+        → (judged_of list text ≡ Some k → judged_of (list ++ j ∷ []) text ≡ Some k)
+        → (if t then Some i else judged_of (list ++ j ∷ []) text) ≡ Some k
+    by_test true is on = is
+    by_test false is on = on is
+
+-- a further text is judged as it was before, or as it is now
+judged_more : (list : List PlainJudged) (j : PlainJudged) (text : List ℕ)
+    → (judged_of (list ++ j ∷ []) text ≡ judged_of list text)
+    ⊎ (judged_of (list ++ j ∷ []) text ≡ Some j)
+judged_more [] j text = by_test (bytes_eq j.text text)
+  where
+    by_test : (t : Bool) → ((if t then Some j else None) ≡ None)
+        ⊎ ((if t then Some j else None) ≡ Some j)
+    by_test true = inr refl
+    by_test false = inl refl
+judged_more (i ∷ list) j text = by_test (bytes_eq i.text text) (judged_more list j text)
+  where
+    by_test : (t : Bool)
+        → (judged_of (list ++ j ∷ []) text ≡ judged_of list text)
+        ⊎ (judged_of (list ++ j ∷ []) text ≡ Some j)
+        → ((if t then Some i else judged_of (list ++ j ∷ []) text)
+        ≡ (if t then Some i else judged_of list text))
+        ⊎ ((if t then Some i else judged_of (list ++ j ∷ []) text) ≡ Some j)
+    by_test true on = inl refl
+    by_test false on = on
+
+abbrev given : Option PlainJudged → Bool → Option Verdict
+given j literal = if literal then Some Good else option_map (λ k. k.verdict) j
+
+given_more : (literal : Bool) (old new : Option PlainJudged) (v : Verdict)
+    → ((j : PlainJudged) → old ≡ Some j → new ≡ Some j) → given old literal ≡ Some v
+    → given new literal ≡ Some v
+given_more true old new v on is = is
+given_more false None new v on is = cc
+given_more false (Some j) new v on is = ap (option_map (λ k. k.verdict)) (on j refl) ∙ is
+
+added_stays : (t : Bool) (list : List PlainJudged) (j k : PlainJudged) (text : List ℕ)
+    → judged_of list text ≡ Some k
+    → judged_of (if t then list else list ++ j ∷ []) text ≡ Some k
+added_stays true list j k text is = is
+added_stays false list j k text is = judged_stays list j k text is
+
+verdict_stays : (list : List PlainJudged) (t text : List ℕ) (w : Option Verdict) (b a : ℕ)
+    (v : Verdict) → verdict_on list text ≡ Some v
+    → verdict_on (with_verdict list t w b a) text ≡ Some v
+verdict_stays list t text None b a v is = is
+verdict_stays list t text (Some w) b a v is =
+    let j : PlainJudged = record { text = t; verdict = w; before = b; after = a } in
+    given_more (is_literal text) (judged_of list text)
+    (judged_of (with_verdict list t (Some w) b a) text) v
+    (λ k. added_stays (is_some (verdict_on list t)) list j k text) is
+
+given_same : (literal : Bool) (old new : Option PlainJudged) (j : PlainJudged)
+    → j.verdict ≡ Good → (new ≡ old) ⊎ (new ≡ Some j) → given new literal ≡ Some Size
+    → given old literal ≡ Some Size
+given_same true old new j good as_is is = is
+given_same false old new j good (inl same) is = ap (option_map (λ k. k.verdict)) (sym same) ∙ is
+given_same false old new j good (inr now) is =
+    let no : Some Good ≡ Some Size =
+    ap Some (sym good) ∙ ap (option_map (λ k. k.verdict)) (sym now) ∙ is in
+    cc
+
+added_more : (t : Bool) (list : List PlainJudged) (j : PlainJudged) (text : List ℕ)
+    → (judged_of (if t then list else list ++ j ∷ []) text ≡ judged_of list text)
+    ⊎ (judged_of (if t then list else list ++ j ∷ []) text ≡ Some j)
+added_more true list j text = inl refl
+added_more false list j text = judged_more list j text
+
+-- no size is told by a good text
+size_stays : (list : List PlainJudged) (t text : List ℕ) (b a : ℕ)
+    → verdict_on (with_verdict list t (Some Good) b a) text ≡ Some Size
+    → verdict_on list text ≡ Some Size
+size_stays list t text b a is =
+    let j : PlainJudged = record { text = t; verdict = Good; before = b; after = a } in
+    given_same (is_literal text) (judged_of list text)
+    (judged_of (with_verdict list t (Some Good) b a) text) j refl
+    (added_more (is_some (verdict_on list t)) list j text) is
+
+rose_from : (b m a : ℕ) → b ≤ m → Rose m a → Rose b a
+rose_from b m a le (inl up) = inl (omega arith)
+rose_from b m a le (inr last) = inr last
+
+pub halfway_start : (all : List (Operation Leaf)) (old : List PlainJudged) (b : ℕ)
+    → Halfway all all old old b b
+halfway_start all old b = record {
+  stays = λ text v is. is;
+  sizes = λ text is. is;
+  later = omega arith;
+  good = refl;
+  syntax = λ s. s;
+  size = λ s. s;
+}
+
+module _ {all rest : List (Operation Leaf)} {o : Operation Leaf} {old mid : List PlainJudged}
+    {b m : ℕ} (so : Halfway all (o ∷ rest) old mid b m) where
+  with_none : expr_of o ≡ None → exprs_in (o ∷ rest) ≡ exprs_in rest
+  with_none is = ap (λ e. with_expr e (exprs_in rest)) is
+
+  pub halfway_skip : expr_of o ≡ None → Halfway all rest old mid b m
+  halfway_skip is = record {
+    stays = so.stays;
+    sizes = so.sizes;
+    later = so.later;
+    good = ap (list_all is_good) (sym (with_none is)) ∙ so.good;
+    syntax = λ s. so.syntax (subst (SomeOf (λ t. is_readable t ≡ false)) (sym (with_none is)) s);
+    size = λ s. so.size (subst (SomeOf (λ t. verdict_on old t ≡ Some Size))
+        (sym (with_none is)) s);
+  }
+
+  module _ {field : Field} {text : List ℕ} (is : expr_of o ≡ Some (field, text)) where
+    with_text : exprs_in (o ∷ rest) ≡ utf8_text text ∷ exprs_in rest
+    with_text = ap (λ e. with_expr e (exprs_in rest)) is
+
+    pub halfway_on : {T : Type 0} {x : T} {new : List PlainJudged} {a : ℕ}
+        → Reads (utf8_text text) (Ok x) mid new m a
+        → Halfway all rest old new b a
+    halfway_on {new = new} {a = a} reads = record {
+      stays = λ t v was. subst (λ l. verdict_on l t ≡ Some v) (sym reads.judged)
+          (verdict_stays mid (utf8_text text) t (Some Good) m a v (so.stays t v was));
+      sizes = λ t was. so.sizes t (size_stays mid (utf8_text text) t m a
+          (subst (λ l. verdict_on l t ≡ Some Size) reads.judged was));
+      later = omega (arith, so.later, reads.later);
+      good = ap (λ t. t && list_all is_good (exprs_in rest)) (sym reads.ok)
+          ∙ ap (list_all is_good) (sym with_text) ∙ so.good;
+      syntax = λ s. so.syntax (subst (SomeOf (λ t. is_readable t ≡ false)) (sym with_text)
+          (inr s));
+      size = λ s. so.size (subst (SomeOf (λ t. verdict_on old t ≡ Some Size)) (sym with_text)
+          (inr s));
+    }
+
+    stops : {T : Type 0} (e : ExprError) (r : PatternError) {new : List PlainJudged} {a : ℕ}
+        → new ≡ with_verdict mid (utf8_text text) (verdict_of {T = T} (Err e)) m a → m ≤ a
+        → (r ≡ error.RegexSyntax → is_readable (utf8_text text) ≡ false)
+        → (r ≡ error.RegexSize → (verdict_on mid (utf8_text text) ≡ Some Size) ⊎ Rose m a)
+        → Judges {T = T} (exprs_in all) (Err r) old new b a
+    stops {T = T} e r {new = new} {a = a} judged later syntax size = record {
+      stays = λ t v was. subst (λ l. verdict_on l t ≡ Some v) (sym judged)
+          (verdict_stays mid (utf8_text text) t (verdict_of {T = T} (Err e)) m a v (so.stays t v was));
+      sizes = tt;
+      later = omega arith;
+      good = tt;
+      syntax = λ s. so.syntax (subst (SomeOf (λ t. is_readable t ≡ false)) (sym with_text)
+          (inl (syntax (cc))));
+      size = λ s. by_cause (size (cc));
+    }
+      where
+        by_cause : (verdict_on mid (utf8_text text) ≡ Some Size) ⊎ Rose m a
+            → SomeOf (λ t. verdict_on old t ≡ Some Size) (exprs_in all) ⊎ Rose b a
+        by_cause (inl was) =
+            inl (so.size (subst (SomeOf (λ t. verdict_on old t ≡ Some Size)) (sym with_text)
+            (inl (so.sizes (utf8_text text) was))))
+        by_cause (inr rose) = inr (rose_from b m a so.later rose)
+
+    pub halfway_stop : {S T : Type 0} (e : ExprError) {new : List PlainJudged} {a : ℕ}
+        → Reads {T = S} (utf8_text text) (Err e) mid new m a
+        → Judges {T = T} (exprs_in all) (Err (of_expr_error e)) old new b a
+    halfway_stop expr.Syntax reads =
+        stops expr.Syntax error.RegexSyntax reads.judged reads.later
+        (λ _. reads.syntax_cause refl) (λ is. cc)
+    halfway_stop expr.Size reads =
+        stops expr.Size error.RegexSize reads.judged reads.later (λ is. cc)
+        (λ _. reads.size_cause refl)
+    halfway_stop expr.NoMemory reads =
+        stops expr.NoMemory error.NoMemory reads.judged reads.later (λ is. cc) (λ is. cc)
+
+pub halfway_end : {T : Type 0} {x : T} {all : List (Operation Leaf)} {old new : List PlainJudged}
+    {b a : ℕ} → Halfway all [] old new b a
+    → Judges (exprs_in all) (Ok x) old new b a
+halfway_end so = record {
+  stays = so.stays;
+  sizes = so.sizes;
+  later = so.later;
+  good = sym so.good;
+  syntax = λ s. cc;
+  size = λ s. cc;
+}
+
+pub no_memory : {T : Type 0} {all left : List (Operation Leaf)} {old new : List PlainJudged}
+    {b a : ℕ} → Halfway all left old new b a
+    → Judges {T = T} (exprs_in all) (Err error.NoMemory) old new b a
+no_memory so = record {
+  stays = so.stays;
+  sizes = tt;
+  later = so.later;
+  good = tt;
+  syntax = λ s. cc;
+  size = λ s. cc;
+}
+
+leaf_asked : (leaf : Leaf) (field : Field) (text : List ℕ) → leaf_expr leaf ≡ Some (field, text)
+    → asked leaf ≡ Searches field false (utf8_text text)
+leaf_asked (Tells mark) field text is = cc
+leaf_asked (Searches f true t) field text is = cc
+leaf_asked (Searches f false t) field text is =
+    let same : (f, t) ≡ (field, text) = cc in
+    ap (λ (p : Field × List ℕ). Searches p.0 false (utf8_text p.1)) same
+leaf_asked (Dated day range) field text is = cc
+leaf_asked (Counts number range) field text is = cc
+
+-- an operation that asks an expression
+pub expr_asked : (o : Operation Leaf) (field : Field) (text : List ℕ)
+    → expr_of o ≡ Some (field, text)
+    → operation_map asked o ≡ operation.Ask (Searches field false (utf8_text text))
+expr_asked (operation.Ask leaf) field text is = ap operation.Ask (leaf_asked leaf field text is)
+expr_asked operation.Negate field text is = cc
+expr_asked (operation.SkipUnless n) field text is = cc
+expr_asked (operation.SkipIf n) field text is = cc
+expr_asked (operation.Others relation n) field text is = cc
+expr_asked operation.Both field text is = cc
+expr_asked operation.Either field text is = cc
+expr_asked operation.Group field text is = cc
+expr_asked (operation.Related relation) field text is = cc
+
+-- a further operation
+pub asked_more : (xs ys : List (Operation Asked)) (x : Operation Asked) (o : Operation Leaf)
+    (rest whole : List (Operation Leaf)) → ys ≡ xs ++ x ∷ []
+    → operation_map plain_asked x ≡ operation_map asked o
+    → asked_operations xs ++ map (operation_map asked) (o ∷ rest) ≡ whole
+    → asked_operations ys ++ map (operation_map asked) rest ≡ whole
+asked_more xs ys x o rest whole more same before =
+    ap (λ l. asked_operations l ++ map (operation_map asked) rest) more
+    ∙ ap (λ l. l ++ map (operation_map asked) rest)
+    (map-append (operation_map plain_asked) xs (x ∷ []))
+    ∙ append_assoc (asked_operations xs) (operation_map plain_asked x ∷ [])
+    (map (operation_map asked) rest)
+    ∙ ap (λ y. asked_operations xs ++ (y ∷ map (operation_map asked) rest)) same ∙ before
+
+pub no_fault : (e : ExprError) → is_fault (of_expr_error e) ≡ false
+no_fault expr.Syntax = refl
+no_fault expr.Size = refl
+no_fault expr.NoMemory = refl

@@ -1,0 +1,23 @@
+use Rattle.std.proofs.Common.{◌∙◌, ◌++◌, [], ◌∷◌, ap, sym}
+use Rattle.patterns.proofs.DraftLemmas.{joined, vec_length}
+use Rattle.patterns.specs.Operations.{code}
+use Rattle.patterns.specs.Trees.{And}
+use Rattle.patterns.specs.declared.operation.Operation.TheVariants as operation
+use Rattle.patterns.proofs.draft.Draft.and.Goals as goal
+
+pub invariant_of-result : goal.invariant_of-result
+invariant_of-result c = record {
+  code = (joined And (operation.SkipUnless c.len.result) operation.Both c.args.self.operations.items
+      c.args.other.operations.items c.in_ok-operations.operations.items c.in_ok-operations.ensures
+      c.args.self.code c.args.other.code
+      (λ a b long. ap (λ n. code a ++ operation.SkipUnless n ∷ [] ++ code b ++ operation.Both ∷ [])
+      (long ∙ sym (c.len.ensures ∙ vec_length c.args.other.operations)))).is_code;
+}
+
+pub returns : goal.returns
+returns c =
+    (joined And (operation.SkipUnless c.len.result) operation.Both c.args.self.operations.items
+    c.args.other.operations.items c.in_ok-operations.operations.items c.in_ok-operations.ensures
+    c.args.self.code c.args.other.code
+    (λ a b long. ap (λ n. code a ++ operation.SkipUnless n ∷ [] ++ code b ++ operation.Both ∷ [])
+    (long ∙ sym (c.len.ensures ∙ vec_length c.args.other.operations)))).tree_is

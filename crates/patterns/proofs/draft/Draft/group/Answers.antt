@@ -1,0 +1,16 @@
+use Rattle.std.proofs.Common.{refl}
+use Rattle.patterns.proofs.DraftLemmas.{with_last}
+use Rattle.patterns.specs.Trees.{Group}
+use Rattle.patterns.specs.declared.operation.Operation.TheVariants as operation
+use Rattle.patterns.proofs.draft.Draft.group.Goals as goal
+
+pub invariant_of-result : goal.invariant_of-result
+invariant_of-result c = record {
+  code = (with_last Group operation.Group c.args.self.operations.items c.in_ok-operations.operations.items
+      c.in_ok-operations.ensures c.args.self.code (λ _. refl)).is_code;
+}
+
+pub returns : goal.returns
+returns c =
+    (with_last Group operation.Group c.args.self.operations.items c.in_ok-operations.operations.items
+    c.in_ok-operations.ensures c.args.self.code (λ _. refl)).tree_is
