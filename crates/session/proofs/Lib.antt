@@ -1,3 +1,5 @@
 mod Looked
 mod TellingLemmas
+mod SettlingLemmas
 mod StepsLemmas
+mod BeginningLemmas

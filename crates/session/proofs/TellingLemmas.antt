@@ -14,18 +14,18 @@ use Rattle.disk_model.proofs.Looking.{looks_same, looks_then}
 use Rattle.folder_core.specs.Letters.{Mail}
 use Rattle.keymap.specs.declared.key.Key.{Key}
 use Rattle.session.specs.declared.event.Marks.{Marks}
-use Rattle.session.specs.Events.{Happening, FileRead, FileRefused, KeyPressed, FolderOpened}
-use Rattle.session.specs.Events.{FolderRefused}
+use Rattle.session.specs.Events.{AreFiles, Happening, FileRead, FileRefused, IsFile, KeyPressed}
+use Rattle.session.specs.Events.{FolderOpened, FolderRefused}
 use Rattle.session.specs.Happened.{AllCounted, AllHappened, Counts, Happened, IsCounted}
 use Rattle.session.specs.Happened.{IsTrueAt, counts_after, counts_at, counts_of, kind_in, marks_of}
-use Rattle.session.specs.Happened.{IsReadCause, WasRead, past_at}
+use Rattle.session.specs.Happened.{HasCause, IsReadCause, WasRead, past_at}
 use Rattle.disk_model.specs.declared.answers.Stat.{Stat}
 use Rattle.disk_model.specs.declared.answers.DiskError.{DiskError}
 use Rattle.disk_model.specs.declared.answers.DiskError.TheVariants as disk
 use Rattle.mail_base.specs.Faults.{Rose}
 use Rattle.folder_core.proofs.SeenLemmas.{goes_as}
 use Rattle.session.specs.Runs.{State, after, after_events}
-use Rattle.session.specs.Telling.{IsTold, Tells, TellsFile, Witnessed}
+use Rattle.session.specs.Telling.{HasFileCause, IsTold, Tells, TellsFile, Witnessed}
 
 -- Pasts at marks.
 
@@ -229,6 +229,7 @@ module _ (Has : Kind → Type 0) where
       before = h.before;
       after = h.after;
       on = h.on;
+      faults = h.faults;
       cause = tt;
       happened = h.happened;
       looks = h.looks;
@@ -241,6 +242,7 @@ module _ (Has : Kind → Type 0) where
       before = h.before;
       after = h.after;
       on = h.on;
+      faults = h.faults;
       cause = h.cause;
       happened = h.happened;
       looks = h.looks;
@@ -250,6 +252,84 @@ module _ (Has : Kind → Type 0) where
     tells_file empty (KeyPressed key moment) old new h = absurd h.cause
     tells_file empty (FolderOpened path kind moment came kept) old new h = absurd h.cause
     tells_file empty (FolderRefused path why kept) old new h = absurd h.cause
+
+-- the event of a file is one
+pub file_is : (event : Happening) (marks : Marks) → HasFileCause event marks → IsFile event
+file_is (FileRead path text kept) marks h = tt
+file_is (FileRefused path why kept) marks h = tt
+file_is (KeyPressed key moment) marks h = absurd h
+file_is (FolderOpened path kind moment came kept) marks h = absurd h
+file_is (FolderRefused path why kept) marks h = absurd h
+
+pub files_append : (events : List Happening) (event : Happening) → AreFiles events → IsFile event
+    → AreFiles (events ++ event ∷ [])
+files_append [] event h k = (k, tt)
+files_append (e ∷ events) event h k = (h.0, files_append events event h.1 k)
+
+-- Files of commands need no driver.
+module _ (Has Other : Kind → Type 0) where
+  file_cause : (event : Happening) (marks : Marks) → IsFile event → HasCause Has event marks
+      → HasCause Other event marks
+  file_cause (FileRead path text kept) marks is h = tt
+  file_cause (FileRefused path why kept) marks is h = h
+  file_cause (KeyPressed key moment) marks is h = absurd is
+  file_cause (FolderOpened path kind moment came kept) marks is h = absurd is
+  file_cause (FolderRefused path why kept) marks is h = absurd is
+
+  file_counted : (counts : Counts) (event : Happening) (at : Option Marks) → IsFile event
+      → IsCounted Has counts event at → IsCounted Other counts event at
+  file_counted counts event None is h = tt
+  file_counted counts event (Some marks) is h = record {
+    mark = h.mark;
+    faults = h.faults;
+    on = h.on;
+    cause = file_cause event marks is h.cause;
+  }
+
+  files_counted : (counts : Counts) (events : List Happening) → AreFiles events
+      → AllCounted Has counts events → AllCounted Other counts events
+  files_counted counts [] are h = tt
+  files_counted counts (event ∷ events) are h = (
+    file_counted counts event (marks_of event) are.0 h.0,
+    files_counted (counts_after counts (marks_of event)) events are.1 h.1,
+  )
+
+  file_true : (empty : Kind) (archive : List Mail) (event : Happening) (at : Option Marks)
+      (past : Past) → IsFile event → IsTrueAt Has empty archive event at past
+      → IsTrueAt Other empty archive event at past
+  file_true empty archive event None past is h = tt
+  file_true empty archive (FileRead path text kept) (Some marks) past is h = h
+  file_true empty archive (FileRefused path why kept) (Some marks) past is h = h
+  file_true empty archive (KeyPressed key moment) (Some marks) past is h = absurd is
+  file_true empty archive (FolderOpened path kind moment came kept) (Some marks) past is h =
+      absurd is
+  file_true empty archive (FolderRefused path why kept) (Some marks) past is h = absurd is
+
+  files_true : (archive : List Mail) (s : State) (events : List Happening) (past : Past)
+      → AreFiles events → AllHappened Has archive s events past
+      → AllHappened Other archive s events past
+  files_true archive s [] past are h = tt
+  files_true archive s (event ∷ events) past are h = (
+    file_true (kind_in s) archive event (marks_of event) past are.0 h.0,
+    files_true archive (after s event) events past are.1 h.1,
+  )
+
+  files_told : (archive : List Mail) (s : State) (events : List Happening)
+      (first now : Option Past) → AreFiles events → IsTold Has archive s events first now
+      → IsTold Other archive s events first now
+  files_told archive s events None now are h = tt
+  files_told archive s events (Some first) None are h = absurd h
+  files_told archive s events (Some first) (Some now) are h =
+      (h.0, files_true archive s events now are h.1)
+
+  pub witnessed_files : (archive : List Mail) (s : State) (events : List Happening)
+      (first now : Seen) → AreFiles events → Witnessed Has archive s events first now
+      → Witnessed Other archive s events first now
+  witnessed_files archive s events first now are h = record {
+    told = files_told archive s events first.told now.told are h.told;
+    counted = files_counted (counts_of first) events are h.counted;
+    at = h.at;
+  }
 
 pub read_told : (stat : Stat) (text path : List ℕ) (old new : Option Past)
     → GoesOn (WasRead (Ok (stat, text)) path) old new

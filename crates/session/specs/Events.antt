@@ -1,5 +1,5 @@
 -- What happened in a run, without the rooms of its lists.
-use Rattle.std.specs.Prelude.{ℕ, ℤ, List, map}
+use Rattle.std.specs.Prelude.{ℕ, ℤ, List, [], ◌∷◌, map}
 use Rattle.mail_base.specs.declared.kind.Kind.{Kind}
 use Rattle.disk_model.specs.declared.answers.DiskError.{DiskError}
 use Rattle.folder_core.specs.declared.listing.Listed.{Listed}
@@ -31,3 +31,15 @@ plain_event (NotOpened path why marks) = FolderRefused path.items why marks
 -- events by their values
 abbrev pub plain_events : List Event → List Happening
 plain_events events = map plain_event events
+
+-- the event is that of a file of commands
+abbrev pub IsFile : Happening → Type 0
+IsFile (FileRead path text marks) = Unit {0}
+IsFile (FileRefused path why marks) = Unit {0}
+IsFile (KeyPressed key moment) = ⊥
+IsFile (FolderOpened path kind moment came marks) = ⊥
+IsFile (FolderRefused path why marks) = ⊥
+
+abbrev pub AreFiles : List Happening → Type 0
+AreFiles [] = Unit {0}
+AreFiles (event ∷ events) = IsFile event × AreFiles events

@@ -5,3 +5,4 @@ pub mod Telling
 pub mod Opening
 pub mod Starting
 pub mod Steps
+pub mod Beginning

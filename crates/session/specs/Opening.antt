@@ -1,12 +1,17 @@
 -- What the opening of a folder has seen, and what it leaves.
-use Rattle.std.specs.Prelude.{◌≡◌, ℕ, List, [], length, Result, Ok, Err, IfOk, IfErr, OnErr}
+use Rattle.std.specs.Prelude.{◌≡◌, ℕ, ℤ, List, [], length, Option, Some, None, Result, Ok, Err}
+use Rattle.std.specs.Prelude.{IfOk, IfErr, OnErr}
 use Rattle.mail_base.specs.declared.kind.Kind.{Kind}
 use Rattle.disk_model.specs.Journal.{Past}
 use Rattle.disk_model.specs.Judge.{GoesOn}
 use Rattle.disk_model.specs.Looking.{OnlyLooks}
 use Rattle.disk_model.specs.Seen.{Seen}
 use Rattle.folder_core.specs.Letters.{Mail}
-use Rattle.session.specs.Happened.{IsCause, IsFresh, WasOpened, WasRefused}
+use Rattle.session.specs.Events.{Happening, FileRead, FileRefused, KeyPressed, FolderOpened}
+use Rattle.session.specs.Events.{FolderRefused}
+use Rattle.session.specs.Happened.{IsCause, IsFresh, IsListed, WasOpened, WasRefused}
+use Rattle.session.specs.Runs.{Open, answered}
+use Rattle.session.specs.Telling.{Tells}
 use Rattle.session.specs.declared.event.OpenFault.{OpenFault}
 use Rattle.session.specs.declared.open.Opened.{Opened}
 
@@ -28,3 +33,27 @@ pub record ReadsFolder (Has : Kind → Type 0) (empty : Kind) (archive : List Ma
   pub fresh : IfOk result (λ opened. IsFresh archive opened.came.items)
   pub none : OnErr result (archive ≡ [])
   pub only : OnlyLooks old new
+
+-- the event is that of a folder which was to be opened at a moment
+abbrev pub IsOpening : ℤ → Happening → Type 0
+IsOpening moment (FolderOpened path kind at came marks) = at ≡ moment
+IsOpening moment (FolderRefused path why marks) = Unit {0}
+IsOpening moment (FileRead path text marks) = ⊥
+IsOpening moment (FileRefused path why marks) = ⊥
+IsOpening moment (KeyPressed key at) = ⊥
+
+-- why the folder was not opened
+abbrev pub refusal_of : Happening → Option OpenFault
+refusal_of (FolderOpened path kind moment came marks) = None
+refusal_of (FolderRefused path why marks) = Some why
+refusal_of (FileRead path text marks) = None
+refusal_of (FileRefused path why marks) = None
+refusal_of (KeyPressed key moment) = None
+
+-- The folder at a path was looked for, and this is what happened.
+pub record OpensPath (Has : Kind → Type 0) (empty : Kind) (path : List ℕ) (moment : ℤ)
+    (letters : List Mail) (event : Happening) (old new : Seen) : Type 0 where
+  pub tells : Tells Has empty letters event old new
+  pub answers : answered event ≡ Open path
+  pub listed : IsListed letters event
+  pub opening : IsOpening moment event

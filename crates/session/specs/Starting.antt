@@ -1,5 +1,6 @@
 -- The state that a run starts from, by the words of a command line.
 use Rattle.std.specs.Prelude.{ℕ, List, [], ◌∷◌, ◌++◌, Option, Some, None, codes, map, option_map}
+use Rattle.mail_base.specs.Series.{plain_texts}
 use Rattle.mail_base.specs.Shown.{utf8_text}
 use Rattle.mail_base.specs.declared.kind.Kind.{Kind}
 use Rattle.mail_base.specs.declared.kind.Kind.TheVariants.{Mbox, Maildir, Mh, Mmdf}
@@ -32,13 +33,31 @@ abbrev pub kind_frames : Option Kind → List PlainFrame
 kind_frames None = []
 kind_frames (Some kind) = typed_frame (kind_command kind) ∷ []
 
--- the files of commands, in the order in which they are run
-abbrev pub first_frames : Setup → List PlainFrame
-first_frames setup =
-    rc_frame (option_map (λ path. path.items) setup.rc)
-    ∷ (map (λ text. typed_frame text.items) setup.commands.items ++ kind_frames setup.kind)
+-- what a session starts from, of what the words of a command line say
+pub record PlainSetup : Type 0 where
+  pub path : Option (List ℕ)
+  pub rc : Option (List ℕ)
+  pub commands : List (List ℕ)
+  pub kind : Option Kind
+  pub rows : ℕ
+  pub cols : ℕ
 
-abbrev pub first_state : Setup → State
+abbrev pub plain_setup : Setup → PlainSetup
+plain_setup setup = record {
+  path = option_map (λ path. path.items) setup.path;
+  rc = option_map (λ path. path.items) setup.rc;
+  commands = plain_texts setup.commands;
+  kind = setup.kind;
+  rows = setup.rows;
+  cols = setup.cols;
+}
+
+-- the files of commands, in the order in which they are run
+abbrev pub first_frames : PlainSetup → List PlainFrame
+first_frames setup =
+    rc_frame setup.rc ∷ (map typed_frame setup.commands ++ kind_frames setup.kind)
+
+abbrev pub first_state : PlainSetup → State
 first_state setup = record {
   turn = record {
     core = record {
@@ -53,5 +72,5 @@ first_state setup = record {
   frames = first_frames setup;
   notes = [];
   listing = [];
-  named = option_map (λ path. path.items) setup.path;
+  named = setup.path;
 }

@@ -1,5 +1,5 @@
 -- How a session stands in its run.
-use Rattle.std.specs.Prelude.{◌≡◌, ℕ, ℤ, List, [], ◌∷◌, ◌++◌}
+use Rattle.std.specs.Prelude.{◌≡◌, ◌≤◌, ℕ, ℤ, List, [], ◌∷◌, ◌++◌}
 use Rattle.mail_base.specs.declared.kind.Kind.{Kind}
 use Rattle.disk_model.specs.Seen.{Seen}
 use Rattle.folder_core.specs.Letters.{Mail}
@@ -9,10 +9,9 @@ use Rattle.session_state.specs.declared.desk.Stage.TheVariants.{Unopened, Pushin
 use Rattle.session_state.specs.declared.desk.Stage.TheVariants.{Over}
 use Rattle.session.specs.declared.setup.Next.{Next}
 use Rattle.session.specs.declared.setup.Next.TheVariants.{Go, Quit}
-use Rattle.session.specs.Events.{Happening, KeyPressed}
-use Rattle.session.specs.Runs.{IsRunFrom, State, after_events, screens_from, shown}
-use Rattle.session.specs.Runs.{taken}
-use Rattle.session.specs.Telling.{Witnessed}
+use Rattle.session.specs.Events.{AreFiles, Happening, KeyPressed}
+use Rattle.session.specs.Runs.{IsRunFrom, State, after_events, pushed, screens_from, shown, taken}
+use Rattle.session.specs.Telling.{Driverless, Witnessed}
 
 -- The events are a run from the first state; they lead to this state and show these screens.
 pub record Stands (archive : List Mail) (first : State) (events : List Happening) (state : State)
@@ -29,18 +28,23 @@ pub record IsTaken (archive : List Mail) (first : State) (events : List Happenin
   pub idle : before.turn.stage ≡ Idle
   pub taken_is : taken before ≡ state
 
--- the run goes on with a key, unless it is over
-abbrev pub next_of : Stage → Next
-next_of Unopened = Go
-next_of Pushing = Go
-next_of Idle = Go
-next_of Ready = Go
-next_of Over = Quit
+-- A folder was opened, and the keys that commands have put wait in this state.
+pub record Waits (archive : List Mail) (first : State) (events : List Happening)
+    (state : State) : Type 0 where
+  pub run : IsRunFrom first events
+  pub state_is : after_events first events ≡ pushed state
+  pub screens_are : screens_from archive first events ≡ shown archive (pushed state)
+
+-- a key is wanted, or the run is over
+abbrev pub IsNext : Next → Stage → Type 0
+IsNext Go stage = stage ≡ Idle
+IsNext Quit stage = stage ≡ Over
 
 -- What a key does to a run: its event is last, and the run stands so behind it.
 pub record PressesKey (key : Key) (moment : ℤ) (old new : State)
     (events events' : List Happening) : Type 0 where
   pub pressed : events' ≡ events ++ KeyPressed key moment ∷ []
+  pub rows : new.turn.core.desk.rows ≡ old.turn.core.desk.rows
   pub stood : (archive : List Mail) → (first : State) → (screens : List (List (List ℕ)))
       → IsTaken archive first events old screens
       → Stands archive first events' new (screens ++ shown archive new)
@@ -58,14 +62,28 @@ pub record StaysRun (Has : Kind → Type 0) (old : State) (events events' : List
 
 -- Files of commands are read: the events are a run up to this state, no screen was shown, and what
 -- they say of the disk is true.
-pub record Sources (Has : Kind → Type 0) (first : State) (events : List Happening)
-    (state : State) (before now : Seen) : Type 0 where
+pub record Sources (first : State) (events : List Happening) (state : State)
+    (before now : Seen) : Type 0 where
+  pub are : AreFiles events
   pub stands : (archive : List Mail) → Stands archive first events state []
-  pub told : (archive : List Mail) → Witnessed Has archive first events before now
+  pub rows : state.turn.core.desk.rows ≡ first.turn.core.desk.rows
+  pub told : (archive : List Mail) → Witnessed Driverless archive first events before now
+  pub faults : before.faults ≤ now.faults
 
 -- the same where a call was broken off
-pub record SourcesOff (Has : Kind → Type 0) (first : State) (events : List Happening)
-    (before now : Seen) : Type 0 where
+pub record SourcesOff (first : State) (events : List Happening) (before now : Seen) : Type 0 where
+  pub are : AreFiles events
   pub run : IsRunFrom first events
   pub screens_are : (archive : List Mail) → screens_from archive first events ≡ []
-  pub told : (archive : List Mail) → Witnessed Has archive first events before now
+  pub told : (archive : List Mail) → Witnessed Driverless archive first events before now
+  pub faults : before.faults ≤ now.faults
+
+-- For the code alone.
+
+-- the run goes on, unless it is over
+abbrev pub next_of : Stage → Next
+next_of Unopened = Go
+next_of Pushing = Go
+next_of Idle = Go
+next_of Ready = Go
+next_of Over = Quit

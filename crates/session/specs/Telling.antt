@@ -29,6 +29,7 @@ pub record Tells (Has : Kind → Type 0) (empty : Kind) (archive : List Mail) (e
   pub before : counts_of old ≡ record { mark = marks.mark_before; faults = marks.faults_before }
   pub after : counts_of new ≡ record { mark = marks.mark_after; faults = marks.faults_after }
   pub on : old.marks ≤ new.marks
+  pub faults : old.faults ≤ new.faults
   pub cause : HasCause Has event marks
   pub happened : GoesOn (Happened Has empty archive event) old.told new.told
   pub looks : LooksOnly old.told new.told
@@ -51,6 +52,10 @@ pub record Witnessed (Has : Kind → Type 0) (archive : List Mail) (s : State)
   pub at : counts_at (counts_of first) events ≡ counts_of now
 
 -- Files of commands.
+
+-- no driver is known, of which files of commands need none
+abbrev pub Driverless : Kind → Type 0
+Driverless kind = ⊥
 
 -- what the event of a file says of the pasts at its two marks
 abbrev pub FileHappened : Happening → Past → Past → Type 0
@@ -76,6 +81,7 @@ pub record TellsFile (event : Happening) (old new : Seen) : Type 0 where
   pub before : counts_of old ≡ record { mark = marks.mark_before; faults = marks.faults_before }
   pub after : counts_of new ≡ record { mark = marks.mark_after; faults = marks.faults_after }
   pub on : old.marks ≤ new.marks
+  pub faults : old.faults ≤ new.faults
   pub cause : HasFileCause event marks
   pub happened : GoesOn (FileHappened event) old.told new.told
   pub looks : LooksOnly old.told new.told

@@ -1,8 +1,9 @@
 //! A session: files of commands are read, a folder is opened, and keys act, each with its event.
-//! What starts a session is to come; behind it `pushed` is called, and for each key `check` and
-//! `key`; `screen` gives the screen.
+//! `Session::start` comes first, then `pushed`, and for each key `check` and `key`; `screen` gives
+//! the screen. `Session::answers` reads the files alone.
 #![tactic(auto)]
 
+mod beginning;
 mod event;
 mod open;
 mod pressing;
@@ -13,4 +14,4 @@ mod start;
 
 pub use event::{Event, Events, Marks, OpenFault, Trace};
 pub use session_type::Session;
-pub use setup::{Next, Setup};
+pub use setup::{Next, Setup, StartError};

@@ -4,7 +4,7 @@ ghost use Rattle.std.specs.Prelude.{◌≡◌, [], Any, map};
 ghost use Rattle.folder_core.specs.Letters.{plain_letter};
 ghost use Rattle.session.specs.Events.{plain_event};
 ghost use Rattle.session.specs.Happened.{IsListed};
-ghost use Rattle.session.specs.Opening.{ReadsFolder};
+ghost use Rattle.session.specs.Opening.{IsOpening, ReadsFolder};
 ghost use Rattle.session.specs.Runs.{Open, answered};
 ghost use Rattle.session.specs.Telling.{Tells};
 
@@ -41,6 +41,7 @@ pub fn open_event(
         (seen (dev.new.disk.vtable, dev.new.disk.value)) }
     ensures answers { answered (plain_event result) ≡ Open name.items }
     ensures listed { IsListed (map plain_letter archive.new.items) (plain_event result) }
+    ensures opening { IsOpening moment (plain_event result) }
 {
     let mark_before = dev.mark();
     let faults_before = dev.faults();

@@ -13,12 +13,14 @@ use session_state::{Stage, screen_lines};
 use std::alloc::Global;
 
 impl Session {
-    ghost use Rattle.std.specs.Prelude.{◌≡◌, ◌≤◌, ℕ, Any, List, IfOk, OnOk, map};
+    ghost use Rattle.std.specs.Prelude.{◌≡◌, ◌<◌, ◌≤◌, ◌++◌, ◌∷◌, [], ℕ, Any, List};
+    ghost use Rattle.std.specs.Prelude.{IfOk, OnOk, map};
     ghost use Rattle.folder_core.specs.Letters.{Mail, plain_letter};
     ghost use Rattle.mail_base.specs.Series.{plain_texts};
-    ghost use Rattle.session.specs.Events.{plain_events};
-    ghost use Rattle.session.specs.Runs.{State, plain_session, pushed as pushed_on};
-    ghost use Rattle.session.specs.Steps.{IsTaken, next_of, PressesKey, Stands, StaysRun};
+    ghost use Rattle.session.specs.Events.{KeyPressed, plain_events};
+    ghost use Rattle.session.specs.Runs.{State, plain_session, pushed as pushed_on, shown};
+    ghost use Rattle.session.specs.Steps.{IsNext, IsTaken, PressesKey, Stands, StaysRun, Waits};
+    ghost use Rattle.session.specs.Steps.{next_of};
     ghost use Rattle.session_state.specs.Screen.{screen as screen_of};
     ghost use Rattle.session_state.specs.declared.desk.Stage.TheVariants.{Idle, Ready};
 
@@ -26,7 +28,14 @@ impl Session {
     pub fn pushed(&mut self, trace: &Trace) -> Result<Next, NoMemory>
         ensures pushed { OnOk result (plain_session self.new trace.now.notes
             ≡ pushed_on (plain_session self.old trace.now.notes)) }
-        ensures next { IfOk result (λ next. next ≡ next_of self.new.stage) }
+        ensures next { IfOk result (λ next. IsNext next self.new.stage) }
+        ensures rows { OnOk result (self.new.core.desk.rows ≡ self.old.core.desk.rows) }
+        ensures stood { OnOk result ((archive : List Mail) → (first : State)
+            → Waits archive first (plain_events trace.now.events.items)
+            (plain_session self.old trace.now.notes)
+            → Stands archive first (plain_events trace.now.events.items)
+            (plain_session self.new trace.now.notes)
+            (shown archive (plain_session self.new trace.now.notes))) }
     {
         self.push_keys()?;
         Ok(self.next())
@@ -36,6 +45,7 @@ impl Session {
     pub fn check(&mut self, trace: &Trace)
         requires { self.old.stage ≡ Idle }
         ensures ready { self.new.stage ≡ Ready }
+        ensures rows { self.new.core.desk.rows ≡ self.old.core.desk.rows }
         ensures stood { (archive : List Mail) → (first : State) → (screens : List (List (List ℕ)))
             → Stands archive first (plain_events trace.now.events.items)
             (plain_session self.old trace.now.notes) screens
@@ -60,11 +70,16 @@ impl Session {
         ensures stays { StaysRun (λ kind. Any (λ d. sort (d.vtable, d.value) ≡ kind)
             drivers.now.list.items) (plain_session self.old trace.old.notes)
             (plain_events trace.old.events.items) (plain_events trace.new.events.items) }
-        ensures next { IfOk result (λ next. next ≡ next_of self.new.stage) }
+        ensures next { IfOk result (λ next. IsNext next self.new.stage) }
         ensures archive { trace.new.archive ≡ trace.old.archive }
+        // Where there is room for its event, a key is told even where memory runs out.
+        ensures always { 0 < trace.old.events.room → plain_events trace.new.events.items
+            ≡ plain_events trace.old.events.items ++ KeyPressed key moment ∷ [] }
     {
-        trace.events.reserve(1)?;
-        self.happen(pressed_event(key, moment), trace)?;
+        let event = pressed_event(key, moment);
+        let taken = self.take(&mut trace.notes, &event);
+        trace.events.push(event)?;
+        taken?;
         Ok(self.next())
     }
 

@@ -1,6 +1,7 @@
 //! What a session starts from.
 
-use mail_base::{Bytes, Kind, Words};
+use crate::event::OpenFault;
+use mail_base::{Bytes, Kind, NoMemory, Words};
 
 /// What the words of a command line say.
 #[derive(Drop)]
@@ -21,4 +22,25 @@ pub struct Setup {
 pub enum Next {
     Go,
     Quit,
+}
+
+/// Why a session did not start.
+#[derive(Clone, Copy, Debug, PartialEq, Eq)]
+pub enum StartError {
+    /// The folder was not opened, for a cause that can be told.
+    NotOpened(OpenFault),
+    /// The disk failed in the opening.
+    DiskFault,
+    NoMemory,
+}
+
+impl From<NoMemory> for StartError {
+    ghost use Rattle.std.specs.Prelude.{◌≡◌};
+    ghost use Rattle.session.specs.declared.setup.StartError.TheVariants.{NoMemory};
+
+    ghost from_gives = { λ _ e. e ≡ NoMemory };
+
+    fn from(_: NoMemory) -> Self {
+        StartError::NoMemory
+    }
 }

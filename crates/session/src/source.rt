@@ -5,7 +5,7 @@ ghost use Rattle.session.specs.Events.{plain_event};
 ghost use Rattle.session.specs.Runs.{Source, answered};
 ghost use Rattle.session.specs.Telling.{TellsFile};
 
-use crate::event::{Event, Marks};
+use crate::event::{Event, Marks, Trace};
 use crate::session_type::Session;
 use disk_model::Device;
 use mail_base::{Bytes, NoMemory};
@@ -46,11 +46,15 @@ pub fn source_event(alloc: Global, dev: &mut Device, path: &str, name: Bytes) ->
 }
 
 impl Session {
-    ghost use Rattle.std.specs.Prelude.{◌≡◌, [], IfOk, IfSome, MatchOption};
-    ghost use Rattle.session.specs.Runs.{State, answered, first_wish};
-    ghost use Rattle.session.specs.Events.{plain_event};
+    ghost use Rattle.std.specs.Prelude.{◌≡◌, [], false};
+    ghost use Rattle.std.specs.Prelude.{IfOk, IfSome, MatchOption, OnOk};
+    ghost use Rattle.disk_model.specs.Seen.{Seen};
+    ghost use Rattle.session.specs.Runs.{State, answered, first_wish, plain_session};
+    ghost use Rattle.session.specs.Events.{plain_event, plain_events};
+    ghost use Rattle.session.specs.Steps.{Sources, SourcesOff};
     ghost use Rattle.session.specs.Telling.{OnNoFile, TellsFile};
     ghost use Rattle.session_state.specs.Frames.{plain_frames};
+    ghost use Rattle.session_state.specs.declared.desk.Stage.TheVariants.{Unopened};
 
     /// Reads the file of commands that is wished, if there is one, and tells what happened.
     pub fn source(&self, dev: &mut Device) -> Result<Option<Event>, NoMemory>
@@ -68,5 +72,64 @@ impl Session {
         };
         let name = Bytes::copy_of(self.alloc, file.as_slice())?;
         Ok(Some(source_event(self.alloc, dev, text_of(file), name)))
+    }
+
+    /// Reads all files of commands, each with those that it names.
+    pub fn source_all(&mut self, dev: &mut Device, trace: &mut Trace) -> Result<(), NoMemory>
+        requires { self.old.stage ≡ Unopened }
+        ensures sources { OnOk result ((first : State) → (before : Seen)
+            → Sources first (plain_events trace.old.events.items)
+            (plain_session self.old trace.old.notes) before
+            (seen (dev.old.disk.vtable, dev.old.disk.value))
+            → Sources first (plain_events trace.new.events.items)
+            (plain_session self.new trace.new.notes) before
+            (seen (dev.new.disk.vtable, dev.new.disk.value))) }
+        ensures off { (first : State) → (before : Seen)
+            → Sources first (plain_events trace.old.events.items)
+            (plain_session self.old trace.old.notes) before
+            (seen (dev.old.disk.vtable, dev.old.disk.value))
+            → SourcesOff first (plain_events trace.new.events.items) before
+            (seen (dev.new.disk.vtable, dev.new.disk.value)) }
+        ensures unopened { OnOk result (self.new.stage ≡ Unopened) }
+        ensures read { OnOk result (plain_frames self.new.frames ≡ []) }
+        ensures archive { trace.new.archive ≡ trace.old.archive }
+    {
+        // There is an event for each file, and a trace has room for fewer.
+        for _turn in 0..u64::MAX {
+            if !self.source_next(dev, trace)? {
+                return Ok(());
+            }
+        }
+        Err(NoMemory)
+    }
+
+    // Reads the file of commands that is wished and takes it in, if there is one.
+    fn source_next(&mut self, dev: &mut Device, trace: &mut Trace) -> Result<bool, NoMemory>
+        requires { self.old.stage ≡ Unopened }
+        ensures sources { OnOk result ((first : State) → (before : Seen)
+            → Sources first (plain_events trace.old.events.items)
+            (plain_session self.old trace.old.notes) before
+            (seen (dev.old.disk.vtable, dev.old.disk.value))
+            → Sources first (plain_events trace.new.events.items)
+            (plain_session self.new trace.new.notes) before
+            (seen (dev.new.disk.vtable, dev.new.disk.value))) }
+        ensures off { (first : State) → (before : Seen)
+            → Sources first (plain_events trace.old.events.items)
+            (plain_session self.old trace.old.notes) before
+            (seen (dev.old.disk.vtable, dev.old.disk.value))
+            → SourcesOff first (plain_events trace.new.events.items) before
+            (seen (dev.new.disk.vtable, dev.new.disk.value)) }
+        ensures unopened { OnOk result (self.new.stage ≡ Unopened) }
+        ensures read { IfOk result (λ more. more ≡ false → plain_frames self.new.frames ≡ []) }
+        ensures archive { trace.new.archive ≡ trace.old.archive }
+    {
+        trace.events.reserve(1)?;
+        match self.source(dev)? {
+            None => Ok(false),
+            Some(event) => {
+                self.happen(event, trace)?;
+                Ok(true)
+            }
+        }
     }
 }

@@ -16,12 +16,12 @@ impl Session {
     ghost use Rattle.std.specs.Prelude.{◌≡◌, ℕ, [], IfOk};
     ghost use Rattle.mail_base.specs.Series.{Held};
     ghost use Rattle.session.specs.Runs.{plain_session};
-    ghost use Rattle.session.specs.Starting.{first_state};
+    ghost use Rattle.session.specs.Starting.{first_state, plain_setup};
 
     /// What a session stands on before anything happened.
     pub fn first(alloc: Global, setup: Setup) -> Result<Session, NoMemory>
         ensures { IfOk result (λ session. (notes : Held (Held ℕ)) → notes.items ≡ []
-            → plain_session session notes ≡ first_state setup) }
+            → plain_session session notes ≡ first_state (plain_setup setup)) }
     {
         let frames = first_frames(alloc, &setup)?;
         Ok(Session {
@@ -46,7 +46,8 @@ impl Session {
 }
 
 fn first_frames(alloc: Global, setup: &Setup) -> Result<Vec<Frame>, NoMemory>
-    ensures { IfOk result (λ frames. plain_frames frames ≡ spec.first_frames setup.now) }
+    ensures { IfOk result (λ frames. plain_frames frames
+        ≡ spec.first_frames (spec.plain_setup setup.now)) }
 {
     let mut frames = Vec::new(alloc);
     frames.push(rc_frame(alloc, &setup.rc)?)?;
@@ -85,7 +86,7 @@ fn typed_frame(alloc: Global, text: &[u8]) -> Result<Frame, NoMemory>
 // Adds the commands of the command line.
 fn add_typed(alloc: Global, frames: &mut Vec<Frame>, texts: &[Bytes]) -> Result<(), NoMemory>
     ensures { OnOk result (plain_frames frames.new
-        ≡ plain_frames frames.old ++ map (λ text. spec.typed_frame text.items) texts.now) }
+        ≡ plain_frames frames.old ++ map spec.typed_frame (map (λ text. text.items) texts.now)) }
 {
     let mut left = texts;
     while let Some((text, rest)) = left.split_first() {

@@ -1,9 +1,10 @@
 -- What muttrc has set, and what commands make of it.
-use Rattle.std.specs.Prelude.{List, []}
+use Rattle.std.specs.Prelude.{ℕ, List, [], Option, Some, None}
 use Rattle.keymap.specs.Keymap.{PlainKeymap, default_keymap}
 use Rattle.keymap.specs.declared.key.Key.{Key}
-use Rattle.rc_lang.specs.Settings.{defaults}
-use Rattle.rc_lang.specs.Values.{PlainValue}
+use Rattle.rc_lang.specs.Settings.{defaults, value_at}
+use Rattle.rc_lang.specs.Values.{PlainValue, shown_line}
+use Rattle.rc_lang.specs.Variables.{place_of}
 
 -- the values of the variables, the bindings, and the keys that commands have put
 pub record PlainRules : Type 0 where
@@ -14,3 +15,11 @@ pub record PlainRules : Type 0 where
 -- before a muttrc is read
 unfoldable pub first_rules : PlainRules
 first_rules = record { settings = defaults; keymap = default_keymap; put = [] }
+
+abbrev pub line_of : List ℕ → Option PlainValue → List ℕ
+line_of name None = []
+line_of name (Some value) = shown_line name value
+
+-- the line that a query of the variable with the name prints
+abbrev pub answer_line : List PlainValue → List ℕ → List ℕ
+answer_line values name = line_of name (value_at values (place_of name))

@@ -1,7 +1,7 @@
 //! What muttrc has set.
 
 use keymap::{KeyQueue, Keymap, Keys, Menu, Press};
-use mail_base::NoMemory;
+use mail_base::{Line, NoMemory};
 use rc_lang::Settings;
 use std::alloc::Global;
 use std::marker::Model;
@@ -30,7 +30,7 @@ impl Model for Rules {
 impl Rules {
     ghost use Rattle.std.specs.Prelude.{◌≡◌, [], IfOk};
     ghost use Rattle.session_state.specs.Commands.{IsPressed};
-    ghost use Rattle.session_state.specs.Rules.{first_rules};
+    ghost use Rattle.session_state.specs.Rules.{answer_line, first_rules};
 
     /// What stands before a muttrc is read.
     #[tactic(auto, unfolding(crate::specs::Rules::first_rules))]
@@ -61,5 +61,15 @@ impl Rules {
         ensures { IfOk result (λ press. IsPressed press self.old self.new queue.old queue.new) }
     {
         self.keymap.press(Menu::Index, queue)
+    }
+
+    /// The line that a query of a variable prints. The name is that of a variable.
+    pub fn answer(&self, alloc: Global, name: &[u8]) -> Result<Line, NoMemory>
+        ensures { IfOk result (λ line. line.items ≡ answer_line self.now.settings name.now) }
+    {
+        match self.settings.query(alloc, name) {
+            Ok(value) => value.line(alloc, name),
+            Err(_) => Err(NoMemory),
+        }
     }
 }

@@ -14,6 +14,7 @@ returns-in-Ok-clause-tells g c = record {
   before = search rules;
   after = search rules;
   on = search rules;
+  faults = search rules;
   cause = tt;
   happened = rw c.requires (read_told c.in-Ok.file.stat _ _ _ _ c.in-Ok.ensures.step.called.goes);
   looks = search rules;
@@ -33,6 +34,7 @@ returns-in-Err-clause-tells g c = record {
   before = search rules;
   after = search rules;
   on = search rules;
+  faults = search rules;
   cause = read_cause c.in-Err.why _ _ _ c.faults-faults_before.ensures c.faults.ensures
       (λ is. c.in-Err.ensures.step.counts.cause (ap Err is));
   happened = rw c.requires c.in-Err.ensures.step.called.goes;

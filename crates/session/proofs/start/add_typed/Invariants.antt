@@ -5,8 +5,8 @@ use Rattle.session.proofs.start.add_typed.Given as goal
 
 abbrev pub invariant-loop-text : goal.invariant-loop-text
 invariant-loop-text l =
-    plain_frames l.frames ++ map (λ text. typed_frame text.items) l.left
-    ≡ plain_frames l.initial.frames ++ map (λ text. typed_frame text.items) l.texts
+    plain_frames l.frames ++ map typed_frame (map (λ text. text.items) l.left)
+    ≡ plain_frames l.initial.frames ++ map typed_frame (map (λ text. text.items) l.texts)
 
 abbrev pub decreases-loop-text : goal.decreases-loop-text
 decreases-loop-text l = length l.left

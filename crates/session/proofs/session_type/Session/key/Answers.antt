@@ -1,29 +1,40 @@
-use Rattle.std.proofs.Common.{ℤ, ap, ◌∙◌}
+use Rattle.std.proofs.Common.{ℤ, ap, refl, subst, sym, ◌∙◌}
 use Rattle.std.proofs.Math.Facts.{to_z-of_z}
-use Rattle.session.specs.Events.{Happening, KeyPressed, plain_events}
+use Rattle.session.specs.Events.{Happening, KeyPressed}
 use Rattle.session.specs.Runs.{arrived, plain_session}
-use Rattle.session.proofs.StepsLemmas.{key_presses, key_stays}
+use Rattle.session.specs.Steps.{IsNext}
+use Rattle.session.specs.declared.setup.Next.{Next}
+use Rattle.session.proofs.StepsLemmas.{key_next, key_presses, key_stays, put_plain}
 use Rattle.session.proofs.session_type.Session.key.Goals as goal
 
-pub returns-in_err-happen-clause-stays : goal.returns-in_err-happen-clause-stays
-returns-in_err-happen-clause-stays g c =
+pub returns-in_err-taken-clause-stays : goal.returns-in_err-taken-clause-stays
+returns-in_err-taken-clause-stays g c =
+    let is = c.pressed_event-event.ensures
+    ∙ ap (λ (m : ℤ). KeyPressed c.args.key m) (to_z-of_z c.ranges.moment) in
     key_stays c.args.key c.args.moment (plain_session c.args.self.now c.args.trace.now.notes) _ _ _
-    (ap plain_events c.in_ok-reserve.ensures.items)
-    (rw (c.pressed_event.ensures, to_z-of_z c.ranges.moment) at c.happen.ensures.events) _
+    refl (put_plain _ _ _ _ c.in_ok-push.ensures.ok is) _
 
 pub returns-clause-pressed : goal.returns-clause-pressed
 returns-clause-pressed g c =
-    let is = c.pressed_event.ensures
+    let is = c.pressed_event-event.ensures
     ∙ ap (λ (m : ℤ). KeyPressed c.args.key m) (to_z-of_z c.ranges.moment) in
     key_presses c.args.key c.args.moment (plain_session c.args.self.now c.args.trace.now.notes) _ _
-    _ (ap plain_events c.in_ok-reserve.ensures.items)
-    (rw (c.pressed_event.ensures, to_z-of_z c.ranges.moment) at c.happen.ensures.events)
-    (plain_session c.happen.new.self c.happen.new.trace.notes) c.requires
-    (c.in_ok-happen.ensures.arrived
+    _ refl (put_plain _ _ _ _ c.in_ok-push.ensures.ok is)
+    (plain_session c.take-taken.new.self c.take-taken.new.notes) c.requires
+    (c.in_ok-taken.ensures
     ∙ ap (λ (e : Happening). arrived (plain_session c.args.self.now c.args.trace.now.notes) e) is)
 
 pub returns-clause-stays : goal.returns-clause-stays
 returns-clause-stays g c =
+    let is = c.pressed_event-event.ensures
+    ∙ ap (λ (m : ℤ). KeyPressed c.args.key m) (to_z-of_z c.ranges.moment) in
     key_stays c.args.key c.args.moment (plain_session c.args.self.now c.args.trace.now.notes) _ _ _
-    (ap plain_events c.in_ok-reserve.ensures.items)
-    (rw (c.pressed_event.ensures, to_z-of_z c.ranges.moment) at c.happen.ensures.events) _
+    refl (put_plain _ _ _ _ c.in_ok-push.ensures.ok is) _
+
+pub returns-clause-next : goal.returns-clause-next
+returns-clause-next g c =
+    let is = c.pressed_event-event.ensures
+    ∙ ap (λ (m : ℤ). KeyPressed c.args.key m) (to_z-of_z c.ranges.moment) in
+    subst (λ (n : Next). IsNext n c.take-taken.new.self.stage) (sym c.next.ensures)
+    (key_next c.args.key c.args.moment (plain_session c.args.self.now c.args.trace.now.notes)
+    (plain_session c.take-taken.new.self c.take-taken.new.notes) _ is c.in_ok-taken.ensures)

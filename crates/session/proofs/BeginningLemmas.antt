@@ -1,0 +1,289 @@
+-- How a run goes on behind its files of commands.
+use Rattle.std.proofs.Common.{◌≡◌, ◌≤◌, ◌++◌, ℕ, ℤ, List, [], ◌∷◌, Option, Some, None, inl, inr}
+use Rattle.std.proofs.Common.{Result, Ok, Err, refl, sym, ◌∙◌, ap, subst, arith}
+use Rattle.std.specs.Prelude.{IfErr, IfOk, IsErrAnd, OnOk, map}
+use Rattle.std.proofs.lemmas.List.{append-nil}
+use Rattle.std.proofs.lemmas.Option.{none-some}
+use Rattle.mail_base.specs.Faults.{Rose}
+use Rattle.mail_base.specs.Series.{Held, plain_texts}
+use Rattle.mail_base.specs.declared.kind.Kind.{Kind}
+use Rattle.mail_base.specs.declared.series.NoMemory.{NoMemory}
+use Rattle.disk_model.specs.Seen.{Seen}
+use Rattle.folder_core.specs.Letters.{Mail}
+use Rattle.folder_core.specs.declared.error.ScanError.TheVariants as scan
+use Rattle.session_state.specs.declared.desk.Stage.{Stage}
+use Rattle.session_state.specs.declared.desk.Stage.TheVariants.{Unopened}
+use Rattle.session_state.specs.Frames.{PlainFrame}
+use Rattle.session_state.specs.Places.{folder_path}
+use Rattle.session_state.specs.Rules.{answer_line}
+use Rattle.session.specs.declared.event.Marks.{Marks}
+use Rattle.session.specs.declared.event.OpenFault.{OpenFault}
+use Rattle.session.specs.declared.event.OpenFault.TheVariants.{Taken, NoDriver, Folder}
+use Rattle.session.specs.declared.setup.StartError.{StartError}
+use Rattle.session.specs.declared.setup.StartError.TheVariants as error
+use Rattle.session.specs.Beginning.{AnswersNames, BeginsRun, EndsStart, Fails, IsNoted, IsRefused}
+use Rattle.session.specs.Beginning.{Starts, start_error}
+use Rattle.session.specs.Events.{Happening, FileRead, FileRefused, KeyPressed, FolderOpened}
+use Rattle.session.specs.Events.{FolderRefused}
+use Rattle.session.specs.Happened.{Counts, HasCause, kind_in}
+use Rattle.session.specs.Opening.{IsOpening, OpensPath, refusal_of}
+use Rattle.session.specs.Runs.{Answers, State, after, after_events, arrived, first_wish}
+use Rattle.session.specs.Runs.{moment_of, pushed, shown, wish_at}
+use Rattle.session.specs.Steps.{Sources, SourcesOff, Stands, Waits}
+use Rattle.session.specs.Telling.{Driverless, Witnessed}
+use Rattle.session.proofs.SettlingLemmas.{opened_rows}
+use Rattle.session.proofs.StepsLemmas.{stands_push}
+use Rattle.session.proofs.TellingLemmas.{witnessed_files, witnessed_push}
+
+-- the keys that commands have put acted
+pub waits_then : (archive : List Mail) (first s t : State) (events : List Happening)
+    → t ≡ pushed s → Waits archive first events s → Stands archive first events t (shown archive t)
+waits_then archive first s t events is waits =
+    subst (λ (u : State). Stands archive first events u (shown archive u)) (sym is) (record {
+      run = waits.run;
+      state_is = waits.state_is;
+      screens_are = waits.screens_are;
+    })
+
+rose_wider : (a b c d : ℕ) → a ≤ b → c ≡ d → Rose b c → Rose a d
+rose_wider a b c d low same rose =
+    elim rose [
+      | inl h ↦ inl (omega (arith, low, same, h))
+      | inr h ↦ inr (omega (arith, same, h))
+    ]
+
+noted_by : (why : StartError) (told notes : List (List ℕ)) → told ≡ notes → IsNoted why told notes
+noted_by (error.NotOpened why) told notes h = h
+noted_by error.DiskFault told notes h = h
+noted_by error.NoMemory told notes h = tt
+
+abbrev cause_in : OpenFault → Option OpenFault → OpenFault
+cause_in other None = other
+cause_in other (Some why) = why
+
+-- what is told of an error
+pub if_error : {T : Type 0} (result : Result T StartError) (why : StartError)
+    (Is : StartError → Type 0) → IsErrAnd result (λ e. e ≡ why) → Is why → IfErr result Is
+if_error (Ok value) why Is same is = tt
+if_error (Err e) why Is same is = subst Is (sym same) is
+
+-- memory ran out
+pub no_memory : {T : Type 0} (result : Result T StartError) (Is : StartError → Type 0)
+    → IsErrAnd result (λ why. why ≡ error.NoMemory) → Is error.NoMemory → IfErr result Is
+no_memory result Is same is = if_error result error.NoMemory Is same is
+
+-- What a result says of each past before it, it says of what that past came from.
+pub ok_from : {A E : Type 0} (From Was Is : State → Seen → Type 0) (result : Result A E)
+    → ((first : State) → (before : Seen) → From first before → Was first before)
+    → OnOk result ((first : State) → (before : Seen) → Was first before → Is first before)
+    → OnOk result ((first : State) → (before : Seen) → From first before → Is first before)
+ok_from From Was Is (Ok value) goes was = λ first before is. was first before (goes first before is)
+ok_from From Was Is (Err e) goes was = tt
+
+pub err_from : {A E : Type 0} (From Was : State → Seen → Type 0) (Is : E → State → Seen → Type 0)
+    (result : Result A E)
+    → ((first : State) → (before : Seen) → From first before → Was first before)
+    → IfErr result (λ e. (first : State) → (before : Seen) → Was first before → Is e first before)
+    → IfErr result (λ e. (first : State) → (before : Seen) → From first before → Is e first before)
+err_from From Was Is (Ok value) goes was = tt
+err_from From Was Is (Err e) goes was =
+    λ first before is. was first before (goes first before is)
+
+pub ok_at : {A E : Type 0} (From : State → Seen → Type 0) (Is : A → State → Seen → Type 0)
+    (result : Result A E)
+    → IfOk result (λ a. (first : State) → (before : Seen) → From first before → Is a first before)
+    → (first : State) (before : Seen) → From first before
+    → IfOk result (λ a. Is a first before)
+ok_at From Is (Ok value) was first before is = was first before is
+ok_at From Is (Err e) was first before is = tt
+
+-- the files were read to their ends, and names are asked for
+answers_names : (first s : State) (events : List Happening) (names lines : List (List ℕ))
+    (before now : Seen) → Sources first events s before now → s.frames ≡ []
+    → lines ≡ map (answer_line s.turn.core.rules.settings) names
+    → AnswersNames first events names lines s.notes
+answers_names first s events names lines before now sources read are =
+    let at : after_events first events ≡ s = (sources.stands []).state_is in record {
+      read = ap (λ (u : State). u.frames) at ∙ read;
+      noted = ap (λ (u : State). u.notes) at;
+      lines_are = are ∙ sym (ap (λ (u : State).
+          map (answer_line u.turn.core.rules.settings) names) at);
+    }
+
+pub answers_from : (From : State → Seen → Type 0) (s : State) (events : List Happening)
+    (names : List (List ℕ)) (now : Seen) (result : Result (Held (Held ℕ)) NoMemory)
+    → ((first : State) → (before : Seen) → From first before → Sources first events s before now)
+    → s.frames ≡ []
+    → IfOk result (λ lines. plain_texts lines
+    ≡ map (answer_line s.turn.core.rules.settings) names)
+    → IfOk result (λ lines. (first : State) → (before : Seen) → From first before
+    → AnswersNames first events names (plain_texts lines) s.notes)
+answers_from From s events names now (Ok lines) goes read are =
+    λ first before is.
+    answers_names first s events names (plain_texts lines) before now (goes first before is) read
+    are
+answers_from From s events names now (Err e) goes read are = tt
+
+-- no folder was looked for
+pub fails_early : (Has : Kind → Type 0) (letters : List Mail) (first : State) (moment : ℤ)
+    (notes : List (List ℕ)) (events : List Happening) (before now : Seen) → letters ≡ []
+    → SourcesOff first events before now
+    → Fails Has letters first moment error.NoMemory notes events before now
+fails_early Has letters first moment notes events before now none off = record {
+  opening = [];
+  begins = record {
+    files = events;
+    are_files = off.are;
+    opens = none;
+    events_are = sym (append-nil events);
+    run = off.run;
+    told = witnessed_files Driverless Has letters first events before now off.are
+        (off.told letters);
+  };
+  ends = tt;
+  noted = tt;
+}
+
+-- A folder was looked for.
+module _ (Has : Kind → Type 0) (letters : List Mail) (first s : State) (moment : ℤ)
+    (events mid events' : List Happening) (event : Happening) (before now next : Seen)
+    (same : mid ≡ events) (puts : events' ≡ mid ++ event ∷ []) (stage : s.turn.stage ≡ Unopened)
+    (read : s.frames ≡ [])
+    (opens : OpensPath Has (kind_in s) (folder_path s.turn.core.rules.settings s.named) moment
+    letters event now next)
+    (sources : Sources first events s before now) where
+  put : events' ≡ events ++ event ∷ []
+  put = puts ∙ ap (λ (l : List Happening). l ++ event ∷ []) same
+
+  look_answers : Answers s event
+  look_answers =
+      ap (λ (x : Stage). wish_at x s (moment_of event)) stage
+      ∙ ap (λ (frames : List PlainFrame). first_wish frames s) read
+      ∙ sym opens.answers
+
+  look_stands : (archive : List Mail)
+      → Stands archive first events' (after s event) (shown archive (after s event))
+  look_stands archive =
+      subst (λ (l : List Happening). Stands archive first l (after s event)
+      (shown archive (after s event))) (sym put)
+      (stands_push archive first s events event [] (sources.stands archive) look_answers)
+
+  look_told : Witnessed Has letters first events' before next
+  look_told =
+      subst (λ (l : List Happening). Witnessed Has letters first l before next) (sym put)
+      (witnessed_push Has letters first s events event before now next
+      (sources.stands letters).state_is opens.tells
+      (witnessed_files Driverless Has letters first events before now sources.are
+      (sources.told letters)))
+
+  look_begins : BeginsRun Has letters first moment (event ∷ []) events' before next
+  look_begins = record {
+    files = events;
+    are_files = sources.are;
+    opens = (opens.opening, opens.listed);
+    events_are = put;
+    run = (look_stands []).run;
+    told = look_told;
+  }
+
+  -- memory ran out behind the look
+  pub fails_late : (notes : List (List ℕ))
+      → Fails Has letters first moment error.NoMemory notes events' before next
+  fails_late notes = record {
+    opening = event ∷ [];
+    begins = look_begins;
+    ends = tt;
+    noted = tt;
+  }
+
+  starts_by : (t : State) (e : Happening) → e ≡ event → IsOpening moment e → refusal_of e ≡ None
+      → t ≡ arrived s e → Starts Has letters first moment events' t before next
+  starts_by t (FolderOpened path kind late came marks) is at none arrives = record {
+    path = path;
+    kind = kind;
+    came = came;
+    marks = marks;
+    begins =
+        subst (λ (e : Happening). BeginsRun Has letters first moment (e ∷ []) events' before next)
+        (sym is ∙ ap (λ (m : ℤ). FolderOpened path kind m came marks) at) look_begins;
+    stage = ap (λ (u : State). u.turn.stage) arrives;
+    rows = ap (λ (u : State). u.turn.core.desk.rows) arrives ∙ opened_rows came s.turn.core
+        ∙ sources.rows;
+    waits = λ archive. record {
+      run = (look_stands archive).run;
+      state_is = (look_stands archive).state_is ∙ ap (after s) (sym is) ∙ ap pushed (sym arrives);
+      screens_are = (look_stands archive).screens_are
+          ∙ ap (λ (e : Happening). shown archive (after s e)) (sym is)
+          ∙ ap (λ (u : State). shown archive (pushed u)) (sym arrives);
+    };
+  }
+  starts_by t (FolderRefused path why marks) is at none arrives = absurd (none-some why (sym none))
+  starts_by t (FileRead path text marks) is at none arrives = absurd at
+  starts_by t (FileRefused path why marks) is at none arrives = absurd at
+  starts_by t (KeyPressed key late) is at none arrives = absurd at
+
+  -- the folder was opened
+  pub starts : (t : State) → refusal_of event ≡ None → t ≡ arrived s event
+      → Starts Has letters first moment events' t before next
+  starts t none arrives = starts_by t event refl opens.opening none arrives
+
+  rose : Rose opens.tells.marks.faults_before opens.tells.marks.faults_after
+      → Rose before.faults next.faults
+  rose h =
+      rose_wider before.faults opens.tells.marks.faults_before opens.tells.marks.faults_after
+      next.faults
+      (omega (arith, sources.faults, ap (λ (c : Counts). c.faults) opens.tells.before))
+      (sym (ap (λ (c : Counts). c.faults) opens.tells.after)) h
+
+  module _ (path : List ℕ) (marks : Marks) where
+    refused : (why : OpenFault) → FolderRefused path why marks ≡ event
+        → IsRefused why (event ∷ [])
+    refused why is = record {
+      path = path;
+      marks = marks;
+      is = ap (λ (e : Happening). e ∷ []) (sym is);
+    }
+
+    ends_by : (why : OpenFault) → FolderRefused path why marks ≡ event
+        → HasCause Has (FolderRefused path why marks) opens.tells.marks
+        → EndsStart (start_error why) (event ∷ []) before next
+    ends_by Taken is cause = absurd cause
+    ends_by (NoDriver kind) is cause = (refused (NoDriver kind) is, tt)
+    ends_by (Folder scan.Fault) is cause = (refused (Folder scan.Fault) is, rose cause)
+    ends_by (Folder scan.NoMemory) is cause = tt
+    ends_by (Folder scan.ArchiveFull) is cause = absurd cause
+    ends_by (Folder scan.Missing) is cause = (refused (Folder scan.Missing) is, tt)
+    ends_by (Folder (scan.NotMailbox place)) is cause =
+        (refused (Folder (scan.NotMailbox place)) is, tt)
+    ends_by (Folder (scan.TooMany count)) is cause =
+        (refused (Folder (scan.TooMany count)) is, tt)
+    ends_by (Folder (scan.TooLarge size)) is cause =
+        (refused (Folder (scan.TooLarge size)) is, tt)
+    ends_by (Folder scan.Unfinished) is cause = (refused (Folder scan.Unfinished) is, tt)
+
+  fails_by : (t : State) (why : OpenFault) (e : Happening) → e ≡ event → IsOpening moment e
+      → refusal_of e ≡ Some why → t ≡ arrived s e
+      → Fails Has letters first moment (start_error why) t.notes events' before next
+  fails_by t why (FolderRefused path cause marks) is at some arrives =
+      let event_is : FolderRefused path why marks ≡ event =
+      ap (λ (w : OpenFault). FolderRefused path w marks) (sym (ap (cause_in cause) some)) ∙ is in
+      record {
+        opening = event ∷ [];
+        begins = look_begins;
+        ends = ends_by path marks why event_is
+            (subst (λ (e : Happening). HasCause Has e opens.tells.marks) (sym event_is)
+            opens.tells.cause);
+        noted = noted_by (start_error why) (after_events first events').notes t.notes
+            (ap (λ (u : State). u.notes) ((look_stands []).state_is ∙ ap (after s) (sym is)
+            ∙ sym arrives));
+      }
+  fails_by t why (FolderOpened path kind late came marks) is at some arrives =
+      absurd (none-some why some)
+  fails_by t why (FileRead path text marks) is at some arrives = absurd at
+  fails_by t why (FileRefused path cause marks) is at some arrives = absurd at
+  fails_by t why (KeyPressed key late) is at some arrives = absurd at
+
+  -- the folder was not opened
+  pub fails : (t : State) (why : OpenFault) → refusal_of event ≡ Some why → t ≡ arrived s event
+      → Fails Has letters first moment (start_error why) t.notes events' before next
+  fails t why some arrives = fails_by t why event refl opens.opening some arrives

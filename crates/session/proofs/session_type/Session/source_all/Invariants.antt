@@ -1,0 +1,20 @@
+use Rattle.std.proofs.Common.{◌≡◌}
+use Rattle.disk_model.specs.Seen.{Seen}
+use Rattle.session.specs.Events.{plain_events}
+use Rattle.session.specs.Runs.{State, plain_session}
+use Rattle.session.specs.Steps.{Sources}
+use Rattle.session_state.specs.declared.desk.Stage.TheVariants.{Unopened}
+use Rattle.session.proofs.session_type.Session.source_all.Given as goal
+
+abbrev pub invariant-loop-turn : goal.invariant-loop-turn
+invariant-loop-turn g l = record {
+  unopened : l.self.stage ≡ Unopened;
+  archive : l.trace.archive ≡ l.fn.trace.archive;
+  sources : (first : State) → (before : Seen)
+      → Sources first (plain_events l.fn.trace.events.items)
+      (plain_session l.fn.self l.fn.trace.notes) before
+      ((goal.Disk-dyn g (l.fn.dev.disk.vtable, l.fn.dev.disk.value)).seen l.fn.dev.disk.value)
+      → Sources first (plain_events l.trace.events.items) (plain_session l.self l.trace.notes)
+      before
+      ((goal.Disk-dyn g (l.dev.disk.vtable, l.dev.disk.value)).seen l.dev.disk.value);
+}

@@ -1,0 +1,44 @@
+use Rattle.std.proofs.Common.{[], ap, map, refl}
+use Rattle.std.proofs.Math.Facts.{to_z-of_z}
+use Rattle.folder_core.specs.Letters.{plain_letter}
+use Rattle.session.specs.Events.{plain_events}
+use Rattle.session.specs.Runs.{State, plain_session}
+use Rattle.session.specs.Starting.{first_state, plain_setup}
+use Rattle.session.proofs.BeginningLemmas.{fails_early, if_error, no_memory}
+use Rattle.session.proofs.StepsLemmas.{sources_begun, sources_off}
+use Rattle.session.proofs.session_type.Session.start.Goals as goal
+
+pub returns-in_err-session-clause-err : goal.returns-in_err-session-clause-err
+returns-in_err-session-clause-err g c =
+    no_memory _ _ c.from_residual.ensures.1
+    (fails_early _ _ (first_state (plain_setup c.args.setup)) _ _ _ _ _
+    (ap (map plain_letter) c.requires.archive)
+    (sources_off (first_state (plain_setup c.args.setup)) (first_state (plain_setup c.args.setup))
+    _ _ _ _ _ refl refl (sources_begun (first_state (plain_setup c.args.setup))
+    (first_state (plain_setup c.args.setup)) _ _ refl (ap plain_events c.requires.events))))
+
+pub begin-requires : goal.begin-requires
+begin-requires g c = record {
+  unopened = ap (λ (s : State). s.turn.stage)
+      (c.in_ok-session.ensures (record { items = []; room = 0 }) refl);
+  archive = c.requires.archive;
+}
+
+pub returns-in_err-begin-clause-err : goal.returns-in_err-begin-clause-err
+returns-in_err-begin-clause-err g c =
+    if_error _ c.in_err-begin.field-0.0 _ c.from_residual-in_err-begin.ensures.1
+    ((rw (to_z-of_z c.ranges.moment) at c.in_err-begin.ensures.err)
+    (first_state (plain_setup c.args.setup)) _
+    (sources_begun (first_state (plain_setup c.args.setup))
+    (plain_session c.in_ok-session.session c.args.trace.now.notes) _ _
+    (c.in_ok-session.ensures c.args.trace.now.notes c.requires.notes)
+    (ap plain_events c.requires.events)))
+
+pub returns-clause-ok : goal.returns-clause-ok
+returns-clause-ok g c =
+    (rw (to_z-of_z c.ranges.moment) at c.in_ok-begin.ensures.ok)
+    (first_state (plain_setup c.args.setup)) _
+    (sources_begun (first_state (plain_setup c.args.setup))
+    (plain_session c.in_ok-session.session c.args.trace.now.notes) _ _
+    (c.in_ok-session.ensures c.args.trace.now.notes c.requires.notes)
+    (ap plain_events c.requires.events))

@@ -1,0 +1,256 @@
+//! How a session begins.
+
+ghost use Rattle.std.specs.Prelude.{◌≡◌, IfOk, map};
+ghost use Rattle.mail_base.specs.Series.{plain_texts};
+ghost use Rattle.session_state.specs.Rules.{answer_line};
+ghost use Rattle.session.specs.Beginning as spec;
+ghost use Rattle.session.specs.Events.{plain_event};
+ghost use Rattle.session.specs.Opening as opening;
+
+use crate::event::{Event, OpenFault, Trace};
+use crate::open::open_event;
+use crate::session_type::Session;
+use crate::setup::{Setup, StartError};
+use disk_model::Device;
+use folder_core::{Archive, Drivers, ScanError};
+use mail_base::{Bytes, Lines, NoMemory, Words};
+use session_state::{Rules, text_of};
+use std::alloc::Global;
+
+impl Session {
+    ghost use Rattle.std.specs.Prelude.{◌≡◌, [], Any, IfOk, IfErr, OnErr, OnOk};
+    ghost use Rattle.std.specs.Prelude.{map, option_map};
+    ghost use Rattle.mail_base.specs.Series.{plain_texts};
+    ghost use Rattle.disk_model.specs.Seen.{Seen};
+    ghost use Rattle.folder_core.specs.Letters.{plain_letter};
+    ghost use Rattle.session_state.specs.Frames.{plain_frames};
+    ghost use Rattle.session_state.specs.Places.{folder_path, new_kind};
+    ghost use Rattle.session_state.specs.declared.desk.Stage.TheVariants.{Unopened};
+    ghost use Rattle.session.specs.Beginning.{AnswersNames, Fails, Starts};
+    ghost use Rattle.session.specs.Events.{plain_event, plain_events};
+    ghost use Rattle.session.specs.Opening.{OpensPath};
+    ghost use Rattle.session.specs.Runs.{State, plain_session};
+    ghost use Rattle.session.specs.Starting.{first_state, plain_setup};
+    ghost use Rattle.session.specs.Steps.{Sources, SourcesOff};
+
+    /// Reads the files of commands, and then opens the folder. The keys that commands have put wait
+    /// for `pushed`.
+    pub fn start(
+        alloc: Global,
+        setup: Setup,
+        dev: &mut Device,
+        drivers: &Drivers,
+        moment: i64,
+        trace: &mut Trace,
+    ) -> Result<Session, StartError>
+        requires archive { trace.old.archive.items ≡ [] }
+        requires events { trace.old.events.items ≡ [] }
+        requires notes { trace.old.notes.items ≡ [] }
+        ensures ok { IfOk result (λ session. Starts
+            (λ kind. Any (λ d. sort (d.vtable, d.value) ≡ kind) drivers.now.list.items)
+            (map plain_letter trace.new.archive.items) (first_state (plain_setup setup)) moment
+            (plain_events trace.new.events.items) (plain_session session trace.new.notes)
+            (seen (dev.old.disk.vtable, dev.old.disk.value))
+            (seen (dev.new.disk.vtable, dev.new.disk.value))) }
+        ensures err { IfErr result (λ why. Fails
+            (λ kind. Any (λ d. sort (d.vtable, d.value) ≡ kind) drivers.now.list.items)
+            (map plain_letter trace.new.archive.items) (first_state (plain_setup setup)) moment
+            why (plain_texts trace.new.notes) (plain_events trace.new.events.items)
+            (seen (dev.old.disk.vtable, dev.old.disk.value))
+            (seen (dev.new.disk.vtable, dev.new.disk.value))) }
+    {
+        let mut session = Session::first(alloc, setup)?;
+        session.begin(dev, drivers, moment, trace)?;
+        Ok(session)
+    }
+
+    /// Reads the files of commands, and gives a line for each name, which is that of a variable. No
+    /// folder is opened.
+    pub fn answers(
+        alloc: Global,
+        setup: Setup,
+        names: &Words,
+        dev: &mut Device,
+        trace: &mut Trace,
+    ) -> Result<Lines, NoMemory>
+        requires events { trace.old.events.items ≡ [] }
+        requires notes { trace.old.notes.items ≡ [] }
+        ensures ok { IfOk result (λ lines. AnswersNames (first_state (plain_setup setup))
+            (plain_events trace.new.events.items) (plain_texts names.now) (plain_texts lines)
+            (plain_texts trace.new.notes)) }
+        ensures sources { SourcesOff (first_state (plain_setup setup))
+            (plain_events trace.new.events.items)
+            (seen (dev.old.disk.vtable, dev.old.disk.value))
+            (seen (dev.new.disk.vtable, dev.new.disk.value)) }
+        ensures archive { trace.new.archive ≡ trace.old.archive }
+    {
+        let mut session = Session::first(alloc, setup)?;
+        session.answer(names, dev, trace)
+    }
+
+    // Reads the files of commands, and then opens the folder.
+    fn begin(
+        &mut self,
+        dev: &mut Device,
+        drivers: &Drivers,
+        moment: i64,
+        trace: &mut Trace,
+    ) -> Result<(), StartError>
+        requires unopened { self.old.stage ≡ Unopened }
+        requires archive { trace.old.archive.items ≡ [] }
+        ensures ok { OnOk result ((first : State) → (before : Seen)
+            → Sources first (plain_events trace.old.events.items)
+            (plain_session self.old trace.old.notes) before
+            (seen (dev.old.disk.vtable, dev.old.disk.value))
+            → Starts (λ kind. Any (λ d. sort (d.vtable, d.value) ≡ kind) drivers.now.list.items)
+            (map plain_letter trace.new.archive.items) first moment
+            (plain_events trace.new.events.items) (plain_session self.new trace.new.notes) before
+            (seen (dev.new.disk.vtable, dev.new.disk.value))) }
+        ensures err { IfErr result (λ why. (first : State) → (before : Seen)
+            → Sources first (plain_events trace.old.events.items)
+            (plain_session self.old trace.old.notes) before
+            (seen (dev.old.disk.vtable, dev.old.disk.value))
+            → Fails (λ kind. Any (λ d. sort (d.vtable, d.value) ≡ kind) drivers.now.list.items)
+            (map plain_letter trace.new.archive.items) first moment why
+            (plain_texts trace.new.notes) (plain_events trace.new.events.items) before
+            (seen (dev.new.disk.vtable, dev.new.disk.value))) }
+    {
+        self.source_all(dev, trace)?;
+        self.open_wished(dev, drivers, moment, trace)
+    }
+
+    // Reads the files of commands, and gives a line for each of these names.
+    fn answer(
+        &mut self,
+        names: &Words,
+        dev: &mut Device,
+        trace: &mut Trace,
+    ) -> Result<Lines, NoMemory>
+        requires { self.old.stage ≡ Unopened }
+        ensures ok { IfOk result (λ lines. (first : State) → (before : Seen)
+            → Sources first (plain_events trace.old.events.items)
+            (plain_session self.old trace.old.notes) before
+            (seen (dev.old.disk.vtable, dev.old.disk.value))
+            → AnswersNames first (plain_events trace.new.events.items) (plain_texts names.now)
+            (plain_texts lines) (plain_texts trace.new.notes)) }
+        ensures sources { (first : State) → (before : Seen)
+            → Sources first (plain_events trace.old.events.items)
+            (plain_session self.old trace.old.notes) before
+            (seen (dev.old.disk.vtable, dev.old.disk.value))
+            → SourcesOff first (plain_events trace.new.events.items) before
+            (seen (dev.new.disk.vtable, dev.new.disk.value)) }
+        ensures archive { trace.new.archive ≡ trace.old.archive }
+    {
+        self.source_all(dev, trace)?;
+        answer_lines(self.alloc, &self.core.rules, names.as_slice())
+    }
+
+    // Opens the folder that is wished.
+    fn open_wished(
+        &mut self,
+        dev: &mut Device,
+        drivers: &Drivers,
+        moment: i64,
+        trace: &mut Trace,
+    ) -> Result<(), StartError>
+        requires unopened { self.old.stage ≡ Unopened }
+        requires read { plain_frames self.old.frames ≡ [] }
+        requires archive { trace.old.archive.items ≡ [] }
+        ensures ok { OnOk result ((first : State) → (before : Seen)
+            → Sources first (plain_events trace.old.events.items)
+            (plain_session self.old trace.old.notes) before
+            (seen (dev.old.disk.vtable, dev.old.disk.value))
+            → Starts (λ kind. Any (λ d. sort (d.vtable, d.value) ≡ kind) drivers.now.list.items)
+            (map plain_letter trace.new.archive.items) first moment
+            (plain_events trace.new.events.items) (plain_session self.new trace.new.notes) before
+            (seen (dev.new.disk.vtable, dev.new.disk.value))) }
+        ensures err { IfErr result (λ why. (first : State) → (before : Seen)
+            → Sources first (plain_events trace.old.events.items)
+            (plain_session self.old trace.old.notes) before
+            (seen (dev.old.disk.vtable, dev.old.disk.value))
+            → Fails (λ kind. Any (λ d. sort (d.vtable, d.value) ≡ kind) drivers.now.list.items)
+            (map plain_letter trace.new.archive.items) first moment why
+            (plain_texts trace.new.notes) (plain_events trace.new.events.items) before
+            (seen (dev.new.disk.vtable, dev.new.disk.value))) }
+    {
+        trace.events.reserve(1)?;
+        let event = self.look(dev, drivers, moment, &mut trace.archive)?;
+        let refusal = refusal_of(&event);
+        self.happen(event, trace)?;
+        match refusal {
+            None => Ok(()),
+            Some(why) => Err(start_error(why)),
+        }
+    }
+
+    // Looks for the folder that is wished, and tells what happened.
+    fn look(
+        &self,
+        dev: &mut Device,
+        drivers: &Drivers,
+        moment: i64,
+        archive: &mut Archive,
+    ) -> Result<Event, NoMemory>
+        requires { archive.old.items ≡ [] }
+        ensures ok { IfOk result (λ event. OpensPath
+            (λ kind. Any (λ d. sort (d.vtable, d.value) ≡ kind) drivers.now.list.items)
+            (new_kind self.now.core.rules.settings)
+            (folder_path self.now.core.rules.settings
+            (option_map (λ path. path.items) self.now.named)) moment
+            (map plain_letter archive.new.items) (plain_event event)
+            (seen (dev.old.disk.vtable, dev.old.disk.value))
+            (seen (dev.new.disk.vtable, dev.new.disk.value))) }
+        ensures err { OnErr result ((seen (dev.new.disk.vtable, dev.new.disk.value)
+            ≡ seen (dev.old.disk.vtable, dev.old.disk.value)) × (archive.new ≡ archive.old)) }
+    {
+        let path = self.core.rules.folder_path(self.alloc, self.named_path())?;
+        let name = Bytes::copy_of(self.alloc, path.as_slice())?;
+        let empty = self.core.rules.new_kind();
+        let path = text_of(&path);
+        Ok(open_event(self.alloc, dev, drivers, empty, path, name, moment, archive))
+    }
+
+    fn named_path(&self) -> Option<&[u8]>
+        ensures { option_map (λ path. path.now) result
+            ≡ option_map (λ path. path.items) self.now.named }
+    {
+        match &self.named {
+            Some(path) => Some(path.as_slice()),
+            None => None,
+        }
+    }
+}
+
+// Why the folder was not opened.
+fn refusal_of(event: &Event) -> Option<OpenFault>
+    ensures { result ≡ opening.refusal_of (plain_event event.now) }
+{
+    match event {
+        Event::NotOpened { why, .. } => Some(*why),
+        _ => None,
+    }
+}
+
+fn start_error(why: OpenFault) -> StartError
+    ensures { result ≡ spec.start_error why }
+{
+    match why {
+        OpenFault::Folder(ScanError::Fault) => StartError::DiskFault,
+        OpenFault::Folder(ScanError::NoMemory) => StartError::NoMemory,
+        why => StartError::NotOpened(why),
+    }
+}
+
+// The lines that queries of these variables print.
+fn answer_lines(alloc: Global, rules: &Rules, names: &[Bytes]) -> Result<Lines, NoMemory>
+    ensures { IfOk result (λ lines. plain_texts lines
+        ≡ map (answer_line rules.now.settings) (map (λ name. name.items) names.now)) }
+{
+    let mut lines = Lines::new(alloc);
+    let mut left = names;
+    while let Some((name, rest)) = left.split_first() {
+        lines.push(rules.answer(alloc, name.as_slice())?)?;
+        left = rest;
+    }
+    Ok(lines)
+}
