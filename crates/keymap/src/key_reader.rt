@@ -63,6 +63,7 @@ impl KeyReader {
             (K.left keys.old) (K.left keys.new)) }
         ensures cause { result ≡ Err KeyFault.ReadFault
             → Rose (K.faults keys.old) (K.faults keys.new) }
+        ensures later { K.faults keys.old ≤ K.faults keys.new }
         ensures ahead { length self.new.pending ≤ 3 }
     {
         self.fill(keys)?;

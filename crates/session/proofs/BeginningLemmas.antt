@@ -207,6 +207,7 @@ module _ (Has : Kind → Type 0) (letters : List Mail) (first s : State) (moment
         subst (λ (e : Happening). BeginsRun Has letters first moment (e ∷ []) events' before next)
         (sym is ∙ ap (λ (m : ℤ). FolderOpened path kind m came marks) at) look_begins;
     stage = ap (λ (u : State). u.turn.stage) arrives;
+    listing = ap (λ (u : State). u.listing) arrives;
     rows = ap (λ (u : State). u.turn.core.desk.rows) arrives ∙ opened_rows came s.turn.core
         ∙ sources.rows;
     waits = λ archive. record {

@@ -1,5 +1,5 @@
 mod Looked
 mod TellingLemmas
 mod SettlingLemmas
-mod StepsLemmas
+pub mod StepsLemmas
 mod BeginningLemmas

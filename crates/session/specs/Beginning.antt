@@ -48,6 +48,7 @@ pub record Starts (Has : Kind → Type 0) (letters : List Mail) (first : State) 
   pub begins : BeginsRun Has letters first moment (FolderOpened path kind moment came marks ∷ [])
       events old new
   pub stage : state.turn.stage ≡ Pushing
+  pub listing : state.listing ≡ came
   pub rows : state.turn.core.desk.rows ≡ first.turn.core.desk.rows
   pub waits : (archive : List Mail) → Waits archive first events state
 

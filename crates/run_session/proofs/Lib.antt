@@ -1,0 +1,5 @@
+mod ScreensLemmas
+mod KeysLemmas
+mod RunLemmas
+mod ReadsLemmas
+mod ValuesLemmas

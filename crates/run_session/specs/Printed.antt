@@ -1,0 +1,50 @@
+-- What is printed.
+use Rattle.std.specs.Prelude.{◌≤◌, ℕ, List, [], ◌∷◌, codes, length, map, Option}
+use Rattle.std.specs.Io.KnownBytes.{Appends}
+use Rattle.std.specs.List.{concat}
+use Rattle.mail_base.specs.Streams.{Sent}
+use Rattle.folder_core.specs.Letters.{Mail}
+use Rattle.session.specs.Events.{Happening}
+use Rattle.session.specs.Runs.{State, after_events, screens_from}
+use Rattle.session_state.specs.Rules.{answer_line}
+use Rattle.run_session.specs.Choice.{Task, TellVersion, TellValues, ReadFolder}
+use Rattle.run_session.specs.Screens.{printed_lines, screen_text}
+use Rattle.run_session.specs.declared.status.Status.{Status}
+use Rattle.run_session.specs.declared.status.Status.TheVariants.{OutFault, NoMemory}
+use Rattle.run_session.specs.declared.status.Status.TheVariants.{Empty}
+
+abbrev pub version_line : List ℕ
+version_line = codes "mutt_main 1.0\n"
+
+-- the lines of variables
+abbrev pub values_text : List (List ℕ) → State → List ℕ
+values_text names s = printed_lines (map (answer_line s.turn.core.rules.settings) names)
+
+-- The pieces that are printed, each in one write: the version; the lines of the variables, with the
+-- values that the commands gave them; or one screen after the opening and after each key that does
+-- not end the run.
+abbrev pub pieces : Task → List Mail → State → List Happening → List (List ℕ)
+pieces TellVersion archive first events = version_line ∷ []
+pieces (TellValues names) archive first events =
+    values_text names (after_events first events) ∷ []
+pieces ReadFolder archive first events = map screen_text (screens_from archive first events)
+
+-- how long the last of some pieces is
+abbrev pub last_length : List (List ℕ) → ℕ
+last_length [] = 0
+last_length (piece ∷ []) = length piece
+last_length (piece ∷ next ∷ pieces) = last_length (next ∷ pieces)
+
+-- the pieces were printed, but perhaps for an end of the last one
+pub record PrintsBut (pieces : List (List ℕ)) (old new : Option (List ℕ)) : Type 0 where
+  pub rest : List ℕ
+  pub sent : Sent old new (concat pieces) rest
+  pub short : length rest ≤ last_length pieces
+
+-- The pieces were printed whole, unless a stream failed or memory ran out; nothing was where an
+-- empty folder is not shown.
+abbrev pub Prints : Status → List (List ℕ) → Option (List ℕ) → Option (List ℕ) → Type 0
+Prints OutFault pieces old new = PrintsBut pieces old new
+Prints NoMemory pieces old new = PrintsBut pieces old new
+Prints Empty pieces old new = Appends old new []
+Prints status pieces old new = Appends old new (concat pieces)

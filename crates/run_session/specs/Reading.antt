@@ -1,0 +1,89 @@
+-- What a run does outside.
+use Rattle.std.specs.Prelude.{◌≡◌, ◌≤◌, ◌⊎◌, ℕ, ℤ, List, [], Option}
+use Rattle.std.specs.Io.KnownBytes.{Appends}
+use Rattle.std.specs.List.{concat}
+use Rattle.mail_base.specs.Faults.{Rose}
+use Rattle.mail_base.specs.Streams.{Sent}
+use Rattle.mail_base.specs.declared.kind.Kind.{Kind}
+use Rattle.disk_model.specs.Seen.{Seen}
+use Rattle.folder_core.specs.Letters.{Mail}
+use Rattle.keymap.specs.Reader.{PlainReader}
+use Rattle.mutt_words.specs.Options.{PlainOptions}
+use Rattle.session.specs.Events.{Happening}
+use Rattle.session.specs.Runs.{IsRunFrom, after_events}
+use Rattle.session.specs.Telling.{Witnessed}
+use Rattle.session_state.specs.declared.desk.Stage.TheVariants.{Over}
+use Rattle.run_session.specs.Choice.{first_of, task_of}
+use Rattle.run_session.specs.Ending.{AllListed, EndsAs, IsNoUsage}
+use Rattle.run_session.specs.Printed.{Prints, pieces}
+use Rattle.run_session.specs.Screens.{printed_lines}
+use Rattle.run_session.specs.Taken.{Gives, IsStart, TakesKeys, pressed_keys, pressed_moments}
+use Rattle.run_session.specs.declared.status.Status.{Status}
+use Rattle.run_session.specs.declared.status.Status.TheVariants.{DiskFault, KeysFault}
+use Rattle.run_session.specs.declared.status.Status.TheVariants.{OutFault, NoMemory}
+
+-- what was printed and told so far, with the faults of telling; what is left of the keys; the
+-- moments to come; and the disk
+pub record Outside : Type 0 where
+  pub written : Option (List ℕ)
+  pub told : Option (List ℕ)
+  pub faults : ℕ
+  pub left : Option (List ℕ)
+  pub moments : Option (List ℤ)
+  pub disk : Seen
+
+abbrev pub outside : Option (List ℕ) → Option (List ℕ) → ℕ → Option (List ℕ) → Option (List ℤ)
+    → Seen → Outside
+outside written told faults left moments disk = record {
+  written = written;
+  told = told;
+  faults = faults;
+  left = left;
+  moments = moments;
+  disk = disk;
+}
+
+-- The lines of faulty commands were told: all, unless the fault stream failed or memory ran out.
+abbrev pub TellsNotes : Status → List ℕ → Outside → Outside → Type 0
+TellsNotes OutFault text old new =
+    (rest : List ℕ) × Sent old.told new.told text rest × ((rest ≡ []) ⊎ Rose old.faults new.faults)
+TellsNotes NoMemory text old new = (rest : List ℕ) × Sent old.told new.told text rest
+TellsNotes status text old new = Appends old.told new.told text
+
+-- The events are a run that ends with this status; their keys and moments were taken, what they ask
+-- for was printed and told, and what they say is true.
+pub record Reads (o : PlainOptions) (start : ℤ) (Has : Kind → Type 0) (archive : List Mail)
+    (status : Status) (events : List Happening) (old new : Outside) : Type 0 where
+  pub run : IsRunFrom (first_of o) events
+  pub ends : EndsAs o status events old.left new.left
+  pub reader : PlainReader
+  pub takes : TakesKeys (pressed_keys events) reader old.left new.left
+  pub start_is : IsStart start events
+  pub given : Gives old.moments new.moments (pressed_moments events)
+  pub printed : Prints status (pieces (task_of o) archive (first_of o) events) old.written
+      new.written
+  pub whole : (after_events (first_of o) events).turn.stage ≡ Over
+      → Appends old.written new.written (concat (pieces (task_of o) archive (first_of o) events))
+  pub noted : TellsNotes status (printed_lines (after_events (first_of o) events).notes) old new
+  pub told : Witnessed Has archive (first_of o) events old.disk new.disk
+  pub listed : AllListed archive events
+  pub fault : status ≡ DiskFault → Rose old.disk.faults new.disk.faults
+  pub no_usage : IsNoUsage status
+
+-- a fault of the keys, and one of what is written or told, is answered only where it was counted
+pub record CountsStreams (status : Status) (keys_before keys_after out_before out_after : ℕ)
+    (errs_before errs_after : ℕ) : Type 0 where
+  pub keys : status ≡ KeysFault → Rose keys_before keys_after
+  pub out : status ≡ OutFault → Rose out_before out_after ⊎ Rose errs_before errs_after
+  pub later : errs_before ≤ errs_after
+
+-- For the code alone.
+
+-- the lines of faulty commands were told, and then this is the status; or the fault stream failed,
+-- or memory ran out
+abbrev pub TellsRefused : Status → Status → List ℕ → Option (List ℕ) → Option (List ℕ) → ℕ → ℕ
+    → Type 0
+TellsRefused status result text old new before after =
+    ((result ≡ status) × Appends old new text)
+    ⊎ ((result ≡ OutFault) × Rose before after × ((rest : List ℕ) × Sent old new text rest))
+    ⊎ ((result ≡ NoMemory) × ((rest : List ℕ) × Sent old new text rest))
