@@ -6,12 +6,13 @@ mod environment;
 use crate::environment::command_words;
 use disk_model::Device;
 use folder_core::{Archive, Drivers};
-use mail_base::{RealClock, StdSink, StdSource};
+use mail_base::{Lines, RealClock, StdSink, StdSource};
 use maildir_folder::MaildirDriver;
 use mbox_folder::MboxDriver;
 use mh_folder::MhDriver;
-use mutt_run::{Events, Status, Trace, run};
+use mutt_run::{Status, run};
 use real_disk::RealDisk;
+use session::{Events, Trace};
 use std::io;
 use std::process::ExitCode;
 
@@ -43,6 +44,7 @@ fn started(rt: &HostRuntime) -> io::Result<Status> {
     let mut trace = Trace {
         archive: Archive::new(alloc),
         events: Events::new(alloc),
+        notes: Lines::new(alloc),
     };
     Ok(run(
         alloc,

@@ -1,8 +1,8 @@
-pub mod Fitting
-pub mod Going
-pub mod Looked
-pub mod Printing
-pub mod Shape
-pub mod Whole
-pub mod Completing
-pub mod OpenLemmas
+mod ScreensLemmas
+mod KeysLemmas
+mod RunLemmas
+mod ReadsLemmas
+mod ValuesLemmas
+mod EndLemmas
+mod CompleteLemmas
+mod WordsLemmas

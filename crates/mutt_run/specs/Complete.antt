@@ -1,40 +1,66 @@
 -- Runs with nothing in their way: these are done, or stop for memory or at the limit of keys.
-use Rattle.std.specs.Prelude.{ℕ, List, Option, Some, None, Result, Ok, Err}
+use Rattle.std.specs.Prelude.{ℕ, List, [], ◌∷◌, length, Option, Some, None, Result, Ok, Err}
 use Rattle.mail_base.specs.declared.kind.Kind.{Kind}
 use Rattle.disk_model.specs.Journal.{Past}
-use Rattle.disk_model.specs.Seen.{Seen}
 use Rattle.folder_core.specs.declared.error.ScanError.{ScanError}
 use Rattle.folder_core.specs.Kinds.{IsKindSeen, WasKind}
-use Rattle.mutt_run.specs.Happened.{WasNotListed, empty_kind}
-use Rattle.mutt_run.specs.Printed.{IsStated}
-use Rattle.mutt_run.specs.declared.event.OpenFault.TheVariants.{Folder}
-use Rattle.mutt_run.specs.Words.{Choice, folder_of}
+use Rattle.mutt_words.specs.Options.{PlainOptions}
+use Rattle.session.specs.Beginning.{IsStated}
+use Rattle.session.specs.Events.{Happening, FileRead, FileRefused, KeyPressed, FolderOpened}
+use Rattle.session.specs.Events.{FolderRefused}
+use Rattle.session.specs.Happened.{WasNotListed, kind_in, past_at}
+use Rattle.session.specs.Runs.{State, after}
+use Rattle.session.specs.declared.event.Marks.{Marks}
+use Rattle.session.specs.declared.event.OpenFault.TheVariants.{Folder}
+use Rattle.mutt_run.specs.Choice.{first_of}
 use Rattle.mutt_run.specs.declared.status.Status.{Status}
-use Rattle.mutt_run.specs.declared.status.Status.TheVariants.{Done, Usage, NotOpened, DiskFault, KeysFault, OutFault}
-use Rattle.mutt_run.specs.declared.status.Status.TheVariants.{NoMemory, TooManyKeys}
+use Rattle.mutt_run.specs.declared.status.Status.TheVariants.{Done, Usage, NotOpened, DiskFault}
+use Rattle.mutt_run.specs.declared.status.Status.TheVariants.{KeysFault, OutFault, NoMemory, Empty}
+use Rattle.mutt_run.specs.declared.status.Status.TheVariants.{TooManyKeys}
 
--- From one mark to another no cause was seen for which an opening is refused: a folder stands at the path, of a kind that
--- has a driver, and nothing keeps a scan from listing it.
-pub record IsReadable (Has : Kind → Type 0) (path : List ℕ) (before after : ℕ) (new : Past) : Type 0 where
-  pub there : (why : ScanError) → IsStated (Folder why) → IsKindSeen (Err why) empty_kind path before after new → ⊥
-  pub driver : (kind : Kind) → WasKind (Ok kind) empty_kind path before after new → Has kind
-  pub taken : (why : ScanError) → IsStated (Folder why) → WasNotListed Has path why before after new → ⊥
+-- From one mark to another no cause was seen for which an opening is refused: a folder stands at
+-- the path, of a kind that has a driver, and nothing keeps a scan from listing it.
+pub record IsReadable (Has : Kind → Type 0) (empty : Kind) (path : List ℕ) (before after : ℕ)
+    (past : Past) : Type 0 where
+  pub there : (why : ScanError) → IsStated (Folder why)
+      → IsKindSeen (Err why) empty path before after past → ⊥
+  pub driver : (kind : Kind) → WasKind (Ok kind) empty path before after past → Has kind
+  pub listed : (why : ScanError) → IsStated (Folder why)
+      → WasNotListed Has empty path why before after past → ⊥
 
--- the same, where the disk tells its past
-abbrev pub IsReadableTold : (Kind → Type 0) → List ℕ → ℕ → ℕ → Option Past → Option Past → Type 0
-IsReadableTold Has path before after (Some old) (Some new) = IsReadable Has path before after new
-IsReadableTold Has path before after (Some old) None = ⊥
-IsReadableTold Has path before after None new = ⊥
+-- while the folder was looked for, where the disk tells its past
+abbrev pub WasReadable : (Kind → Type 0) → Kind → List ℕ → Marks → Option Past → Type 0
+WasReadable Has empty path marks None = ⊥
+WasReadable Has empty path marks (Some past) =
+    IsReadable Has empty path (length (past_at past marks.mark_before).journal)
+    (length (past_at past marks.mark_after).journal) (past_at past marks.mark_after)
 
--- the words are a command line, and name a folder that can be read
-abbrev pub NamesReadable : (Kind → Type 0) → Result Choice (List ℕ) → Seen → Seen → Type 0
-NamesReadable Has (Err word) old new = ⊥
-NamesReadable Has (Ok choice) old new =
-    IsReadableTold Has (folder_of choice) old.marks new.marks old.told new.told
+-- each folder that was looked for could be read
+abbrev pub WereReadable : (Kind → Type 0) → State → List Happening → Option Past → Type 0
+WereReadable Has s [] told = Unit {0}
+WereReadable Has s (FileRead path text marks ∷ events) told =
+    WereReadable Has (after s (FileRead path text marks)) events told
+WereReadable Has s (FileRefused path why marks ∷ events) told =
+    WereReadable Has (after s (FileRefused path why marks)) events told
+WereReadable Has s (KeyPressed key moment ∷ events) told =
+    WereReadable Has (after s (KeyPressed key moment)) events told
+WereReadable Has s (FolderOpened path kind moment came marks ∷ events) told =
+    WereReadable Has (after s (FolderOpened path kind moment came marks)) events told
+WereReadable Has s (FolderRefused path why marks ∷ events) told =
+    WasReadable Has (kind_in s) path marks told
+    × WereReadable Has (after s (FolderRefused path why marks)) events told
 
--- a key ended the run, the keys came to their end or to their limit, or memory was wanted
+-- The words are a command line, and each folder that was looked for could be read, as the past
+-- tells that a disk has at the end.
+abbrev pub NamesReadable : (Kind → Type 0) → Result PlainOptions (List ℕ) → List Happening
+    → Option Past → Type 0
+NamesReadable Has (Err word) events told = ⊥
+NamesReadable Has (Ok o) events told = WereReadable Has (first_of o) events told
+
+-- the run is done, or what is empty is not shown, or memory or the limit of keys stopped it
 abbrev pub IsPlainEnd : Status → Type 0
 IsPlainEnd Done = Unit {0}
+IsPlainEnd Empty = Unit {0}
 IsPlainEnd TooManyKeys = Unit {0}
 IsPlainEnd NoMemory = Unit {0}
 IsPlainEnd (Usage word) = ⊥

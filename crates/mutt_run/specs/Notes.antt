@@ -1,16 +1,22 @@
 -- What is told on the fault stream and by the exit status.
 use Rattle.std.specs.Prelude.{◌≡◌, ◌⊎◌, ℕ, List, [], ◌∷◌, ◌++◌, codes, Option}
 use Rattle.std.specs.Fmt.{decimal}
-use Rattle.std.specs.Io.KnownBytes.{Appends, Keeps}
+use Rattle.std.specs.Io.KnownBytes.{Appends}
 use Rattle.mail_base.specs.Streams.{Sent}
 use Rattle.folder_core.specs.declared.error.ScanError.{ScanError}
-use Rattle.folder_core.specs.declared.error.ScanError.TheVariants.{Missing, NotMailbox, TooMany, TooLarge, Unfinished}
+use Rattle.folder_core.specs.declared.error.ScanError.TheVariants.{Missing, NotMailbox, TooMany}
+use Rattle.folder_core.specs.declared.error.ScanError.TheVariants.{TooLarge, Unfinished}
 use Rattle.folder_core.specs.declared.error.ScanError.TheVariants.{ArchiveFull, Fault, NoMemory}
-use Rattle.mutt_run.specs.declared.event.OpenFault.{OpenFault}
-use Rattle.mutt_run.specs.declared.event.OpenFault.TheVariants.{Taken, NoDriver, Folder}
+use Rattle.session.specs.Events.{Happening, FileRead, FileRefused, KeyPressed, FolderOpened}
+use Rattle.session.specs.Events.{FolderRefused}
+use Rattle.session.specs.declared.event.OpenFault.{OpenFault}
+use Rattle.session.specs.declared.event.OpenFault.TheVariants.{Taken, NoDriver, Folder}
+use Rattle.mutt_run.specs.Screens.{printed_lines}
 use Rattle.mutt_run.specs.declared.status.Status.{Status}
-use Rattle.mutt_run.specs.declared.status.Status.TheVariants.{Done, Usage, NotOpened, DiskFault, KeysFault, OutFault}
-use Rattle.mutt_run.specs.declared.status.Status.TheVariants.{NoMemory as WantOfMemory, TooManyKeys}
+use Rattle.mutt_run.specs.declared.status.Status.TheVariants.{Done, Usage, NotOpened, DiskFault}
+use Rattle.mutt_run.specs.declared.status.Status.TheVariants.{KeysFault, OutFault, Empty}
+use Rattle.mutt_run.specs.declared.status.Status.TheVariants.{NoMemory as WantOfMemory}
+use Rattle.mutt_run.specs.declared.status.Status.TheVariants.{TooManyKeys}
 
 -- a text with a number in parentheses
 abbrev pub numbered : List ℕ → ℕ → List ℕ
@@ -37,7 +43,16 @@ cause (Folder why) = scan_cause why
 abbrev pub line_of : List ℕ → List ℕ
 line_of text = codes "mutt_main: " ++ text ++ 10 ∷ []
 
--- what an end of a run tells
+-- the path of the first folder that was looked for
+abbrev pub folder_in : List Happening → List ℕ
+folder_in [] = []
+folder_in (FileRead path text marks ∷ events) = folder_in events
+folder_in (FileRefused path why marks ∷ events) = folder_in events
+folder_in (KeyPressed key moment ∷ events) = folder_in events
+folder_in (FolderOpened path kind moment came marks ∷ events) = path
+folder_in (FolderRefused path why marks ∷ events) = path
+
+-- what an end of a run tells, where this folder was looked for
 abbrev pub note : List ℕ → Status → List ℕ
 note path Done = []
 note path (Usage word) = line_of (codes "usage: " ++ word.items)
@@ -46,6 +61,7 @@ note path DiskFault = line_of (codes "disk fault")
 note path KeysFault = line_of (codes "keys fault")
 note path OutFault = []
 note path WantOfMemory = []
+note path Empty = line_of (path ++ codes ": empty")
 note path TooManyKeys = line_of (codes "too many keys")
 
 -- the exit status of the program
@@ -57,20 +73,34 @@ exit_status DiskFault = 3
 exit_status KeysFault = 4
 exit_status OutFault = 5
 exit_status WantOfMemory = 6
+exit_status Empty = 7
 exit_status TooManyKeys = 8
 
--- The note of a status with which the run could end was begun; where the fault stream did not fail, another stream
--- did, and nothing was told.
-pub record BegunNote (IsEnd : Status → Type 0) (Rises : Type 0) (path : List ℕ) (old new : Option (List ℕ))
-    : Type 0 where
+-- For the code alone: the line of an end was told, or its front where the fault stream failed.
+abbrev pub TellsEnd : List ℕ → Status → Status → Option (List ℕ) → Option (List ℕ) → Type 0
+TellsEnd path status OutFault old new = (rest : List ℕ) × Sent old new (note path status) rest
+TellsEnd path status WantOfMemory old new = Appends old new []
+TellsEnd path status result old new = (result ≡ status) × Appends old new (note path status)
+
+-- the lines of faulty commands, and then that of the end
+abbrev pub told_text : List (List ℕ) → List ℕ → Status → List ℕ
+told_text notes path status = printed_lines notes ++ note path status
+
+-- What a status tells with which the run could end was told, all of it where the fault stream did
+-- not fail; then another stream did.
+pub record BegunNote (IsEnd : Status → Type 0) (Rises : Type 0) (notes : List (List ℕ))
+    (path : List ℕ) (old new : Option (List ℕ)) : Type 0 where
   pub status : Status
   pub ended : IsEnd status
-  pub cause : (status ≡ OutFault) ⊎ Rises
   pub rest : List ℕ
-  pub sent : Sent old new (note path status) rest
+  pub sent : Sent old new (told_text notes path status) rest
+  pub cause : ((status ≡ OutFault) × (rest ≡ [])) ⊎ Rises
 
--- the note is told whole; where a stream failed its front may be there, and for want of memory nothing
-abbrev pub TellsNote : (Status → Type 0) → Type 0 → List ℕ → Status → Option (List ℕ) → Option (List ℕ) → Type 0
-TellsNote IsEnd Rises path OutFault old new = BegunNote IsEnd Rises path old new
-TellsNote IsEnd Rises path WantOfMemory old new = Keeps old new
-TellsNote IsEnd Rises path status old new = Appends old new (note path status)
+-- All is told; where a stream failed its front may be there, and for want of memory a front of the
+-- lines of faulty commands.
+abbrev pub Tells : (Status → Type 0) → Type 0 → List (List ℕ) → List ℕ → Status
+    → Option (List ℕ) → Option (List ℕ) → Type 0
+Tells IsEnd Rises notes path OutFault old new = BegunNote IsEnd Rises notes path old new
+Tells IsEnd Rises notes path WantOfMemory old new =
+    (rest : List ℕ) × Sent old new (printed_lines notes) rest
+Tells IsEnd Rises notes path status old new = Appends old new (told_text notes path status)

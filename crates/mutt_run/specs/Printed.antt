@@ -1,110 +1,64 @@
--- What is printed, and how a run ends.
-use Rattle.std.specs.Prelude.{◌≡◌, ◌<◌, ◌≤◌, ℕ, List, [], ◌∷◌, length, Option, Result, Ok, Err}
-use Rattle.std.specs.Io.KnownBytes.{Appends, IsAtEnd}
+-- What is printed.
+use Rattle.std.specs.Prelude.{◌≤◌, ℕ, List, [], ◌∷◌, codes, length, map, Option, Result}
+use Rattle.std.specs.Io.KnownBytes.{Appends}
 use Rattle.std.specs.List.{concat}
+use Rattle.mail_base.specs.Faults.{Rose}
 use Rattle.mail_base.specs.Streams.{Sent}
-use Rattle.folder_core.specs.declared.error.ScanError.TheVariants.{Missing, NotMailbox, TooMany, TooLarge, Unfinished}
-use Rattle.folder_core.specs.declared.error.ScanError.TheVariants.{ArchiveFull, Fault, NoMemory}
-use Rattle.mutt_run.specs.Words.{Choice}
-use Rattle.mutt_run.specs.Events.{Happening, KeyPressed, FolderOpened, FolderRefused}
-use Rattle.mutt_run.specs.Runs.{Stage, Unopened, Reading, Over, after_events}
-use Rattle.mutt_run.specs.Taken.{most_keys, pressed_keys}
-use Rattle.mutt_run.specs.declared.event.OpenFault.{OpenFault}
-use Rattle.mutt_run.specs.declared.event.OpenFault.TheVariants.{Taken, NoDriver, Folder}
+use Rattle.folder_core.specs.Letters.{Mail}
+use Rattle.mutt_words.specs.Options.{PlainOptions}
+use Rattle.session.specs.Events.{Happening}
+use Rattle.session.specs.Runs.{State, after_events, screens_from}
+use Rattle.session_state.specs.Rules.{answer_line}
+use Rattle.mutt_run.specs.Choice.{Task, TellVersion, TellValues, ReadFolder}
+use Rattle.mutt_run.specs.Choice.{first_by, task_by}
+use Rattle.mutt_run.specs.Screens.{printed_lines, screen_text}
 use Rattle.mutt_run.specs.declared.status.Status.{Status}
-use Rattle.mutt_run.specs.declared.status.Status.TheVariants.{Done, Usage, NotOpened, DiskFault, KeysFault, OutFault}
-use Rattle.mutt_run.specs.declared.status.Status.TheVariants.{NoMemory as WantOfMemory, TooManyKeys}
+use Rattle.mutt_run.specs.declared.status.Status.TheVariants.{Done, OutFault, NoMemory}
+use Rattle.mutt_run.specs.declared.status.Status.TheVariants.{Empty}
 
--- how long the last of some screens is
+abbrev pub version_line : List ℕ
+version_line = codes "mutt_main 1.0\n"
+
+-- the lines of variables
+abbrev pub values_text : List (List ℕ) → State → List ℕ
+values_text names s = printed_lines (map (answer_line s.turn.core.rules.settings) names)
+
+-- The pieces that are printed, each in one write: the version; the lines of the variables, with the
+-- values that the commands gave them; or one screen after the opening and after each key that does
+-- not end the run.
+abbrev pub pieces : Task → List Mail → State → List Happening → List (List ℕ)
+pieces TellVersion archive first events = version_line ∷ []
+pieces (TellValues names) archive first events =
+    values_text names (after_events first events) ∷ []
+pieces ReadFolder archive first events = map screen_text (screens_from archive first events)
+
+-- the pieces of what the words choose
+abbrev pub pieces_by : Result PlainOptions (List ℕ) → List Mail → List Happening → List (List ℕ)
+pieces_by choice archive events = pieces (task_by choice) archive (first_by choice) events
+
+-- how long the last of some pieces is
 abbrev pub last_length : List (List ℕ) → ℕ
 last_length [] = 0
-last_length (screen ∷ []) = length screen
-last_length (screen ∷ next ∷ screens) = last_length (next ∷ screens)
+last_length (piece ∷ []) = length piece
+last_length (piece ∷ next ∷ pieces) = last_length (next ∷ pieces)
 
--- the screens were printed, but perhaps for an end of the last one
-pub record PrintsBut (screens : List (List ℕ)) (old new : Option (List ℕ)) : Type 0 where
+-- the pieces were printed, but perhaps for an end of the last one
+pub record PrintsBut (pieces : List (List ℕ)) (old new : Option (List ℕ)) : Type 0 where
   pub rest : List ℕ
-  pub sent : Sent old new (concat screens) rest
-  pub short : length rest ≤ last_length screens
+  pub sent : Sent old new (concat pieces) rest
+  pub short : length rest ≤ last_length pieces
 
--- the screens were printed whole, unless a stream failed or memory ran out
+-- The pieces were printed whole, unless a stream failed or memory ran out; nothing was where an
+-- empty folder is not shown.
 abbrev pub Prints : Status → List (List ℕ) → Option (List ℕ) → Option (List ℕ) → Type 0
-Prints OutFault screens old new = PrintsBut screens old new
-Prints WantOfMemory screens old new = PrintsBut screens old new
-Prints status screens old new = Appends old new (concat screens)
+Prints OutFault pieces old new = PrintsBut pieces old new
+Prints NoMemory pieces old new = PrintsBut pieces old new
+Prints Empty pieces old new = Appends old new []
+Prints status pieces old new = Appends old new (concat pieces)
 
--- the folder is shown
-abbrev pub IsReading : Stage → Type 0
-IsReading Unopened = ⊥
-IsReading (Reading view) = Unit {0}
-IsReading Over = ⊥
-
--- the run is over
-abbrev pub IsOver : Stage → Type 0
-IsOver Unopened = ⊥
-IsOver (Reading view) = ⊥
-IsOver Over = Unit {0}
-
--- the folder was opened first
-abbrev pub IsOpened : List Happening → Type 0
-IsOpened [] = ⊥
-IsOpened (FolderOpened path kind moment came marks ∷ events) = Unit {0}
-IsOpened (FolderRefused path why marks ∷ events) = ⊥
-IsOpened (KeyPressed key moment ∷ events) = ⊥
-
--- the folder was not opened, for this cause
-abbrev pub IsRefused : OpenFault → List Happening → Type 0
-IsRefused why [] = ⊥
-IsRefused why (FolderRefused path cause marks ∷ events) = (cause ≡ why) × (events ≡ [])
-IsRefused why (FolderOpened path kind moment came marks ∷ events) = ⊥
-IsRefused why (KeyPressed key moment ∷ events) = ⊥
-
--- a cause that a run can end with: neither a fault, nor want of memory, nor a full archive
-abbrev pub IsStated : OpenFault → Type 0
-IsStated Taken = ⊥
-IsStated (NoDriver kind) = Unit {0}
-IsStated (Folder Fault) = ⊥
-IsStated (Folder NoMemory) = ⊥
-IsStated (Folder ArchiveFull) = ⊥
-IsStated (Folder Missing) = Unit {0}
-IsStated (Folder (NotMailbox n)) = Unit {0}
-IsStated (Folder (TooMany n)) = Unit {0}
-IsStated (Folder (TooLarge n)) = Unit {0}
-IsStated (Folder Unfinished) = Unit {0}
-
--- a key ended the run, or the keys were read to their end
-abbrev pub IsDone : Stage → ℕ → Option (List ℕ) → Type 0
-IsDone Unopened count left = ⊥
-IsDone (Reading view) count left = IsAtEnd left × (count < most_keys)
-IsDone Over count left = Unit {0}
-
--- how the events of a run with this status end, and what is left of the keys
-abbrev pub EndsAs : Choice → Status → List Happening → Option (List ℕ) → Type 0
-EndsAs choice Done events left =
-    IsOpened events × IsDone (after_events choice Unopened events) (length (pressed_keys events)) left
-EndsAs choice (Usage word) events left = events ≡ []
-EndsAs choice (NotOpened why) events left = IsStated why × IsRefused why events
-EndsAs choice DiskFault events left = IsRefused (Folder Fault) events
-EndsAs choice KeysFault events left =
-    IsOpened events × IsReading (after_events choice Unopened events) × (length (pressed_keys events) < most_keys)
-EndsAs choice OutFault events left = Unit {0}
-EndsAs choice WantOfMemory events left = Unit {0}
-EndsAs choice TooManyKeys events left =
-    IsOpened events × IsReading (after_events choice Unopened events) × (length (pressed_keys events) ≡ most_keys)
-
--- the status of words that are no command line
-abbrev pub IsUsage : List ℕ → Status → Type 0
-IsUsage word (Usage faulty) = faulty.items ≡ word
-IsUsage word OutFault = Unit {0}
-IsUsage word WantOfMemory = Unit {0}
-IsUsage word status = ⊥
-
--- the status of words that are one
-abbrev pub IsNoUsage : Status → Type 0
-IsNoUsage (Usage faulty) = ⊥
-IsNoUsage status = Unit {0}
-
--- the words decide whether the run ends for them
-abbrev pub IsChosen : Result Choice (List ℕ) → Status → Type 0
-IsChosen (Ok choice) status = IsNoUsage status
-IsChosen (Err word) status = IsUsage word status
+-- For the code alone: the version was told, or a front of it where the write failed.
+abbrev pub TellsVersion : Status → Option (List ℕ) → Option (List ℕ) → ℕ → ℕ → Type 0
+TellsVersion Done old new before after = Appends old new version_line
+TellsVersion OutFault old new before after =
+    ((rest : List ℕ) × Sent old new version_line rest) × Rose before after
+TellsVersion status old new before after = ⊥

@@ -1,32 +1,55 @@
--- The keys of a run: each byte is one key.
-use Rattle.std.specs.Prelude.{◌≡◌, ◌≤◌, ℕ, List, [], ◌∷◌, length, map, Option, ℤ, pos, Some, None}
+-- The keys and the moments of a run.
+use Rattle.std.specs.Prelude.{◌≡◌, ◌≤◌, ℕ, ℤ, pos, List, [], ◌∷◌, ◌++◌, length, Option, Some}
+use Rattle.std.specs.Prelude.{None}
 use Rattle.std.specs.Io.KnownBytes.{Consumes}
-use Rattle.mutt_run.specs.Events.{Happening, KeyPressed, FolderOpened, FolderRefused}
-use Rattle.mutt_run.specs.declared.key.Key.{Key}
-use Rattle.mutt_run.specs.declared.key.Key.TheVariants.{Char}
 use Rattle.folder_core.specs.Moments.{in_clock_range}
-
--- the most key bytes that are taken
-abbrev pub most_keys : ℕ
-most_keys = 16_777_216
+use Rattle.keymap.specs.Reader.{PlainReader, most_bytes}
+use Rattle.keymap.specs.Stream.{keys_of}
+use Rattle.keymap.specs.declared.key.Key.{Key}
+use Rattle.session.specs.Events.{Happening, FileRead, FileRefused, KeyPressed, FolderOpened}
+use Rattle.session.specs.Events.{FolderRefused}
 
 -- the keys that were pressed
 abbrev pub pressed_keys : List Happening → List Key
 pressed_keys [] = []
 pressed_keys (KeyPressed key moment ∷ events) = key ∷ pressed_keys events
+pressed_keys (FileRead path text marks ∷ events) = pressed_keys events
+pressed_keys (FileRefused path why marks ∷ events) = pressed_keys events
 pressed_keys (FolderOpened path kind moment came marks ∷ events) = pressed_keys events
 pressed_keys (FolderRefused path why marks ∷ events) = pressed_keys events
 
--- each byte is the character of its number
-abbrev pub keys_of : List ℕ → List Key
-keys_of bytes = map (λ b. Char b) bytes
+-- their moments
+abbrev pub pressed_moments : List Happening → List ℤ
+pressed_moments [] = []
+pressed_moments (KeyPressed key moment ∷ events) = moment ∷ pressed_moments events
+pressed_moments (FileRead path text marks ∷ events) = pressed_moments events
+pressed_moments (FileRefused path why marks ∷ events) = pressed_moments events
+pressed_moments (FolderOpened path kind moment came marks ∷ events) = pressed_moments events
+pressed_moments (FolderRefused path why marks ∷ events) = pressed_moments events
 
--- the bytes that were taken are those of the keys that were pressed
-pub record TakesKeys (old new : Option (List ℕ)) (events : List Happening) : Type 0 where
+-- Where a stream tells what it holds, its keys are those that were pressed and then those of the
+-- bytes that wait and of what is left.
+abbrev pub AreFirst : List Key → List ℕ → Option (List ℕ) → Option (List ℕ) → Type 0
+AreFirst pressed pending None left = Unit {0}
+AreFirst pressed pending (Some all) None = ⊥
+AreFirst pressed pending (Some all) (Some left) =
+    keys_of all ≡ pressed ++ keys_of (pending ++ left)
+
+-- A reader of keys took bytes of a stream, and these keys of them were pressed; at most three bytes
+-- wait, which do not tell a key yet.
+pub record TakesKeys (pressed : List Key) (reader : PlainReader) (old new : Option (List ℕ))
+    : Type 0 where
   pub bytes : List ℕ
-  pub keys : pressed_keys events ≡ keys_of bytes
   pub taken : Consumes old new bytes
-  pub few : length bytes ≤ most_keys
+  pub counted : reader.taken ≡ length bytes
+  pub few : reader.taken ≤ most_bytes
+  pub waiting : length reader.pending ≤ 3
+  pub keys : AreFirst pressed reader.pending old new
+
+-- the keys of a run were taken so by some reader
+pub record TakesSome (events : List Happening) (old new : Option (List ℕ)) : Type 0 where
+  pub reader : PlainReader
+  pub takes : TakesKeys (pressed_keys events) reader old new
 
 -- the moment that a clock gives next
 abbrev pub next_moment : List ℤ → ℤ
@@ -51,18 +74,14 @@ Gives None after moments = Unit {0}
 Gives (Some clock) None moments = ⊥
 Gives (Some clock) (Some left) moments = IsGiven clock left moments
 
--- the moments of the keys
-abbrev pub pressed_moments : List Happening → List ℤ
-pressed_moments [] = []
-pressed_moments (KeyPressed key moment ∷ events) = moment ∷ pressed_moments events
-pressed_moments (FolderOpened path kind moment came marks ∷ events) = pressed_moments events
-pressed_moments (FolderRefused path why marks ∷ events) = pressed_moments events
-
 -- the folder was opened at this moment, where it was
 abbrev pub IsStart : ℤ → List Happening → Type 0
 IsStart start [] = Unit {0}
 IsStart start (KeyPressed key moment ∷ events) = IsStart start events
-IsStart start (FolderOpened path kind moment came marks ∷ events) = (moment ≡ start) × IsStart start events
+IsStart start (FileRead path text marks ∷ events) = IsStart start events
+IsStart start (FileRefused path why marks ∷ events) = IsStart start events
+IsStart start (FolderOpened path kind moment came marks ∷ events) =
+    (moment ≡ start) × IsStart start events
 IsStart start (FolderRefused path why marks ∷ events) = IsStart start events
 
 -- the clock gave the moment of the start and then those of the keys

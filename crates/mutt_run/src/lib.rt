@@ -1,24 +1,15 @@
-//! A whole run of the reader: words and keys come in, screens go out. Call `run`, which has the
-//! theorem.
+//! A whole run of the reader: words, keys and moments come in, screens go out. Call `run`, which has
+//! the theorem; `Status` is its answer, and the `Trace` of a session tells what happened.
 #![tactic(auto)]
 
-mod columns;
-mod event;
-mod key;
+mod clock;
 mod note;
-mod open;
-mod options;
-mod place;
+mod printing;
 mod reader;
-mod row;
-mod screen;
-mod session;
 mod status;
-mod words;
+mod task;
+mod told;
+mod turning;
 
-pub use event::{Event, Events, Marks, OpenFault, Trace};
-pub use key::Key;
-pub use options::{Options, WordsError};
 pub use reader::run;
 pub use status::Status;
-pub use words::read_words;

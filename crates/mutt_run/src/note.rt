@@ -1,40 +1,16 @@
-//! What the end of a run tells on the fault stream.
+//! What the end of a run tells.
 
-ghost use Rattle.std.specs.Prelude.{◌≡◌, ◌≤◌, ◌⊎◌, ◌++◌, codes, IfOk, OnOk};
-ghost use Rattle.mail_base.specs.Faults.{Rose};
+ghost use Rattle.std.specs.Prelude.{◌≡◌, ◌++◌, codes, IfOk, OnOk};
 ghost use Rattle.mutt_run.specs.Notes as spec;
 
-use crate::event::OpenFault;
 use crate::status::Status;
 use folder_core::ScanError;
-use mail_base::{Bytes, NoMemory, Sink};
+use mail_base::{Bytes, NoMemory};
+use session::OpenFault;
 use std::alloc::Global;
 
-/// Tells on the fault stream how a run ended, in one write. Where that fails it ended with a fault
-/// of a stream.
-pub fn tell<E: Sink>(alloc: Global, errs: &mut E, path: &[u8], status: Status) -> Status
-    ensures tells { spec.TellsNote (λ end. end ≡ status)
-        (Rose (E.faults errs.old) (E.faults errs.new)) path.now result
-        (E.written errs.old) (E.written errs.new) }
-    ensures status { (result ≡ status) ⊎ (result ≡ Status.OutFault) ⊎ (result ≡ Status.NoMemory) }
-    ensures cause { (result ≡ status) ⊎ (result ≡ Status.NoMemory) ⊎ Rose (E.faults errs.old)
-        (E.faults errs.new) }
-    ensures later { E.faults errs.old ≤ E.faults errs.new }
-{
-    let Ok(note) = note(alloc, path, &status) else {
-        return Status::NoMemory;
-    };
-    if note.as_slice().is_empty() {
-        return status;
-    }
-    match errs.put_all(note.as_slice()) {
-        Ok(()) => status,
-        Err(_) => Status::OutFault,
-    }
-}
-
 /// What the end of a run tells.
-fn note(alloc: Global, path: &[u8], status: &Status) -> Result<Bytes, NoMemory>
+pub fn note(alloc: Global, path: &[u8], status: &Status) -> Result<Bytes, NoMemory>
     ensures { IfOk result (λ note. note.items ≡ spec.note path.now status.now) }
 {
     match status {
@@ -43,6 +19,7 @@ fn note(alloc: Global, path: &[u8], status: &Status) -> Result<Bytes, NoMemory>
         Status::NotOpened(why) => refusal_line(alloc, path, *why),
         Status::DiskFault => line(alloc, b"disk fault"),
         Status::KeysFault => line(alloc, b"keys fault"),
+        Status::Empty => empty_line(alloc, path),
         Status::TooManyKeys => line(alloc, b"too many keys"),
     }
 }
@@ -65,7 +42,15 @@ fn refusal_line(alloc: Global, path: &[u8], why: OpenFault) -> Result<Bytes, NoM
     line(alloc, text.as_slice())
 }
 
-/// Adds why a folder was not opened.
+fn empty_line(alloc: Global, path: &[u8]) -> Result<Bytes, NoMemory>
+    ensures { IfOk result (λ note. note.items ≡ spec.line_of (path.now ++ codes ": empty")) }
+{
+    let mut text = Bytes::copy_of(alloc, path)?;
+    text.append(b": empty")?;
+    line(alloc, text.as_slice())
+}
+
+// Adds why a folder was not opened.
 fn append_cause(alloc: Global, text: &mut Bytes, why: OpenFault) -> Result<(), NoMemory>
     ensures { OnOk result (text.new.items ≡ text.old.items ++ spec.cause why) }
 {
@@ -76,7 +61,7 @@ fn append_cause(alloc: Global, text: &mut Bytes, why: OpenFault) -> Result<(), N
     }
 }
 
-/// Adds why a folder was not read.
+// Adds why a folder was not read.
 fn append_scan_cause(alloc: Global, text: &mut Bytes, why: ScanError) -> Result<(), NoMemory>
     ensures { OnOk result (text.new.items ≡ text.old.items ++ spec.scan_cause why) }
 {
@@ -92,7 +77,7 @@ fn append_scan_cause(alloc: Global, text: &mut Bytes, why: ScanError) -> Result<
     }
 }
 
-/// Adds a text, a number and a closing parenthesis.
+// Adds a text, a number and a closing parenthesis.
 fn append_numbered(
     alloc: Global,
     text: &mut Bytes,
@@ -107,7 +92,7 @@ fn append_numbered(
     Ok(())
 }
 
-/// A line of the fault stream.
+// A line of the fault stream.
 fn line(alloc: Global, text: &[u8]) -> Result<Bytes, NoMemory>
     ensures { IfOk result (λ line. line.items ≡ spec.line_of text.now) }
 {

@@ -1,40 +1,40 @@
-//! A whole run, from the words to its end.
+//! A whole run, from the words of a command line to its end.
 
-ghost use Rattle.std.specs.Prelude.{◌≡◌, ◌≤◌, ◌⊎◌, ℕ, [], List, Any, IfErr, map};
+ghost use Rattle.std.specs.Prelude.{◌≡◌, ◌⊎◌, true, false, [], Ok, Any, IfErr, map};
 ghost use Rattle.std.specs.Io.KnownBytes.{Appends};
 ghost use Rattle.std.specs.List.{concat};
 ghost use Rattle.mail_base.specs.Faults.{Rose};
-ghost use Rattle.disk_model.specs.Judge.{GoesOn};
+ghost use Rattle.mail_base.specs.Series.{plain_texts};
 ghost use Rattle.disk_model.specs.Looking.{LooksOnly};
 ghost use Rattle.folder_core.specs.Letters.{plain_letter};
+ghost use Rattle.mutt_words.specs.Options.{IsUsable, plain_options};
+ghost use Rattle.mutt_words.specs.Words.{options_of};
+ghost use Rattle.session.specs.Events.{plain_events};
+ghost use Rattle.session.specs.Runs.{IsRunFrom};
+ghost use Rattle.session.specs.Telling.{Witnessed};
+ghost use Rattle.session_state.specs.declared.desk.Stage.TheVariants.{Over};
+ghost use Rattle.mutt_run.specs.Choice.{chosen, first_by, state_by};
 ghost use Rattle.mutt_run.specs.Complete.{IsPlainEnd, NamesReadable};
-ghost use Rattle.mutt_run.specs.Events.{plain_events};
-ghost use Rattle.mutt_run.specs.Happened.{AllCounted, AllHappened, AllListed};
-ghost use Rattle.mutt_run.specs.Taken.{Clocked};
-ghost use Rattle.mutt_run.specs.Notes.{TellsNote};
-ghost use Rattle.mutt_run.specs.Outside.{outside};
-ghost use Rattle.mutt_run.specs.Printed.{EndsAs, IsChosen, IsNoUsage, IsOver, Prints};
-ghost use Rattle.mutt_run.specs.Reading.{Reads};
-ghost use Rattle.mutt_run.specs.Runs.{IsRunFrom, Unopened, after_events, screens_from};
-ghost use Rattle.mutt_run.specs.Session.{CountsFaults};
-ghost use Rattle.mutt_run.specs.Taken.{TakesKeys};
-ghost use Rattle.mutt_run.specs.Words.{IsText, choice_of, chosen, folder_of, plain_options, plain_words};
+ghost use Rattle.mutt_run.specs.Ending.{AllListed, EndsAs, IsChosen};
+ghost use Rattle.mutt_run.specs.Notes.{Tells, folder_in};
+ghost use Rattle.mutt_run.specs.Printed.{Prints, TellsVersion, pieces_by};
+ghost use Rattle.mutt_run.specs.Reading.{CountsStreams, Reads, outside};
+ghost use Rattle.mutt_run.specs.Taken.{Clocked, TakesSome};
 ghost use Rattle.mutt_run.specs.declared.status.Status.TheVariants.{DiskFault, KeysFault, OutFault};
 
-use crate::event::Trace;
-use crate::note::tell;
-use crate::open::open;
-use crate::options::{Options, WordsError, folder_path};
-use crate::session::{now, session, show};
+use crate::clock::now;
+use crate::printing::print;
 use crate::status::Status;
-use crate::words::read_words;
+use crate::task::{answer, read};
+use crate::told::tell_end;
 use disk_model::Device;
 use folder_core::Drivers;
-use mail_base::{Clock, Sink, Source, Words};
+use mail_base::{Bytes, Clock, Sink, Source, Words};
+use mutt_words::{Options, WordsError, read_words};
+use session::{Event, Setup, Trace};
 use std::alloc::Global;
 
-/// Runs the reader on the words of a command line, from the opening of the folder to the end of the
-/// keys.
+/// Runs the reader on the words of a command line.
 pub fn run<K: Source, O: Sink, E: Sink, C: Clock>(
     alloc: Global,
     words: &Words,
@@ -48,60 +48,53 @@ pub fn run<K: Source, O: Sink, E: Sink, C: Clock>(
 ) -> Status
     requires archive { trace.old.archive.items ≡ [] }
     requires events { trace.old.events.items ≡ [] }
+    requires notes { trace.old.notes.items ≡ [] }
 
     // What the words decide.
-    ensures words { IsChosen (choice_of (plain_words words.now.items)) result }
+    ensures words { IsChosen (options_of (plain_texts words.now)) result }
+    // Words that are no command line do nothing.
+    ensures unopened { IfErr (options_of (plain_texts words.now))
+        (λ word. plain_events trace.new.events.items ≡ []) }
 
     // The events are a run, and it ends as the status says.
-    ensures run { IsRunFrom (chosen (plain_words words.now.items)) Unopened
+    ensures run { IsRunFrom (first_by (options_of (plain_texts words.now)))
         (plain_events trace.new.events.items) }
-    ensures ends { EndsAs (chosen (plain_words words.now.items)) result
-        (plain_events trace.new.events.items)
+    ensures ends { EndsAs (chosen (plain_texts words.now)) result
+        (plain_events trace.new.events.items) (K.left keys.old) (K.left keys.new) }
+    ensures keys { TakesSome (plain_events trace.new.events.items) (K.left keys.old)
         (K.left keys.new) }
-    ensures keys { TakesKeys (K.left keys.old) (K.left keys.new)
-        (plain_events trace.new.events.items) }
     ensures moments { Clocked (C.moments clock.old) (C.moments clock.new)
         (plain_events trace.new.events.items) }
 
     // What is printed and told.
-    ensures out { Prints result (screens_from (chosen (plain_words words.now.items))
-        (map plain_letter
-        trace.new.archive.items) Unopened
-        (plain_events trace.new.events.items)) (O.written out.old) (O.written out.new) }
-    ensures errs { TellsNote (λ status. EndsAs (chosen (plain_words words.now.items)) status
-        (plain_events trace.new.events.items) (K.left keys.new) × IsChosen
-        (choice_of (plain_words words.now.items)) status)
+    ensures out { Prints result (pieces_by (options_of (plain_texts words.now))
+        (map plain_letter trace.new.archive.items) (plain_events trace.new.events.items))
+        (O.written out.old) (O.written out.new) }
+    ensures errs { Tells (λ status. EndsAs (chosen (plain_texts words.now)) status
+        (plain_events trace.new.events.items) (K.left keys.old) (K.left keys.new)
+        × IsChosen (options_of (plain_texts words.now)) status)
         (Rose (E.faults errs.old) (E.faults errs.new))
-        (folder_of (chosen (plain_words words.now.items))) result
+        (state_by (options_of (plain_texts words.now)) (plain_events trace.new.events.items)).notes
+        (folder_in (plain_events trace.new.events.items)) result
         (E.written errs.old) (E.written errs.new) }
     // Behind the event that ends a run nothing is missing of its screens.
-    ensures whole { IsOver (after_events (chosen (plain_words words.now.items)) Unopened
-        (plain_events trace.new.events.items))
+    ensures whole { (state_by (options_of (plain_texts words.now))
+        (plain_events trace.new.events.items)).turn.stage ≡ Over
         → Appends (O.written out.old) (O.written out.new)
-        (concat (screens_from (chosen (plain_words words.now.items))
-        (map plain_letter trace.new.archive.items) Unopened
-        (plain_events trace.new.events.items))) }
+        (concat (pieces_by (options_of (plain_texts words.now))
+        (map plain_letter trace.new.archive.items) (plain_events trace.new.events.items))) }
 
-    // What the events say of the disk is true.
-    ensures happened { GoesOn (AllHappened (λ kind. Any (λ d. sort (d.vtable, d.value) ≡ kind)
-        drivers.old.list.items) (map plain_letter trace.new.archive.items) (plain_events
-        trace.new.events.items))
-        (seen (dev.old.disk.vtable, dev.old.disk.value)).told
-        (seen (dev.new.disk.vtable, dev.new.disk.value)).told }
-    ensures counted { AllCounted (λ kind. Any (λ d. sort (d.vtable, d.value) ≡ kind)
-        drivers.old.list.items)
+    // What the events say of the disk is true, and nothing is changed there.
+    ensures told { Witnessed (λ kind. Any (λ d. sort (d.vtable, d.value) ≡ kind)
+        drivers.old.list.items) (map plain_letter trace.new.archive.items)
+        (first_by (options_of (plain_texts words.now))) (plain_events trace.new.events.items)
         (seen (dev.old.disk.vtable, dev.old.disk.value))
-        (seen (dev.new.disk.vtable, dev.new.disk.value))
-        (plain_events trace.new.events.items) }
+        (seen (dev.new.disk.vtable, dev.new.disk.value)) }
     ensures looks { LooksOnly (seen (dev.old.disk.vtable, dev.old.disk.value)).told
         (seen (dev.new.disk.vtable, dev.new.disk.value)).told }
     ensures listed { AllListed (map plain_letter trace.new.archive.items)
         (plain_events trace.new.events.items) }
     ensures drivers { drivers.new.list.items ≡ drivers.old.list.items }
-
-    // Words that are no command line open nothing.
-    ensures unopened { IfErr (choice_of (plain_words words.now.items))
-        (λ word. plain_events trace.new.events.items ≡ []) }
 
     // A fault is answered only where its count rose.
     ensures disk_cause { result ≡ DiskFault → Rose
@@ -116,9 +109,8 @@ pub fn run<K: Source, O: Sink, E: Sink, C: Clock>(
     // keys.
     ensures complete { NamesReadable (λ kind. Any (λ d. sort (d.vtable, d.value) ≡ kind)
         drivers.old.list.items)
-        (choice_of (plain_words words.now.items))
-        (seen (dev.old.disk.vtable, dev.old.disk.value))
-        (seen (dev.new.disk.vtable, dev.new.disk.value))
+        (options_of (plain_texts words.now)) (plain_events trace.new.events.items)
+        (seen (dev.new.disk.vtable, dev.new.disk.value)).told
         → ¬ (Rose (seen (dev.old.disk.vtable, dev.old.disk.value)).faults
         (seen (dev.new.disk.vtable, dev.new.disk.value)).faults)
         → ¬ (Rose (K.faults keys.old) (K.faults keys.new)) → ¬
@@ -126,25 +118,20 @@ pub fn run<K: Source, O: Sink, E: Sink, C: Clock>(
         → ¬ (Rose (E.faults errs.old) (E.faults errs.new)) → IsPlainEnd result }
 {
     let moment = now(clock);
-    match read_words(alloc, words) {
-        Ok(options) => {
-            let status = read(
-                alloc, &options, moment, keys, out, dev, drivers, clock, trace,
-            );
-            tell(alloc, errs, folder_path(&options).as_bytes(), status)
-        }
-        Err(WordsError::Usage(word)) => tell(alloc, errs, b"mbox", Status::Usage(word)),
-        Err(WordsError::NoMemory) => Status::NoMemory,
-    }
+    let status = obey_words(
+        alloc, words, moment, keys, out, errs, dev, drivers, clock, trace,
+    );
+    tell_end(alloc, errs, looked_for(trace), status)
 }
 
-/// Opens the folder and goes on by keys, without a word on the fault stream.
-fn read<K: Source, O: Sink, C: Clock>(
+// Does what the words ask for, without the line of the end.
+fn obey_words<K: Source, O: Sink, E: Sink, C: Clock>(
     alloc: Global,
-    options: &Options,
+    words: &Words,
     moment: i64,
     keys: &mut K,
     out: &mut O,
+    errs: &mut E,
     dev: &mut Device,
     drivers: &Drivers,
     clock: &mut C,
@@ -152,27 +139,119 @@ fn read<K: Source, O: Sink, C: Clock>(
 ) -> Status
     requires archive { trace.old.archive.items ≡ [] }
     requires events { trace.old.events.items ≡ [] }
-    requires tall { 6 ≤ options.now.rows }
-    requires text { IsText options.now.folder }
-    ensures reading { Reads (plain_options options.now) moment
+    requires notes { trace.old.notes.items ≡ [] }
+    ensures reads { Reads (options_of (plain_texts words.now)) moment
         (λ kind. Any (λ d. sort (d.vtable, d.value) ≡ kind) drivers.now.list.items)
         (map plain_letter trace.new.archive.items) result (plain_events trace.new.events.items)
-        (outside (O.written out.old) (K.left keys.old) (C.moments clock.old)
-        (seen (dev.old.disk.vtable, dev.old.disk.value)))
-        (outside (O.written out.new) (K.left keys.new) (C.moments clock.new)
-        (seen (dev.new.disk.vtable, dev.new.disk.value))) }
-    ensures looks { LooksOnly (seen (dev.old.disk.vtable, dev.old.disk.value)).told
-        (seen (dev.new.disk.vtable, dev.new.disk.value)).told }
-    ensures no_usage { IsNoUsage result }
-    ensures faults { CountsFaults result (K.faults keys.old) (K.faults keys.new)
-        (O.faults out.old) (O.faults out.new) }
+        (outside (O.written out.old) (E.written errs.old) (E.faults errs.old) (K.left keys.old)
+        (C.moments clock.old) (seen (dev.old.disk.vtable, dev.old.disk.value)))
+        (outside (O.written out.new) (E.written errs.new) (E.faults errs.new) (K.left keys.new)
+        (C.moments clock.new) (seen (dev.new.disk.vtable, dev.new.disk.value))) }
+    ensures unopened { IfErr (options_of (plain_texts words.now))
+        (λ word. plain_events trace.new.events.items ≡ []) }
+    ensures faults { CountsStreams result (K.faults keys.old) (K.faults keys.new)
+        (O.faults out.old) (O.faults out.new) (E.faults errs.old) (E.faults errs.new) }
 {
-    let mut place = match open(alloc, options, moment, dev, drivers, trace) {
-        Ok(place) => place,
-        Err(status) => return status,
-    };
-    if let Err(status) = show(alloc, out, &trace.archive, &place) {
-        return status;
+    match read_words(alloc, words) {
+        Ok(options) => obey(
+            alloc, options, moment, keys, out, errs, dev, drivers, clock, trace,
+        ),
+        Err(WordsError::Usage(word)) => Status::Usage(word),
+        Err(WordsError::NoMemory) => Status::NoMemory,
     }
-    session(alloc, keys, out, clock, &mut place, trace)
+}
+
+// Does what the options ask for.
+fn obey<K: Source, O: Sink, E: Sink, C: Clock>(
+    alloc: Global,
+    options: Options,
+    moment: i64,
+    keys: &mut K,
+    out: &mut O,
+    errs: &mut E,
+    dev: &mut Device,
+    drivers: &Drivers,
+    clock: &mut C,
+    trace: &mut Trace,
+) -> Status
+    requires archive { trace.old.archive.items ≡ [] }
+    requires events { trace.old.events.items ≡ [] }
+    requires notes { trace.old.notes.items ≡ [] }
+    requires usable { IsUsable options }
+    ensures reads { Reads (Ok (plain_options options)) moment
+        (λ kind. Any (λ d. sort (d.vtable, d.value) ≡ kind) drivers.now.list.items)
+        (map plain_letter trace.new.archive.items) result (plain_events trace.new.events.items)
+        (outside (O.written out.old) (E.written errs.old) (E.faults errs.old) (K.left keys.old)
+        (C.moments clock.old) (seen (dev.old.disk.vtable, dev.old.disk.value)))
+        (outside (O.written out.new) (E.written errs.new) (E.faults errs.new) (K.left keys.new)
+        (C.moments clock.new) (seen (dev.new.disk.vtable, dev.new.disk.value))) }
+    ensures faults { CountsStreams result (K.faults keys.old) (K.faults keys.new)
+        (O.faults out.old) (O.faults out.new) (E.faults errs.old) (E.faults errs.new) }
+{
+    if options.version {
+        return tell_version(out);
+    }
+    let Options {
+        folder,
+        rc,
+        commands,
+        query,
+        read_only,
+        skip_empty,
+        kind,
+        rows,
+        cols,
+        offset,
+        owner,
+        ..
+    } = options;
+    let setup = Setup {
+        path: folder,
+        rc,
+        commands,
+        kind,
+        owner,
+        read_only,
+        rows,
+        cols,
+        offset,
+    };
+    if are_asked(query.as_slice()) {
+        return answer(alloc, setup, &query, out, errs, dev, trace);
+    }
+    read(
+        alloc, setup, skip_empty, moment, keys, out, errs, dev, drivers, clock, trace,
+    )
+}
+
+// Whether variables are asked for.
+fn are_asked(names: &[Bytes]) -> bool
+    ensures some { result ≡ true → names.now ≡ [] → ⊥ }
+    ensures none { result ≡ false → names.now ≡ [] }
+{
+    !names.is_empty()
+}
+
+fn tell_version<O: Sink>(out: &mut O) -> Status
+    ensures { TellsVersion result (O.written out.old) (O.written out.new) (O.faults out.old)
+        (O.faults out.new) }
+{
+    match print(out, b"mutt_main 1.0\n") {
+        Ok(()) => Status::Done,
+        Err(status) => status,
+    }
+}
+
+// The path of the folder that was looked for, where one was.
+fn looked_for(trace: &Trace) -> &[u8]
+    ensures { result.now ≡ folder_in (plain_events trace.now.events.items) }
+{
+    let mut left = trace.events.as_slice();
+    while let Some((event, rest)) = left.split_first() {
+        if let Event::Opened { path, .. } | Event::NotOpened { path, .. } = event {
+            return path.as_slice();
+        }
+        left = rest;
+    }
+    b""
 }

@@ -2,8 +2,8 @@
 
 ghost use Rattle.std.specs.Prelude.{◌≡◌};
 
-use crate::event::OpenFault;
 use mail_base::Bytes;
+use session::OpenFault;
 
 /// How a run ended.
 #[derive(Drop)]
@@ -22,6 +22,8 @@ pub enum Status {
     OutFault,
     /// Memory ran out.
     NoMemory,
+    /// The folder is empty, and an empty one is not shown.
+    Empty,
     /// A further key was needed when 16,777,216 had been taken.
     TooManyKeys,
 }
@@ -41,6 +43,7 @@ impl Status {
             Status::KeysFault => 4,
             Status::OutFault => 5,
             Status::NoMemory => 6,
+            Status::Empty => 7,
             Status::TooManyKeys => 8,
         }
     }

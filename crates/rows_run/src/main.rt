@@ -27,5 +27,6 @@ fn main(rt: HostRuntime) -> io::Result<ExitCode> {
 fn play_all(rt: &HostRuntime, report: &mut Report) -> Result<(), NoMemory> {
     play_file(rt, &FolderKinds, "kinds", report)?;
     play_file(rt, &Scans, "scans", report)?;
-    play_file(rt, &WholeRuns, "runs", report)
+    play_file(rt, &WholeRuns, "runs", report)?;
+    play_file(rt, &WholeRuns, "runs_rc", report)
 }

@@ -6,11 +6,12 @@ use case_disks::{disk_of, numbers_of, text_of, words_of};
 use case_files::{Answer, Case, CaseFault, Subject};
 use disk_model::{Device, Disk};
 use folder_core::{Archive, Drivers};
-use mail_base::{Bytes, MemoryClock, MemorySink, MemorySource, Words};
+use mail_base::{Bytes, Lines, MemoryClock, MemorySink, MemorySource, Words};
 use maildir_folder::MaildirDriver;
 use mbox_folder::MboxDriver;
 use mh_folder::MhDriver;
-use mutt_run::{Event, Events, Trace, run};
+use mutt_run::run;
+use session::{Event, Events, Trace};
 use std::alloc::Global;
 
 /// The most bytes that a case prints.
@@ -102,6 +103,7 @@ fn end_of_run(
     let mut trace = Trace {
         archive: Archive::new(alloc),
         events: Events::new(alloc),
+        notes: Lines::new(alloc),
     };
     let status = run(
         alloc,

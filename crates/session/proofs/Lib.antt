@@ -1,5 +1,5 @@
 mod Looked
-mod TellingLemmas
+pub mod TellingLemmas
 mod SettlingLemmas
 pub mod StepsLemmas
 mod BeginningLemmas

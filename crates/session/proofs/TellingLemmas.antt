@@ -144,7 +144,7 @@ module _ (Has : Kind → Type 0) where
         → GoesOn (Happened Has (kind_in t) archive event) mid new → LooksOnly mid new
         → IsTold Has archive s (events ++ event ∷ []) first new
     told_push s t events event counts marks low high None mid new here told counted at is before
-        after lows highs h looks = tt
+        after lows highs h looks = looks_then None mid new told looks
     told_push s t events event counts marks low high (Some f) None new here told counted at is
         before after lows highs h looks = absurd told
     told_push s t events event counts marks low high (Some f) (Some m) None here told counted at is
@@ -194,7 +194,7 @@ module _ (Has : Kind → Type 0) where
     key_told : (s : State) (events : List Happening) (key : Key) (moment : ℤ)
         (first now : Option Past) → IsTold Has archive s events first now
         → IsTold Has archive s (events ++ KeyPressed key moment ∷ []) first now
-    key_told s events key moment None now h = tt
+    key_told s events key moment None now h = h
     key_told s events key moment (Some f) None h = absurd h
     key_told s events key moment (Some f) (Some n) h = (
       h.0,
@@ -213,7 +213,7 @@ module _ (Has : Kind → Type 0) where
     }
 
     none_told : (s : State) (told : Option Past) → IsTold Has archive s [] told told
-    none_told s None = tt
+    none_told s None = refl
     none_told s (Some past) = (looks_same (Some past), tt)
 
     -- no event
@@ -317,7 +317,7 @@ module _ (Has Other : Kind → Type 0) where
   files_told : (archive : List Mail) (s : State) (events : List Happening)
       (first now : Option Past) → AreFiles events → IsTold Has archive s events first now
       → IsTold Other archive s events first now
-  files_told archive s events None now are h = tt
+  files_told archive s events None now are h = h
   files_told archive s events (Some first) None are h = absurd h
   files_told archive s events (Some first) (Some now) are h =
       (h.0, files_true archive s events now are h.1)

@@ -36,10 +36,10 @@ pub record Tells (Has : Kind → Type 0) (empty : Kind) (archive : List Mail) (e
   pub first : IsMarked old
   pub last : IsMarked new
 
--- where a past is told
+-- where a past is told, it stays told; where it is not, it stays untold
 abbrev pub IsTold : (Kind → Type 0) → List Mail → State → List Happening → Option Past → Option Past
     → Type 0
-IsTold Has archive s events None now = Unit {0}
+IsTold Has archive s events None now = now ≡ None
 IsTold Has archive s events (Some first) None = ⊥
 IsTold Has archive s events (Some first) (Some now) =
     HasLooked first now × AllHappened Has archive s events now

@@ -1,0 +1,330 @@
+-- How keys and moments are taken.
+use Rattle.std.proofs.Common.{◌≡◌, ◌+◌, ◌≤◌, ◌<◌, ◌⊎◌, inl, inr, ℕ, ℤ, true, List, [], ◌∷◌, ◌++◌}
+use Rattle.std.proofs.Common.{Option, Some, None, length, drop, refl, sym, ◌∙◌, ap, subst}
+use Rattle.std.proofs.Common.{append_assoc}
+use Rattle.std.proofs.Common.{arith, length-append}
+use Rattle.std.proofs.lemmas.List.{append-nil, length-drop}
+use Rattle.std.specs.Io.KnownBytes.{Consumes, IsAtEnd}
+use Rattle.keymap.specs.Reader.{PlainReader, most_bytes, Begins, Gives as GivesKey, Stops}
+use Rattle.keymap.specs.Stream.{first_key, is_open, keys_of}
+use Rattle.keymap.specs.declared.key.Key.{Key}
+use Rattle.keymap.specs.declared.key_reader.KeyFault.{KeyFault}
+use Rattle.session.specs.Events.{Happening, FileRead, FileRefused, KeyPressed, FolderOpened}
+use Rattle.session.specs.Events.{FolderRefused}
+use Rattle.mail_base.specs.declared.kind.Kind.{Kind}
+use Rattle.disk_model.specs.Seen.{Seen}
+use Rattle.folder_core.specs.Letters.{Mail}
+use Rattle.session.specs.Runs.{State}
+use Rattle.session.specs.Telling.{Witnessed}
+use Rattle.session_state.specs.declared.desk.Stage.{Stage}
+use Rattle.session_state.specs.declared.desk.Stage.TheVariants.{Idle, Over}
+use Rattle.mutt_run.specs.Going.{AreKeys, GoesToEnd, Presses}
+use Rattle.mutt_run.specs.declared.status.Status.{Status}
+use Rattle.mutt_run.specs.declared.status.Status.TheVariants.{Done, KeysFault, OutFault}
+use Rattle.mutt_run.specs.declared.status.Status.TheVariants.{NoMemory}
+use Rattle.mutt_run.specs.declared.status.Status.TheVariants.{TooManyKeys}
+use Rattle.mutt_run.specs.Taken.{AreFirst, Gives, IsGiven, later_moments}
+use Rattle.mutt_run.specs.Taken.{pressed_keys}
+use Rattle.mutt_run.specs.Taken.{pressed_moments}
+
+-- Lists of events that grow.
+
+pub keys-append : (xs ys : List Happening)
+    → pressed_keys (xs ++ ys) ≡ pressed_keys xs ++ pressed_keys ys
+keys-append [] ys = refl
+keys-append (KeyPressed key moment ∷ xs) ys =
+    ap (λ (l : List Key). key ∷ l) (keys-append xs ys)
+keys-append (FileRead path text marks ∷ xs) ys = keys-append xs ys
+keys-append (FileRefused path why marks ∷ xs) ys = keys-append xs ys
+keys-append (FolderOpened path kind moment came marks ∷ xs) ys = keys-append xs ys
+keys-append (FolderRefused path why marks ∷ xs) ys = keys-append xs ys
+
+pub moments-append : (xs ys : List Happening)
+    → pressed_moments (xs ++ ys) ≡ pressed_moments xs ++ pressed_moments ys
+moments-append [] ys = refl
+moments-append (KeyPressed key moment ∷ xs) ys =
+    ap (λ (l : List ℤ). moment ∷ l) (moments-append xs ys)
+moments-append (FileRead path text marks ∷ xs) ys = moments-append xs ys
+moments-append (FileRefused path why marks ∷ xs) ys = moments-append xs ys
+moments-append (FolderOpened path kind moment came marks ∷ xs) ys = moments-append xs ys
+moments-append (FolderRefused path why marks ∷ xs) ys = moments-append xs ys
+
+are_keys-append : (xs : List Happening) (key : Key) (moment : ℤ) → AreKeys xs
+    → AreKeys (xs ++ KeyPressed key moment ∷ [])
+are_keys-append [] key moment h = tt
+are_keys-append (KeyPressed k m ∷ xs) key moment h = are_keys-append xs key moment h
+are_keys-append (FileRead path text marks ∷ xs) key moment h = absurd h
+are_keys-append (FileRefused path why marks ∷ xs) key moment h = absurd h
+are_keys-append (FolderOpened path kind at came marks ∷ xs) key moment h = absurd h
+are_keys-append (FolderRefused path why marks ∷ xs) key moment h = absurd h
+
+-- Streams that go on.
+
+pub consumes_none : (a : Option (List ℕ)) → Consumes a a []
+consumes_none None = tt
+consumes_none (Some xs) = refl
+
+consumes_then : (a b c : Option (List ℕ)) (x y : List ℕ) → Consumes a b x → Consumes b c y
+    → Consumes a c (x ++ y)
+consumes_then None b c x y h k = tt
+consumes_then (Some s) None c x y h k = absurd h
+consumes_then (Some s) (Some t) None x y h k = absurd k
+consumes_then (Some s) (Some t) (Some u) x y h k =
+    h ∙ ap (λ (l : List ℕ). x ++ l) k ∙ sym (append_assoc x y u)
+
+pub gives_none : (a : Option (List ℤ)) → Gives a a []
+gives_none None = tt
+gives_none (Some ms) = refl
+
+given_then : (a b c xs ys : List ℤ) → IsGiven a b xs → IsGiven b c ys → IsGiven a c (xs ++ ys)
+given_then a b c [] ys h k = subst (λ (l : List ℤ). IsGiven l c ys) h k
+given_then a b c (x ∷ xs) ys h k = (h.0, given_then (later_moments a) b c xs ys h.1 k)
+
+pub gives_then : (a b c : Option (List ℤ)) (xs ys : List ℤ) → Gives a b xs → Gives b c ys
+    → Gives a c (xs ++ ys)
+gives_then None b c xs ys h k = tt
+gives_then (Some s) None c xs ys h k = absurd h
+gives_then (Some s) (Some t) None xs ys h k = absurd k
+gives_then (Some s) (Some t) (Some u) xs ys h k = given_then s t u xs ys h k
+
+-- Keys that go on.
+
+pub first_none : (left : Option (List ℕ)) → AreFirst [] [] left left
+first_none None = tt
+first_none (Some left) = refl
+
+first_key_more : (pressed : List Key) (key : Key) (pending pending' : List ℕ)
+    (a b c : Option (List ℕ)) → AreFirst pressed pending a b
+    → Begins (Some key) pending b pending' c
+    → AreFirst (pressed ++ key ∷ []) pending' a c
+first_key_more pressed key pending pending' None b c h k = tt
+first_key_more pressed key pending pending' (Some all) None c h k = absurd h
+first_key_more pressed key pending pending' (Some all) (Some left) None h k = absurd k
+first_key_more pressed key pending pending' (Some all) (Some left) (Some left') h k =
+    h ∙ ap (λ (l : List Key). pressed ++ l) k
+    ∙ sym (append_assoc pressed (key ∷ []) (keys_of (pending' ++ left')))
+
+first_end : (pressed : List Key) (pending pending' : List ℕ) (a b c : Option (List ℕ))
+    → AreFirst pressed pending a b → Begins None pending b pending' c
+    → AreFirst pressed pending' a c
+first_end pressed pending pending' None b c h k = tt
+first_end pressed pending pending' (Some all) None c h k = absurd h
+first_end pressed pending pending' (Some all) (Some left) None h k = absurd k
+first_end pressed pending pending' (Some all) (Some left) (Some left') h k =
+    h ∙ ap (λ (l : List Key). pressed ++ l) k
+
+first_wait : (pressed : List Key) (pending more : List ℕ) (a b c : Option (List ℕ))
+    → AreFirst pressed pending a b → Consumes b c more → AreFirst pressed (pending ++ more) a c
+first_wait pressed pending more None b c h k = tt
+first_wait pressed pending more (Some all) None c h k = absurd h
+first_wait pressed pending more (Some all) (Some left) None h k = absurd k
+first_wait pressed pending more (Some all) (Some left) (Some left') h k =
+    h ∙ ap (λ (l : List ℕ). pressed ++ keys_of (pending ++ l)) k
+    ∙ ap (λ (l : List ℕ). pressed ++ keys_of l) (sym (append_assoc pending more left'))
+
+pub presses_none : (events : List Happening) (keys : Option (List ℕ)) (clock : Option (List ℤ))
+    → Presses events events (record { pending = []; taken = 0 }) keys keys clock clock
+presses_none events keys clock = record {
+  more = [];
+  are_keys = tt;
+  events_are = sym (append-nil events);
+  takes = record {
+    bytes = [];
+    taken = consumes_none keys;
+    counted = refl;
+    few = omega arith;
+    waiting = omega arith;
+    keys = first_none keys;
+  };
+  given = gives_none clock;
+}
+
+module _ (first now : List Happening) (old : PlainReader) (keys0 keys1 keys2 : Option (List ℕ))
+    (clock0 clock1 : Option (List ℤ)) (presses : Presses first now old keys0 keys1 clock0 clock1)
+    (new : PlainReader) (short : length new.pending ≤ 3) where
+  -- a key was given and is pressed
+  pub presses_key : (key : Key) (moment : ℤ) (clock2 : Option (List ℤ)) (later : List Happening)
+      → GivesKey (Some key) old new keys1 keys2 → Gives clock1 clock2 (moment ∷ [])
+      → later ≡ now ++ KeyPressed key moment ∷ []
+      → Presses first later new keys0 keys2 clock0 clock2
+  presses_key key moment clock2 later gives tick is = record {
+    more = presses.more ++ KeyPressed key moment ∷ [];
+    are_keys = are_keys-append presses.more key moment presses.are_keys;
+    events_are = is ∙ ap (λ (l : List Happening). l ++ KeyPressed key moment ∷ [])
+        presses.events_are
+        ∙ append_assoc first presses.more (KeyPressed key moment ∷ []);
+    takes = record {
+      bytes = presses.takes.bytes ++ gives.more;
+      taken = consumes_then keys0 keys1 keys2 presses.takes.bytes gives.more presses.takes.taken
+          gives.takes.taken;
+      counted = omega (
+        arith,
+        presses.takes.counted,
+        gives.takes.counted,
+        length-append presses.takes.bytes gives.more,
+      );
+      few = gives.takes.within;
+      waiting = short;
+      keys = subst (λ (l : List Key). AreFirst l new.pending keys0 keys2)
+          (sym (keys-append presses.more (KeyPressed key moment ∷ [])))
+          (first_key_more (pressed_keys presses.more) key old.pending new.pending keys0 keys1 keys2
+          presses.takes.keys gives.begins);
+    };
+    given = subst (λ (l : List ℤ). Gives clock0 clock2 l)
+        (sym (moments-append presses.more (KeyPressed key moment ∷ [])))
+        (gives_then clock0 clock1 clock2 (pressed_moments presses.more) (moment ∷ []) presses.given
+        tick);
+  }
+
+  module _ (same : List Happening) (same_is : same ≡ now) where
+    -- the keys are at their end
+    pub presses_end : GivesKey None old new keys1 keys2
+        → Presses first same new keys0 keys2 clock0 clock1
+    presses_end gives = record {
+      more = presses.more;
+      are_keys = presses.are_keys;
+      events_are = same_is ∙ presses.events_are;
+      takes = record {
+        bytes = presses.takes.bytes ++ gives.more;
+        taken = consumes_then keys0 keys1 keys2 presses.takes.bytes gives.more presses.takes.taken
+            gives.takes.taken;
+        counted = omega (
+          arith,
+          presses.takes.counted,
+          gives.takes.counted,
+          length-append presses.takes.bytes gives.more,
+        );
+        few = gives.takes.within;
+        waiting = short;
+        keys = first_end (pressed_keys presses.more) old.pending new.pending keys0 keys1 keys2
+            presses.takes.keys gives.begins;
+      };
+      given = presses.given;
+    }
+
+    -- no key was given
+    pub presses_stop : (fault : KeyFault) → Stops fault old new keys1 keys2
+        → Presses first same new keys0 keys2 clock0 clock1
+    presses_stop fault stops = record {
+      more = presses.more;
+      are_keys = presses.are_keys;
+      events_are = same_is ∙ presses.events_are;
+      takes = record {
+        bytes = presses.takes.bytes ++ stops.more;
+        taken = consumes_then keys0 keys1 keys2 presses.takes.bytes stops.more presses.takes.taken
+            stops.takes.taken;
+        counted = omega (
+          arith,
+          presses.takes.counted,
+          stops.takes.counted,
+          length-append presses.takes.bytes stops.more,
+        );
+        few = stops.takes.within;
+        waiting = short;
+        keys = subst (λ (l : List ℕ). AreFirst (pressed_keys presses.more) l keys0 keys2)
+            (sym stops.pending)
+            (first_wait (pressed_keys presses.more) old.pending stops.more keys0 keys1 keys2
+            presses.takes.keys stops.takes.taken);
+      };
+      given = presses.given;
+    }
+
+-- nothing was taken meanwhile
+pub presses_same : (first now same : List Happening) (reader : PlainReader)
+    (keys0 keys1 : Option (List ℕ)) (clock0 clock1 : Option (List ℤ))
+    → Presses first now reader keys0 keys1 clock0 clock1 → same ≡ now
+    → Presses first same reader keys0 keys1 clock0 clock1
+presses_same first now same reader keys0 keys1 clock0 clock1 presses is =
+    subst (λ (l : List Happening). Presses first l reader keys0 keys1 clock0 clock1) (sym is)
+    presses
+
+-- at the end of the keys nothing waits
+pub ended_keys : (old new : PlainReader) (left left' : Option (List ℕ))
+    → GivesKey None old new left left'
+    → (new.pending ≡ []) × IsAtEnd left' × (new.taken < most_bytes)
+ended_keys old new left left' gives =
+    let ended = gives.ended (ap is_open gives.first.0) in (gives.first.1, ended.0, ended.1)
+
+-- How the keys end.
+
+pub presses_new : (events : List Happening) (reader : PlainReader) (keys : Option (List ℕ))
+    (clock : Option (List ℤ)) → reader ≡ record { pending = []; taken = 0 }
+    → Presses events events reader keys keys clock clock
+presses_new events reader keys clock is =
+    subst (λ (r : PlainReader). Presses events events r keys keys clock clock) (sym is)
+    (presses_none events keys clock)
+
+module _ (first same : List Happening) (reader : PlainReader) (keys0 keys1 : Option (List ℕ))
+    (clock0 clock1 : Option (List ℤ)) (presses : Presses first same reader keys0 keys1 clock0
+    clock1)
+    (stage : Stage) where
+  -- a stream failed, or memory ran out
+  pub ends_broken : (status : Status) → (status ≡ OutFault) ⊎ (status ≡ NoMemory)
+      → GoesToEnd status first same stage keys0 keys1 clock0 clock1
+  ends_broken status (inl is) =
+      subst (λ (st : Status). GoesToEnd st first same stage keys0 keys1 clock0 clock1) (sym is)
+      (record { reader = reader; presses = presses; ends = tt })
+  ends_broken status (inr is) =
+      subst (λ (st : Status). GoesToEnd st first same stage keys0 keys1 clock0 clock1) (sym is)
+      (record { reader = reader; presses = presses; ends = tt })
+
+  pub ends_over : stage ≡ Over → GoesToEnd Done first same stage keys0 keys1 clock0 clock1
+  ends_over over = record { reader = reader; presses = presses; ends = inl over }
+
+  pub ends_done : stage ≡ Idle → (reader.pending ≡ []) × IsAtEnd keys1 × (reader.taken < most_bytes)
+      → GoesToEnd Done first same stage keys0 keys1 clock0 clock1
+  ends_done idle ended = record {
+    reader = reader;
+    presses = presses;
+    ends = inr (idle, ended.0, ended.1, ended.2);
+  }
+
+  pub ends_fault : stage ≡ Idle → (is_open reader.pending ≡ true) × (reader.taken < most_bytes)
+      → GoesToEnd KeysFault first same stage keys0 keys1 clock0 clock1
+  ends_fault idle cause =
+      record { reader = reader; presses = presses; ends = (idle, cause.0, cause.1) }
+
+  pub ends_limit : stage ≡ Idle → (is_open reader.pending ≡ true) × (reader.taken ≡ most_bytes)
+      → GoesToEnd TooManyKeys first same stage keys0 keys1 clock0 clock1
+  ends_limit idle cause =
+      record { reader = reader; presses = presses; ends = (idle, cause.0, cause.1) }
+
+-- each key took a byte
+pub counted_key : (key : Key) (old new : PlainReader) (left left' : Option (List ℕ)) (turns : ℕ)
+    → GivesKey (Some key) old new left left' → turns + length old.pending ≤ old.taken
+    → turns + 1 + length new.pending ≤ new.taken
+counted_key key old new left left' turns gives count =
+    let all : List ℕ = old.pending ++ gives.more in
+    omega (
+      arith,
+      count,
+      gives.takes.counted,
+      length-append old.pending gives.more,
+      gives.first.0,
+      ap length gives.first.2,
+      length-drop (first_key all).more (drop 1 all),
+      length-drop 1 all,
+    )
+
+nothing_in : (bytes : List ℕ) → length bytes ≤ 0 → bytes ≡ []
+nothing_in [] low = refl
+nothing_in (b ∷ bytes) low = absurd (omega (arith, low))
+
+-- as many keys were pressed as bytes may be taken
+pub full_reader : (reader : PlainReader) → most_bytes + length reader.pending ≤ reader.taken
+    → reader.taken ≤ most_bytes → (is_open reader.pending ≡ true) × (reader.taken ≡ most_bytes)
+full_reader reader many few =
+    (ap is_open (nothing_in reader.pending (omega (arith, many, few))), omega (arith, many, few))
+
+pub pushed_on : (now mid later : List Happening) (key : Key) (moment given : ℤ) → mid ≡ now
+    → given ≡ moment → later ≡ mid ++ KeyPressed key given ∷ []
+    → later ≡ now ++ KeyPressed key moment ∷ []
+pushed_on now mid later key moment given same is put =
+    put ∙ ap (λ (l : List Happening). l ++ KeyPressed key given ∷ []) same
+    ∙ ap (λ (m : ℤ). now ++ KeyPressed key m ∷ []) is
+
+pub told_same : {Has : Kind → Type 0} {archive : List Mail} {first : State}
+    {events same : List Happening} {before seen : Seen} → same ≡ events
+    → Witnessed Has archive first events before seen → Witnessed Has archive first same before seen
+told_same {Has} {archive} {first} {events} {same} {before} {seen} is h =
+    subst (λ (l : List Happening). Witnessed Has archive first l before seen) (sym is) h

@@ -1,0 +1,237 @@
+-- A whole run, put together of what was done.
+use Rattle.std.proofs.Common.{◌≡◌, ℕ, ℤ, List, [], ◌∷◌, ◌++◌, Option}
+use Rattle.std.proofs.Common.{refl, sym, ◌∙◌, ap, subst, append_assoc}
+use Rattle.std.proofs.lemmas.List.{append-nil}
+use Rattle.mail_base.specs.declared.kind.Kind.{Kind}
+use Rattle.mail_base.proofs.Sending.{appends_none}
+use Rattle.disk_model.specs.Seen.{Seen}
+use Rattle.folder_core.specs.Letters.{Mail}
+use Rattle.mutt_words.specs.Options.{PlainOptions}
+use Rattle.session.specs.Beginning.{AreOpening, BeginsRun}
+use Rattle.session.specs.Events.{AreFiles, Happening, FileRead, FileRefused, KeyPressed}
+use Rattle.session.specs.Events.{FolderOpened, FolderRefused}
+use Rattle.session.specs.Runs.{State, after, after_events, screens_from, shown}
+use Rattle.session.specs.Runs.{stage_screens, taken_at}
+use Rattle.session.specs.Steps.{Stands}
+use Rattle.session_state.specs.declared.desk.Stage.{Stage}
+use Rattle.session_state.specs.declared.desk.Stage.TheVariants.{Unopened, Pushing, Idle, Ready}
+use Rattle.session_state.specs.declared.desk.Stage.TheVariants.{Over}
+use Rattle.mutt_run.specs.Choice.{first_of}
+use Rattle.mutt_run.specs.Ending.{AllListed}
+use Rattle.mutt_run.specs.Going.{AreKeys, Breaks}
+use Rattle.mutt_run.specs.Taken.{IsStart, pressed_keys, pressed_moments}
+use Rattle.mutt_run.proofs.ScreensLemmas.{breaks_unshown}
+
+-- Files of commands and an opening, and keys behind them.
+
+files_keys : (files rest : List Happening) → AreFiles files
+    → pressed_keys (files ++ rest) ≡ pressed_keys rest
+files_keys [] rest are = refl
+files_keys (FileRead path text marks ∷ files) rest are = files_keys files rest are.1
+files_keys (FileRefused path why marks ∷ files) rest are = files_keys files rest are.1
+files_keys (KeyPressed key moment ∷ files) rest are = absurd are.0
+files_keys (FolderOpened path kind moment came marks ∷ files) rest are = absurd are.0
+files_keys (FolderRefused path why marks ∷ files) rest are = absurd are.0
+
+files_moments : (files rest : List Happening) → AreFiles files
+    → pressed_moments (files ++ rest) ≡ pressed_moments rest
+files_moments [] rest are = refl
+files_moments (FileRead path text marks ∷ files) rest are = files_moments files rest are.1
+files_moments (FileRefused path why marks ∷ files) rest are = files_moments files rest are.1
+files_moments (KeyPressed key moment ∷ files) rest are = absurd are.0
+files_moments (FolderOpened path kind moment came marks ∷ files) rest are = absurd are.0
+files_moments (FolderRefused path why marks ∷ files) rest are = absurd are.0
+
+files_start : (start : ℤ) (files rest : List Happening) → AreFiles files → IsStart start rest
+    → IsStart start (files ++ rest)
+files_start start [] rest are h = h
+files_start start (FileRead path text marks ∷ files) rest are h =
+    files_start start files rest are.1 h
+files_start start (FileRefused path why marks ∷ files) rest are h =
+    files_start start files rest are.1 h
+files_start start (KeyPressed key moment ∷ files) rest are h = absurd are.0
+files_start start (FolderOpened path kind moment came marks ∷ files) rest are h = absurd are.0
+files_start start (FolderRefused path why marks ∷ files) rest are h = absurd are.0
+
+files_listed : (letters : List Mail) (files rest : List Happening) → AreFiles files
+    → AllListed letters rest → AllListed letters (files ++ rest)
+files_listed letters [] rest are h = h
+files_listed letters (FileRead path text marks ∷ files) rest are h =
+    (tt, files_listed letters files rest are.1 h)
+files_listed letters (FileRefused path why marks ∷ files) rest are h =
+    (tt, files_listed letters files rest are.1 h)
+files_listed letters (KeyPressed key moment ∷ files) rest are h = absurd are.0
+files_listed letters (FolderOpened path kind moment came marks ∷ files) rest are h = absurd are.0
+files_listed letters (FolderRefused path why marks ∷ files) rest are h = absurd are.0
+
+keys_start : (start : ℤ) (keys : List Happening) → AreKeys keys → IsStart start keys
+keys_start start [] are = tt
+keys_start start (KeyPressed key moment ∷ keys) are = keys_start start keys are
+keys_start start (FileRead path text marks ∷ keys) are = absurd are
+keys_start start (FileRefused path why marks ∷ keys) are = absurd are
+keys_start start (FolderOpened path kind moment came marks ∷ keys) are = absurd are
+keys_start start (FolderRefused path why marks ∷ keys) are = absurd are
+
+keys_listed : (letters : List Mail) (keys : List Happening) → AreKeys keys → AllListed letters keys
+keys_listed letters [] are = tt
+keys_listed letters (KeyPressed key moment ∷ keys) are = (tt, keys_listed letters keys are)
+keys_listed letters (FileRead path text marks ∷ keys) are = absurd are
+keys_listed letters (FileRefused path why marks ∷ keys) are = absurd are
+keys_listed letters (FolderOpened path kind moment came marks ∷ keys) are = absurd are
+keys_listed letters (FolderRefused path why marks ∷ keys) are = absurd are
+
+opening_keys : (start : ℤ) (letters : List Mail) (opening rest : List Happening)
+    → AreOpening start letters opening → pressed_keys (opening ++ rest) ≡ pressed_keys rest
+opening_keys start letters [] rest opens = refl
+opening_keys start letters (FolderOpened path kind moment came marks ∷ []) rest opens = refl
+opening_keys start letters (FolderRefused path why marks ∷ []) rest opens = refl
+opening_keys start letters (FileRead path text marks ∷ []) rest opens = absurd opens.0
+opening_keys start letters (FileRefused path why marks ∷ []) rest opens = absurd opens.0
+opening_keys start letters (KeyPressed key moment ∷ []) rest opens = absurd opens.0
+opening_keys start letters (event ∷ next ∷ opening) rest opens = absurd opens
+
+opening_moments : (start : ℤ) (letters : List Mail) (opening rest : List Happening)
+    → AreOpening start letters opening → pressed_moments (opening ++ rest) ≡ pressed_moments rest
+opening_moments start letters [] rest opens = refl
+opening_moments start letters (FolderOpened path kind moment came marks ∷ []) rest opens = refl
+opening_moments start letters (FolderRefused path why marks ∷ []) rest opens = refl
+opening_moments start letters (FileRead path text marks ∷ []) rest opens = absurd opens.0
+opening_moments start letters (FileRefused path why marks ∷ []) rest opens = absurd opens.0
+opening_moments start letters (KeyPressed key moment ∷ []) rest opens = absurd opens.0
+opening_moments start letters (event ∷ next ∷ opening) rest opens = absurd opens
+
+opening_start : (start : ℤ) (letters : List Mail) (opening rest : List Happening)
+    → AreOpening start letters opening → IsStart start rest → IsStart start (opening ++ rest)
+opening_start start letters [] rest opens h = h
+opening_start start letters (FolderOpened path kind moment came marks ∷ []) rest opens h =
+    (opens.0, h)
+opening_start start letters (FolderRefused path why marks ∷ []) rest opens h = h
+opening_start start letters (FileRead path text marks ∷ []) rest opens h = absurd opens.0
+opening_start start letters (FileRefused path why marks ∷ []) rest opens h = absurd opens.0
+opening_start start letters (KeyPressed key moment ∷ []) rest opens h = absurd opens.0
+opening_start start letters (event ∷ next ∷ opening) rest opens h = absurd opens
+
+opening_listed : (start : ℤ) (letters : List Mail) (opening rest : List Happening)
+    → AreOpening start letters opening → AllListed letters rest
+    → AllListed letters (opening ++ rest)
+opening_listed start letters [] rest opens h = h
+opening_listed start letters (event ∷ []) rest opens h = (opens.1, h)
+opening_listed start letters (event ∷ next ∷ opening) rest opens h = absurd opens
+
+-- keys leave what was told of commands
+stage_notes : (stage : Stage) (s : State) → (taken_at stage s).notes ≡ s.notes
+stage_notes Unopened s = refl
+stage_notes Pushing s = refl
+stage_notes Idle s = refl
+stage_notes Ready s = refl
+stage_notes Over s = refl
+
+keys_notes : (s : State) (keys : List Happening) → AreKeys keys
+    → (after_events s keys).notes ≡ s.notes
+keys_notes s [] are = refl
+keys_notes s (KeyPressed key moment ∷ keys) are =
+    keys_notes (after s (KeyPressed key moment)) keys are ∙ stage_notes s.turn.stage s
+keys_notes s (FileRead path text marks ∷ keys) are = absurd are
+keys_notes s (FileRefused path why marks ∷ keys) are = absurd are
+keys_notes s (FolderOpened path kind moment came marks ∷ keys) are = absurd are
+keys_notes s (FolderRefused path why marks ∷ keys) are = absurd are
+
+pub after-append : (s : State) (xs ys : List Happening)
+    → after_events s (xs ++ ys) ≡ after_events (after_events s xs) ys
+after-append s [] ys = refl
+after-append s (x ∷ xs) ys = after-append (after s x) xs ys
+
+-- files of commands show no screen
+pub files_stage : (s : State) (files : List Happening) → AreFiles files → s.turn.stage ≡ Unopened
+    → (after_events s files).turn.stage ≡ Unopened
+files_stage s [] are stage = stage
+files_stage s (FileRead path text marks ∷ files) are stage =
+    files_stage (after s (FileRead path text marks)) files are.1 stage
+files_stage s (FileRefused path why marks ∷ files) are stage =
+    files_stage (after s (FileRefused path why marks)) files are.1 stage
+files_stage s (KeyPressed key moment ∷ files) are stage = absurd are.0
+files_stage s (FolderOpened path kind moment came marks ∷ files) are stage = absurd are.0
+files_stage s (FolderRefused path why marks ∷ files) are stage = absurd are.0
+
+unshown : (letters : List Mail) (s : State) → s.turn.stage ≡ Unopened → shown letters s ≡ []
+unshown letters s stage = ap (λ (t : Stage). stage_screens letters t s) stage
+
+files_screens : (letters : List Mail) (s : State) (files rest : List Happening) → AreFiles files
+    → s.turn.stage ≡ Unopened
+    → screens_from letters s (files ++ rest) ≡ screens_from letters (after_events s files) rest
+files_screens letters s [] rest are stage = refl
+files_screens letters s (FileRead path text marks ∷ files) rest are stage =
+    let next : State = after s (FileRead path text marks) in
+    ap (λ (l : List (List (List ℕ))). l ++ screens_from letters next (files ++ rest))
+    (unshown letters next stage) ∙ files_screens letters next files rest are.1 stage
+files_screens letters s (FileRefused path why marks ∷ files) rest are stage =
+    let next : State = after s (FileRefused path why marks) in
+    ap (λ (l : List (List (List ℕ))). l ++ screens_from letters next (files ++ rest))
+    (unshown letters next stage) ∙ files_screens letters next files rest are.1 stage
+files_screens letters s (KeyPressed key moment ∷ files) rest are stage = absurd are.0
+files_screens letters s (FolderOpened path kind moment came marks ∷ files) rest are stage =
+    absurd are.0
+files_screens letters s (FolderRefused path why marks ∷ files) rest are stage = absurd are.0
+
+opening_screens : (letters : List Mail) (s : State) (start : ℤ) (opening : List Happening)
+    → AreOpening start letters opening → s.turn.stage ≡ Unopened
+    → screens_from letters s opening ≡ shown letters (after_events s opening)
+opening_screens letters s start [] opens stage = sym (unshown letters s stage)
+opening_screens letters s start (event ∷ []) opens stage = append-nil (shown letters (after s
+    event))
+opening_screens letters s start (event ∷ next ∷ opening) opens stage = absurd opens
+
+-- What begins a run.
+module _ (Has : Kind → Type 0) (letters : List Mail) (o : PlainOptions) (start : ℤ)
+    (opening events : List Happening) (old new : Seen)
+    (begins : BeginsRun Has letters (first_of o) start opening events old new) where
+  begun_stands : Stands letters (first_of o) events (after_events (first_of o) events)
+      ([] ++ shown letters (after_events (first_of o) events))
+  begun_stands = record {
+    run = begins.run;
+    state_is = refl;
+    screens_are = subst (λ (l : List Happening). screens_from letters (first_of o) l
+        ≡ shown letters (after_events (first_of o) l)) (sym begins.events_are)
+        (files_screens letters (first_of o) begins.files opening begins.are_files refl
+        ∙ opening_screens letters (after_events (first_of o) begins.files) start opening
+        begins.opens (files_stage (first_of o) begins.files begins.are_files refl)
+        ∙ ap (shown letters) (sym (after-append (first_of o) begins.files opening)));
+  }
+
+  -- nothing was printed yet
+  pub begun_breaks : (out : Option (List ℕ)) → Breaks letters (first_of o) events out out
+  begun_breaks out =
+      breaks_unshown letters (first_of o) (after_events (first_of o) events) events [] begun_stands
+      out out (appends_none out)
+
+  module _ (more later : List Happening) (are_keys : AreKeys more) (is : later ≡ events ++ more)
+    where
+      all_is : later ≡ begins.files ++ (opening ++ more)
+      all_is = is ∙ ap (λ (l : List Happening). l ++ more) begins.events_are
+          ∙ append_assoc begins.files opening more
+
+      pub all_keys : pressed_keys later ≡ pressed_keys more
+      all_keys = ap pressed_keys all_is ∙ files_keys begins.files (opening ++ more) begins.are_files
+          ∙ opening_keys start letters opening more begins.opens
+
+      pub all_moments : pressed_moments later ≡ pressed_moments more
+      all_moments = ap pressed_moments all_is
+          ∙ files_moments begins.files (opening ++ more) begins.are_files
+          ∙ opening_moments start letters opening more begins.opens
+
+      pub all_start : IsStart start later
+      all_start = subst (IsStart start) (sym all_is)
+          (files_start start begins.files (opening ++ more) begins.are_files
+          (opening_start start letters opening more begins.opens (keys_start start more are_keys)))
+
+      pub all_listed : AllListed letters later
+      all_listed = subst (AllListed letters) (sym all_is)
+          (files_listed letters begins.files (opening ++ more) begins.are_files
+          (opening_listed start letters opening more begins.opens
+          (keys_listed letters more are_keys)))
+
+      pub all_notes : (after_events (first_of o) later).notes
+          ≡ (after_events (first_of o) events).notes
+      all_notes = ap (λ (l : List Happening). (after_events (first_of o) l).notes) is
+          ∙ ap (λ (s : State). s.notes) (after-append (first_of o) events more)
+          ∙ keys_notes (after_events (first_of o) events) more are_keys

@@ -1,0 +1,186 @@
+-- How a run that prints the values of variables ends.
+use Rattle.std.proofs.Common.{◌≡◌, ◌⊎◌, inl, inr, ℕ, ℤ, List, [], Option, Ok}
+use Rattle.std.proofs.Common.{refl, sym, ◌∙◌, ap, subst, arith, length, length-append}
+use Rattle.std.proofs.lemmas.List.{append-nil}
+use Rattle.std.specs.Io.KnownBytes.{Appends}
+use Rattle.std.specs.List.{concat}
+use Rattle.mail_base.specs.Faults.{Rose}
+use Rattle.mail_base.specs.Streams.{Sent}
+use Rattle.mail_base.proofs.Sending.{sent_none}
+use Rattle.folder_core.specs.Letters.{Mail}
+use Rattle.mutt_words.specs.Options.{PlainOptions}
+use Rattle.session.specs.Beginning.{AnswersNames, BeginsRun}
+use Rattle.session.specs.Events.{Happening}
+use Rattle.session.specs.Runs.{after_events}
+use Rattle.session.specs.Starting.{PlainSetup, first_state}
+use Rattle.session.specs.Steps.{SourcesOff}
+use Rattle.session.specs.Telling.{Driverless}
+use Rattle.session_state.specs.declared.desk.Stage.{Stage}
+use Rattle.session_state.specs.declared.desk.Stage.TheVariants.{Unopened, Pushing, Idle, Ready}
+use Rattle.session_state.specs.declared.desk.Stage.TheVariants.{Over}
+use Rattle.mutt_run.specs.Choice.{Task, TellValues, first_of, setup_of, task_of}
+use Rattle.mutt_run.specs.Ending.{EndsAs, EndsDone, IsNoUsage}
+use Rattle.mutt_run.specs.Printed.{Prints, PrintsBut, pieces, values_text}
+use Rattle.mutt_run.specs.Reading.{Outside, Reads, TellsNotes}
+use Rattle.mutt_run.specs.Screens.{printed_lines}
+use Rattle.mutt_run.specs.Taken.{Gives, TakesKeys}
+use Rattle.mutt_run.specs.declared.status.Status.{Status}
+use Rattle.mutt_run.specs.declared.status.Status.TheVariants.{Done, DiskFault, OutFault}
+use Rattle.mutt_run.specs.declared.status.Status.TheVariants.{NoMemory}
+use Rattle.mutt_run.proofs.KeysLemmas.{gives_none}
+use Rattle.mutt_run.proofs.ReadsLemmas.{IsBroken, IsOtherThanDisk, cut_status, ends_free}
+use Rattle.mutt_run.proofs.ReadsLemmas.{no_fault}
+use Rattle.mutt_run.proofs.ReadsLemmas.{notes_cut, notes_whole, prints_all, reads_by, takes_none, usage_free}
+use Rattle.mutt_run.proofs.RunLemmas.{files_stage}
+
+abbrev IsUnopened : Stage → Type 0
+IsUnopened Unopened = Unit {0}
+IsUnopened Pushing = ⊥
+IsUnopened Idle = ⊥
+IsUnopened Ready = ⊥
+IsUnopened Over = ⊥
+
+module _ (o : PlainOptions) (start : ℤ) (letters : List Mail) (setup : PlainSetup)
+    (events : List Happening) (names : List (List ℕ)) (old new : Outside) (is : setup ≡ setup_of o)
+    (task : task_of o ≡ TellValues names) (none : letters ≡ [])
+    (sources : SourcesOff (first_state setup) events old.disk new.disk)
+    (same_left : new.left ≡ old.left) (same_clock : new.moments ≡ old.moments) where
+  abbrev read : SourcesOff (first_of o) events old.disk new.disk
+  read = subst (λ (p : PlainSetup). SourcesOff (first_state p) events old.disk new.disk) is sources
+
+  begins : BeginsRun Driverless letters (first_of o) start [] events old.disk new.disk
+  begins = record {
+    files = events;
+    are_files = read.are;
+    opens = none;
+    events_are = sym (append-nil events);
+    run = read.run;
+    told = read.told letters;
+  }
+
+  not_over : (Rises : Type 0) → (after_events (first_of o) events).turn.stage ≡ Over → Rises
+  not_over Rises over =
+      absurd (subst IsUnopened (sym (files_stage (first_of o) events read.are refl) ∙ over) tt)
+
+  reads_values : (status : Status) → EndsAs o status events old.left new.left
+      → Prints status (pieces (task_of o) letters (first_of o) events) old.written new.written
+      → PrintsBut (pieces (task_of o) letters (first_of o) events) old.written new.written
+      → TellsNotes status (printed_lines (after_events (first_of o) events).notes) old new
+      → (status ≡ DiskFault → Rose old.disk.faults new.disk.faults) → IsNoUsage status
+      → Reads (Ok o) start Driverless letters status events old new
+  reads_values status ends printed but noted fault no_usage =
+      reads_by o start Driverless letters status [] events [] events old new begins tt
+      (sym (append-nil events)) read.run ends (record { pending = []; taken = 0 })
+      (subst (λ (l : Option (List ℕ)). TakesKeys [] (record { pending = []; taken = 0 }) old.left l)
+      (sym same_left) (takes_none old.left))
+      (subst (λ (l : Option (List ℤ)). Gives old.moments l []) (sym same_clock)
+      (gives_none old.moments))
+      printed but (not_over (Appends old.written new.written
+      (concat (pieces (task_of o) letters (first_of o) events)))) noted (read.told letters) fault
+      no_usage
+
+  abbrev text : List ℕ
+  text = values_text names (after_events (first_of o) events)
+
+  -- a front of the lines was printed
+  pub values_cut : (status : Status) → IsBroken status
+      → (rest : List ℕ) × Sent old.written new.written text rest
+      → TellsNotes status (printed_lines (after_events (first_of o) events).notes) old new
+      → Reads (Ok o) start Driverless letters status events old new
+  values_cut status broken sent noted =
+      reads_values status (ends_free o events old.left new.left status broken)
+      (printed status broken) but noted
+      (no_fault (Rose old.disk.faults new.disk.faults) status broken) (usage_free status broken)
+    where
+      but : PrintsBut (pieces (task_of o) letters (first_of o) events) old.written new.written
+      but = subst (λ (t : Task). PrintsBut (pieces t letters (first_of o) events) old.written
+          new.written) (sym task) (record {
+            rest = sent.0;
+            sent = (sent.1.0, append-nil text ∙ sent.1.1, sent.1.2);
+            short = omega (arith, ap length sent.1.1, length-append sent.1.0 sent.0);
+          })
+
+      printed : (status : Status) → IsBroken status
+          → Prints status (pieces (task_of o) letters (first_of o) events) old.written
+          new.written
+      printed status (inl is) = subst (λ (st : Status). Prints st (pieces (task_of o) letters
+          (first_of o) events) old.written new.written) (sym is) but
+      printed status (inr is) = subst (λ (st : Status). Prints st (pieces (task_of o) letters
+          (first_of o) events) old.written new.written) (sym is) but
+
+  -- nothing was printed
+  pub values_none : new.written ≡ old.written → (status : Status) → IsBroken status
+      → TellsNotes status (printed_lines (after_events (first_of o) events).notes) old new
+      → Reads (Ok o) start Driverless letters status events old new
+  values_none same status broken noted =
+      values_cut status broken (
+        text,
+        subst (λ (w : Option (List ℕ)). Sent old.written w text text)
+            (sym same) (sent_none old.written text),
+      ) noted
+
+  -- memory ran out before the files were read
+  pub values_early : new.written ≡ old.written → new.told ≡ old.told
+      → Reads (Ok o) start Driverless letters NoMemory events old new
+  values_early same same_told =
+      let notes : List ℕ = printed_lines (after_events (first_of o) events).notes in
+      values_none same NoMemory (inr refl) (
+        notes,
+        subst (λ (t : Option (List ℕ)). Sent old.told t notes notes) (sym same_told)
+            (sent_none old.told notes),
+      )
+
+  -- the files were read
+  module _ (lines notes : List (List ℕ))
+      (answers : AnswersNames (first_state setup) events names lines notes) where
+    abbrev here : AnswersNames (first_of o) events names lines notes
+    here = subst (λ (p : PlainSetup). AnswersNames (first_state p) events names lines notes) is
+        answers
+
+    noted_as : (status : Status) → TellsNotes status (printed_lines notes) old new
+        → TellsNotes status (printed_lines (after_events (first_of o) events).notes) old new
+    noted_as status told = subst (λ (l : List (List ℕ)). TellsNotes status (printed_lines l) old
+        new)
+        (sym here.noted) told
+
+    pub values_untold : new.written ≡ old.written → (status : Status)
+        → ((status ≡ OutFault) × Rose old.faults new.faults) ⊎ (status ≡ NoMemory)
+        → (rest : List ℕ) × Sent old.told new.told (printed_lines notes) rest
+        → Reads (Ok o) start Driverless letters status events old new
+    values_untold same status which sent =
+        values_none same status (cut_status status which)
+        (noted_as status (notes_cut status (printed_lines notes) old new which sent))
+
+    module _ (told : Appends old.told new.told (printed_lines notes)) where
+      pub values_off : new.written ≡ old.written → (status : Status) → IsBroken status
+          → Reads (Ok o) start Driverless letters status events old new
+      values_off same status broken =
+          values_none same status broken
+          (noted_as status (notes_whole status (printed_lines notes) old new told))
+
+      pub values_part : (status : Status) → status ≡ OutFault
+          → (rest : List ℕ) × Sent old.written new.written (printed_lines lines) rest
+          → Reads (Ok o) start Driverless letters status events old new
+      values_part status fault sent =
+          values_cut status (inl fault)
+          (subst (λ (l : List (List ℕ)). (rest : List ℕ)
+          × Sent old.written new.written (printed_lines l) rest) here.lines_are sent)
+          (noted_as status (notes_whole status (printed_lines notes) old new told))
+
+      pub values_done : Appends old.written new.written (printed_lines lines)
+          → Reads (Ok o) start Driverless letters Done events old new
+      values_done sent =
+          reads_values Done
+          (subst (λ (t : Task). EndsDone t o events old.left new.left) (sym task)
+          (read.are, here.read))
+          all
+          (prints_all (pieces (task_of o) letters (first_of o) events) old.written new.written all)
+          (noted_as Done told) (λ fault. absurd (subst IsOtherThanDisk fault tt)) tt
+        where
+          all : Appends old.written new.written
+              (concat (pieces (task_of o) letters (first_of o) events))
+          all = subst (λ (t : Task). Appends old.written new.written
+              (concat (pieces t letters (first_of o) events))) (sym task)
+              (subst (λ (l : List ℕ). Appends old.written new.written l) (sym (append-nil text))
+              (subst (λ (l : List (List ℕ)). Appends old.written new.written (printed_lines l))
+              here.lines_are sent))

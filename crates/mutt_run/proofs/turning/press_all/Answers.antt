@@ -1,0 +1,135 @@
+use Rattle.std.proofs.Common.{◌∙◌, arith, ap, length, map, refl, sym}
+use Rattle.std.proofs.Common.{FitsSigned, w64}
+use Rattle.std.proofs.lemmas.Int.{ints as signed_arith}
+use Rattle.std.proofs.lemmas.Int.{to_z-of_z}
+use Rattle.mail_base.specs.Series.{Held}
+use Rattle.folder_core.specs.Letters.{plain_letter}
+use Rattle.folder_core.specs.declared.letter.Letter.{Letter}
+use Rattle.keymap.specs.Reader.{PlainReader}
+use Rattle.session.specs.Events.{plain_events}
+use Rattle.mutt_run.proofs.KeysLemmas.{counted_key, ends_broken, ends_fault}
+use Rattle.mutt_run.proofs.KeysLemmas.{ends_limit, ends_over, presses_key, presses_new}
+use Rattle.mutt_run.proofs.KeysLemmas.{presses_stop, pushed_on, told_same}
+use Rattle.mutt_run.proofs.ScreensLemmas.{ended_broken, goes_broken, goes_same}
+use Rattle.mutt_run.proofs.turning.press_all.Goals as goal
+
+pub loop-turn-init : goal.loop-turn-init
+loop-turn-init g c = record {
+  goes = λ first start h. h;
+  presses = presses_new _ _ _ _ c.new-reader.ensures;
+  count = omega (arith, ap (λ (r : PlainReader). length r.pending) c.new-reader.ensures);
+  idle = c.requires.idle;
+  tall = c.requires.tall;
+  told = λ archive first before seen h. h;
+  archive = refl;
+  keys = omega arith;
+  out = omega arith;
+}
+
+pub loop-turn-preserved : goal.loop-turn-preserved
+loop-turn-preserved g c = record {
+  goes = λ first start h. goes_same
+      (sym (ap (λ (a : Held Letter). map plain_letter a.items) c.turn.ensures.archive
+      ∙ ap (λ (a : Held Letter). map plain_letter a.items) c.loop-turn.invariant.archive)) refl
+      (c.in-Ok-Go.ensures.turned first start (goes_same
+      (ap (λ (a : Held Letter). map plain_letter a.items) c.loop-turn.invariant.archive)
+      (ap plain_events c.reserve.ensures.items) (c.loop-turn.invariant.goes first start h)));
+  presses = presses_key _ _ _ _ _ _ _ _ c.loop-turn.invariant.presses _ c.next_key.ensures.ahead
+      _ _ _ _ (rw c.in-Ok-Some.field-0-is at c.in-Ok-Some.ensures.key) c.now-moment.ensures.gives
+      (pushed_on _ _ _ _ _ _
+      (ap plain_events c.reserve.ensures.items) (let fits : FitsSigned w64 c.now-moment.result =
+      omega (arith, signed_arith, c.now-moment.ensures.range) in simp to_z-of_z)
+      c.turn.ensures.pressed);
+  count = counted_key _ _ _ _ _ _ (rw c.in-Ok-Some.field-0-is at c.in-Ok-Some.ensures.key)
+      c.loop-turn.invariant.count;
+  idle = rw c.in-Ok-Go.field-0-is at c.in-Ok-Go.ensures.to;
+  tall = c.in-Ok-Go.ensures.tall;
+  told = λ archive first before seen h. c.turn.ensures.told archive first before seen
+      (told_same (ap plain_events c.reserve.ensures.items)
+      (c.loop-turn.invariant.told archive first before seen h));
+  archive = c.turn.ensures.archive ∙ c.loop-turn.invariant.archive;
+  keys = omega (arith, c.loop-turn.invariant.keys, c.next_key.ensures.later);
+  out = omega (arith, c.loop-turn.invariant.out, c.turn.ensures.later);
+}
+
+pub returns-then-is_err-clause-ended : goal.returns-then-is_err-clause-ended
+returns-then-is_err-clause-ended g c = λ first start h. goes_broken
+    (ap (λ (a : Held Letter). map plain_letter a.items) c.loop-turn.invariant.archive)
+    (ap plain_events c.reserve.ensures.items) (c.loop-turn.invariant.goes first start h)
+
+pub returns-then-is_err-clause-told : goal.returns-then-is_err-clause-told
+returns-then-is_err-clause-told g c = λ archive first before seen h.
+    told_same (ap plain_events c.reserve.ensures.items)
+    (c.loop-turn.invariant.told archive first before seen h)
+
+pub returns-in-Ok-None-clause-told : goal.returns-in-Ok-None-clause-told
+returns-in-Ok-None-clause-told g c = λ archive first before seen h.
+    told_same (ap plain_events c.reserve.ensures.items)
+    (c.loop-turn.invariant.told archive first before seen h)
+
+pub returns-in-Err-ReadFault-clause-pressed : goal.returns-in-Err-ReadFault-clause-pressed
+returns-in-Err-ReadFault-clause-pressed g c =
+    ends_fault _ _ _ _ _ _ _ (presses_stop _ _ _ _ _ _ _ _ c.loop-turn.invariant.presses _
+    c.next_key.ensures.ahead _ (ap plain_events c.reserve.ensures.items) _
+    c.in-Err-ReadFault.ensures.stops) _ c.loop-turn.invariant.idle
+    (rw c.in-Err-ReadFault.field-0-is at c.in-Err-ReadFault.ensures.stops.cause)
+
+pub returns-in-Err-ReadFault-clause-told : goal.returns-in-Err-ReadFault-clause-told
+returns-in-Err-ReadFault-clause-told g c = λ archive first before seen h.
+    told_same (ap plain_events c.reserve.ensures.items)
+    (c.loop-turn.invariant.told archive first before seen h)
+
+pub returns-in-Err-TooManyKeys-clause-pressed : goal.returns-in-Err-TooManyKeys-clause-pressed
+returns-in-Err-TooManyKeys-clause-pressed g c =
+    ends_limit _ _ _ _ _ _ _ (presses_stop _ _ _ _ _ _ _ _ c.loop-turn.invariant.presses _
+    c.next_key.ensures.ahead _ (ap plain_events c.reserve.ensures.items) _
+    c.in-Err-TooManyKeys.ensures.stops) _ c.loop-turn.invariant.idle
+    (rw c.in-Err-TooManyKeys.field-0-is at c.in-Err-TooManyKeys.ensures.stops.cause)
+
+pub returns-in-Err-TooManyKeys-clause-told : goal.returns-in-Err-TooManyKeys-clause-told
+returns-in-Err-TooManyKeys-clause-told g c = λ archive first before seen h.
+    told_same (ap plain_events c.reserve.ensures.items)
+    (c.loop-turn.invariant.told archive first before seen h)
+
+pub returns-in-Ok-Quit-clause-ended : goal.returns-in-Ok-Quit-clause-ended
+returns-in-Ok-Quit-clause-ended g c = λ first start h.
+    c.in-Ok-Quit.ensures.turned first start (goes_same
+    (ap (λ (a : Held Letter). map plain_letter a.items) c.loop-turn.invariant.archive)
+    (ap plain_events c.reserve.ensures.items) (c.loop-turn.invariant.goes first start h))
+
+pub returns-in-Ok-Quit-clause-pressed : goal.returns-in-Ok-Quit-clause-pressed
+returns-in-Ok-Quit-clause-pressed g c =
+    ends_over _ _ _ _ _ _ _ (presses_key _ _ _ _ _ _ _ _ c.loop-turn.invariant.presses _
+    c.next_key.ensures.ahead _ _ _ _ (rw c.in-Ok-Some.field-0-is at c.in-Ok-Some.ensures.key)
+    c.now-moment.ensures.gives (pushed_on _ _ _ _ _ _
+    (ap plain_events c.reserve.ensures.items) (let fits : FitsSigned w64 c.now-moment.result =
+    omega (arith, signed_arith, c.now-moment.ensures.range) in simp to_z-of_z)
+    c.turn.ensures.pressed)) _
+    (rw c.in-Ok-Quit.field-0-is at c.in-Ok-Quit.ensures.to)
+
+pub returns-in-Ok-Quit-clause-told : goal.returns-in-Ok-Quit-clause-told
+returns-in-Ok-Quit-clause-told g c = λ archive first before seen h.
+    c.turn.ensures.told archive first before seen (told_same (ap plain_events
+    c.reserve.ensures.items)
+    (c.loop-turn.invariant.told archive first before seen h))
+
+pub returns-in-Err-clause-ended : goal.returns-in-Err-clause-ended
+returns-in-Err-clause-ended g c = λ first start h.
+    ended_broken _ _ c.in-Err.ensures.to (c.in-Err.ensures.turned first start (goes_same
+    (ap (λ (a : Held Letter). map plain_letter a.items) c.loop-turn.invariant.archive)
+    (ap plain_events c.reserve.ensures.items) (c.loop-turn.invariant.goes first start h)))
+
+pub returns-in-Err-clause-pressed : goal.returns-in-Err-clause-pressed
+returns-in-Err-clause-pressed g c =
+    ends_broken _ _ _ _ _ _ _ (presses_key _ _ _ _ _ _ _ _ c.loop-turn.invariant.presses _
+    c.next_key.ensures.ahead _ _ _ _ (rw c.in-Ok-Some.field-0-is at c.in-Ok-Some.ensures.key)
+    c.now-moment.ensures.gives (pushed_on _ _ _ _ _ _
+    (ap plain_events c.reserve.ensures.items) (let fits : FitsSigned w64 c.now-moment.result =
+    omega (arith, signed_arith, c.now-moment.ensures.range) in simp to_z-of_z)
+    c.turn.ensures.pressed)) _ _ c.in-Err.ensures.to
+
+pub returns-in-Err-clause-told : goal.returns-in-Err-clause-told
+returns-in-Err-clause-told g c = λ archive first before seen h.
+    c.turn.ensures.told archive first before seen (told_same (ap plain_events
+    c.reserve.ensures.items)
+    (c.loop-turn.invariant.told archive first before seen h))

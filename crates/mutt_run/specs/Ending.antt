@@ -1,0 +1,103 @@
+-- How a run ends.
+use Rattle.std.specs.Prelude.{◌≡◌, ◌++◌, ℕ, ℤ, true, List, [], ◌∷◌, Option}
+use Rattle.std.specs.Prelude.{Result, Ok, Err}
+use Rattle.mail_base.specs.declared.kind.Kind.{Kind}
+use Rattle.folder_core.specs.Letters.{Mail}
+use Rattle.folder_core.specs.declared.error.ScanError.TheVariants.{Fault}
+use Rattle.folder_core.specs.declared.listing.Listed.{Listed}
+use Rattle.keymap.specs.Reader.{PlainReader}
+use Rattle.mutt_words.specs.Options.{PlainOptions}
+use Rattle.session.specs.Beginning.{IsStated}
+use Rattle.session.specs.Events.{AreFiles, Happening, FolderOpened}
+use Rattle.session.specs.Events.{FolderRefused}
+use Rattle.session.specs.Happened.{IsListed}
+use Rattle.session.specs.Runs.{after_events}
+use Rattle.session.specs.declared.event.Marks.{Marks}
+use Rattle.session.specs.declared.event.OpenFault.{OpenFault}
+use Rattle.session.specs.declared.event.OpenFault.TheVariants.{Folder}
+use Rattle.mutt_run.specs.Choice.{Task, TellVersion, TellValues, ReadFolder, first_of, task_of}
+use Rattle.mutt_run.specs.Going.{AreKeys, EndsKeys}
+use Rattle.mutt_run.specs.Taken.{TakesKeys, pressed_keys}
+use Rattle.mutt_run.specs.declared.status.Status.{Status}
+use Rattle.mutt_run.specs.declared.status.Status.TheVariants.{Done, Usage, NotOpened, DiskFault}
+use Rattle.mutt_run.specs.declared.status.Status.TheVariants.{KeysFault, OutFault, NoMemory}
+use Rattle.mutt_run.specs.declared.status.Status.TheVariants.{Empty}
+use Rattle.mutt_run.specs.declared.status.Status.TheVariants.{TooManyKeys}
+
+-- files of commands were read, a folder was opened in which these messages stood, and then keys
+-- were pressed
+pub record IsOpened (came : List Listed) (keys events : List Happening) : Type 0 where
+  pub files : List Happening
+  pub path : List ℕ
+  pub kind : Kind
+  pub moment : ℤ
+  pub marks : Marks
+  pub are_files : AreFiles files
+  pub are_keys : AreKeys keys
+  pub events_are : events ≡ files ++ FolderOpened path kind moment came marks ∷ keys
+
+-- files of commands were read, and then a folder was not opened for this cause
+pub record IsRefused (why : OpenFault) (events : List Happening) : Type 0 where
+  pub files : List Happening
+  pub path : List ℕ
+  pub marks : Marks
+  pub are_files : AreFiles files
+  pub events_are : events ≡ files ++ FolderRefused path why marks ∷ []
+
+-- The folder is shown: it was opened, and an empty one may be shown. Its keys end so.
+pub record EndsShown (o : PlainOptions) (status : Status) (events : List Happening)
+    (old new : Option (List ℕ)) : Type 0 where
+  pub came : List Listed
+  pub keys : List Happening
+  pub opened : IsOpened came keys events
+  pub full : o.skip_empty ≡ true → came ≡ [] → ⊥
+  pub reader : PlainReader
+  pub takes : TakesKeys (pressed_keys events) reader old new
+  pub ends : EndsKeys status (after_events (first_of o) events).turn.stage reader new
+
+-- how a run is done
+abbrev pub EndsDone : Task → PlainOptions → List Happening → Option (List ℕ) → Option (List ℕ)
+    → Type 0
+EndsDone TellVersion o events old new = events ≡ []
+EndsDone (TellValues names) o events old new =
+    AreFiles events × ((after_events (first_of o) events).frames ≡ [])
+EndsDone ReadFolder o events old new = EndsShown o Done events old new
+
+-- how the events of a run with this status end, and what is left of the keys
+abbrev pub EndsAs : PlainOptions → Status → List Happening → Option (List ℕ) → Option (List ℕ)
+    → Type 0
+EndsAs o Done events old new = EndsDone (task_of o) o events old new
+EndsAs o (Usage word) events old new = events ≡ []
+EndsAs o (NotOpened why) events old new =
+    (task_of o ≡ ReadFolder) × IsStated why × IsRefused why events
+EndsAs o DiskFault events old new = (task_of o ≡ ReadFolder) × IsRefused (Folder Fault) events
+EndsAs o KeysFault events old new =
+    (task_of o ≡ ReadFolder) × EndsShown o KeysFault events old new
+EndsAs o OutFault events old new = Unit {0}
+EndsAs o NoMemory events old new = Unit {0}
+EndsAs o Empty events old new =
+    (task_of o ≡ ReadFolder) × (o.skip_empty ≡ true) × IsOpened [] [] events
+EndsAs o TooManyKeys events old new =
+    (task_of o ≡ ReadFolder) × EndsShown o TooManyKeys events old new
+
+-- the status of words that are no command line
+abbrev pub IsUsage : List ℕ → Status → Type 0
+IsUsage word (Usage faulty) = faulty.items ≡ word
+IsUsage word OutFault = Unit {0}
+IsUsage word NoMemory = Unit {0}
+IsUsage word status = ⊥
+
+-- the status of words that are one
+abbrev pub IsNoUsage : Status → Type 0
+IsNoUsage (Usage faulty) = ⊥
+IsNoUsage status = Unit {0}
+
+-- the words decide whether the run ends for them
+abbrev pub IsChosen : Result PlainOptions (List ℕ) → Status → Type 0
+IsChosen (Ok o) status = IsNoUsage status
+IsChosen (Err word) status = IsUsage word status
+
+-- what came at each opening was listed anew
+abbrev pub AllListed : List Mail → List Happening → Type 0
+AllListed archive [] = Unit {0}
+AllListed archive (event ∷ events) = IsListed archive event × AllListed archive events

@@ -1,5 +1,0 @@
-mod ScreensLemmas
-mod KeysLemmas
-mod RunLemmas
-mod ReadsLemmas
-mod ValuesLemmas
