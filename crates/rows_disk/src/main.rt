@@ -4,10 +4,12 @@
 mod calls;
 mod disks;
 mod files;
+mod folders;
 mod trees;
 
 use crate::disks::DiskCalls;
 use crate::files::FileCalls;
+use crate::folders::FolderScans;
 use crate::trees::Trees;
 use case_files::{Report, play_file, print_report};
 use mail_base::NoMemory;
@@ -26,5 +28,6 @@ fn main(rt: HostRuntime) -> io::Result<ExitCode> {
 fn play_all(rt: &HostRuntime, report: &mut Report) -> Result<(), NoMemory> {
     play_file(rt, &Trees, "trees", report)?;
     play_file(rt, &DiskCalls, "disks", report)?;
-    play_file(rt, &FileCalls { rt }, "files", report)
+    play_file(rt, &FileCalls { rt }, "files", report)?;
+    play_file(rt, &FolderScans { rt }, "folders", report)
 }

@@ -1,11 +1,10 @@
 -- How a table of places grows.
 use Rattle.std.proofs.Common.{◌≡◌, ◌∙◌, ℕ, zero, suc, ◌+◌, ◌<◌, Bool, true, false, cond, List, []}
-use Rattle.std.proofs.Common.{◌∷◌, Vec, Option, Some, None}
+use Rattle.std.proofs.Common.{◌∷◌, Bor, Option, Some, None}
 use Rattle.std.proofs.Common.{refl, sym, ap, ⊎_elim, arith, length, get_or, add-one}
 use Rattle.std.proofs.lemmas.List.{get_or-map}
 use Rattle.std.specs.Prelude.{if◌then◌else◌}
 use Rattle.std.specs.Str.{bytes_eq}
-use Rattle.std.specs.declared.alloc.Global.{Global}
 use Rattle.std.proofs.lemmas.Bool.{cases_Bool, false_from_ne_true, false≢true}
 use Rattle.std.proofs.lemmas.Slice.Eq.{bytes_eq-Decides}
 use Rattle.indexmap.specs.IndexMap.{insert_entry}
@@ -17,8 +16,8 @@ pub same_place : (a b : ℕ) → Some a ≡ Some b → a ≡ b
 same_place a b e = cc
 
 -- how the table tells its texts apart
-abbrev pub same_text : Vec ℕ Global → Vec ℕ Global → Bool
-same_text a b = bytes_eq a.items b.items
+abbrev pub same_text : Bor (List ℕ) → Bor (List ℕ) → Bool
+same_text a b = bytes_eq a.now b.now
 
 pub bytes_same : (a b : List ℕ) → bytes_eq a b ≡ true → a ≡ b
 bytes_same a b h = (bytes_eq-Decides a b).0 h
@@ -26,9 +25,9 @@ bytes_same a b h = (bytes_eq-Decides a b).0 h
 pub bytes_apart : (a b : List ℕ) → (a ≡ b → bytes_eq a b ≡ true)
 bytes_apart a b h = (bytes_eq-Decides a b).1 h
 
-pub place_put : (entries : List (Vec ℕ Global × ℕ)) (k : Vec ℕ Global) (v : ℕ) (other : List ℕ)
+pub place_put : (entries : List (Bor (List ℕ) × ℕ)) (k : Bor (List ℕ)) (v : ℕ) (other : List ℕ)
     → place_in (insert_entry same_text entries k v) other
-    ≡ (if bytes_eq other k.items then Some v else place_in entries other)
+    ≡ (if bytes_eq other k.now then Some v else place_in entries other)
 place_put [] k v other = refl
 place_put (e ∷ entries) k v other = ⊎_elim
     (λ same.
@@ -36,36 +35,36 @@ place_put (e ∷ entries) k v other = ⊎_elim
     other) same
     ∙ ⊎_elim
     (λ found.
-    let own : bytes_eq other k.items ≡ true =
-    ap (bytes_eq other) (bytes_same k.items e.0.items same) ∙ found in
+    let own : bytes_eq other k.now ≡ true =
+    ap (bytes_eq other) (bytes_same k.now e.0.now same) ∙ found in
     ap (λ b. cond b (Some v) (place_in entries other)) found
     ∙ sym (ap (λ b. cond b (Some v) (place_in (e ∷ entries) other)) own))
     (λ missed.
-    let own : bytes_eq other k.items ≡ false =
-    ap (bytes_eq other) (bytes_same k.items e.0.items same) ∙ missed in
+    let own : bytes_eq other k.now ≡ false =
+    ap (bytes_eq other) (bytes_same k.now e.0.now same) ∙ missed in
     ap (λ b. cond b (Some v) (place_in entries other)) missed
     ∙ sym (ap (λ b. cond b (Some v) (place_in (e ∷ entries) other)) own
     ∙ ap (λ b. cond b (Some e.1) (place_in entries other)) missed))
-    (cases_Bool (bytes_eq other e.0.items)))
+    (cases_Bool (bytes_eq other e.0.now)))
     (λ apart.
     ap (λ b. place_in (if b then (e.0, v) ∷ entries else e ∷ insert_entry same_text entries k v)
     other) apart
     ∙ ⊎_elim
     (λ found.
-    let own : bytes_eq other k.items ≡ false =
-    false_from_ne_true (bytes_eq other k.items) (λ is. false≢true (sym apart
-    ∙ bytes_apart k.items e.0.items (sym (bytes_same other k.items is)
-    ∙ bytes_same other e.0.items found))) in
+    let own : bytes_eq other k.now ≡ false =
+    false_from_ne_true (bytes_eq other k.now) (λ is. false≢true (sym apart
+    ∙ bytes_apart k.now e.0.now (sym (bytes_same other k.now is)
+    ∙ bytes_same other e.0.now found))) in
     ap (λ b. cond b (Some e.1) (place_in (insert_entry same_text entries k v) other)) found
     ∙ sym (ap (λ b. cond b (Some v) (place_in (e ∷ entries) other)) own
     ∙ ap (λ b. cond b (Some e.1) (place_in entries other)) found))
     (λ missed.
     ap (λ b. cond b (Some e.1) (place_in (insert_entry same_text entries k v) other)) missed
     ∙ place_put entries k v other
-    ∙ ap (λ t. if bytes_eq other k.items then Some v else t)
+    ∙ ap (λ t. if bytes_eq other k.now then Some v else t)
     (sym (ap (λ b. cond b (Some e.1) (place_in entries other)) missed)))
-    (cases_Bool (bytes_eq other e.0.items)))
-    (cases_Bool (bytes_eq k.items e.0.items))
+    (cases_Bool (bytes_eq other e.0.now)))
+    (cases_Bool (bytes_eq k.now e.0.now))
 
 first_below_by : (is_before : ℕ → ℕ → Bool) (n f : ℕ) (o : Option ℕ) → ((g : ℕ) → o ≡ Some g
     → g < n)

@@ -9,3 +9,4 @@ pub mod SortLemmas
 pub mod TreeLemmas
 pub mod FamilyLemmas
 pub mod OnceLemmas
+pub mod OwnLemmas

@@ -1,8 +1,8 @@
 -- The first of places that pass a test, in an order of their own.
-use Rattle.std.specs.Prelude.{ℕ, zero, suc, Bool, Option, Some, None, List, if◌then◌else◌, Vec}
+use Rattle.std.specs.Prelude.{ℕ, zero, suc, Bool, Option, Some, None, List, if◌then◌else◌}
+use Rattle.std.specs.Borrow.{Bor}
 use Rattle.std.specs.Map.{lookup}
 use Rattle.std.specs.Str.{bytes_eq}
-use Rattle.std.specs.declared.alloc.Global.{Global}
 
 -- the earlier of the first so far, if there is one, and a further place
 abbrev pub earlier : (ℕ → ℕ → Bool) → Option ℕ → ℕ → Option ℕ
@@ -19,5 +19,5 @@ first_of is_before passes (suc n) =
 -- For the code alone.
 
 -- the place of a text in a table of texts
-abbrev pub place_in : List (Vec ℕ Global × ℕ) → List ℕ → Option ℕ
-place_in entries text = lookup (λ k. bytes_eq text k.items) entries
+abbrev pub place_in : List (Bor (List ℕ) × ℕ) → List ℕ → Option ℕ
+place_in entries text = lookup (λ k. bytes_eq text k.now) entries

@@ -1,6 +1,6 @@
 //! A table from texts to the first place of each.
 
-ghost use Rattle.std.specs.Prelude.{◌≡◌, ◌<◌, ℕ, List, Some, None, OnOk, length, if◌then◌else◌};
+ghost use Rattle.std.specs.Prelude.{◌≡◌, ◌<◌, ℕ, List, Some, None, OnOk, length, is_some, IfOk, if◌then◌else◌};
 ghost use Rattle.std.specs.Str.{bytes_eq};
 ghost use Rattle.threads.specs.Firsts.{earlier, place_in};
 ghost use Rattle.threads.specs.Inner.{IsBelow, is_before};
@@ -12,28 +12,29 @@ use mail_base::NoMemory;
 use std::alloc::Global;
 use std::marker::Model;
 
-/// A table from texts to places.
+/// A table from texts, which stay where they are, to places.
 #[derive(Drop)]
-pub struct Firsts {
-    places: IndexMap<Vec<u8>, usize>,
+pub struct Firsts<'a> {
+    places: IndexMap<&'a [u8], usize>,
 }
 
-impl Model for Firsts {
-    ghost use Rattle.std.specs.Prelude.{ℕ, List, Vec};
-    ghost use Rattle.std.specs.declared.alloc.Global as global;
+impl<'a> Model for Firsts<'a> {
+    ghost use Rattle.std.specs.Prelude.{ℕ, List};
+    ghost use Rattle.std.specs.Borrow.{Bor};
 
-    ghost Value = { List (Vec ℕ global.Global × ℕ) };
+    ghost Value = { List (Bor (List ℕ) × ℕ) };
 
     ghost view = { λ f. f.places.entries };
 }
 
-impl Firsts {
-    pub fn new(alloc: Global) -> Self
-        ensures { (text : List ℕ) → place_in result text ≡ None }
+impl<'a> Firsts<'a> {
+    /// An empty table with room for so many texts.
+    pub fn with_room(alloc: Global, count: usize) -> Result<Firsts<'a>, NoMemory>
+        ensures { IfOk result (λ f. (text : List ℕ) → place_in f text ≡ None) }
     {
-        Firsts {
-            places: IndexMap::new(alloc),
-        }
+        let mut places = IndexMap::new(alloc);
+        places.reserve(count)?;
+        Ok(Firsts { places })
     }
 
     pub fn find(&self, text: &[u8]) -> Option<usize>
@@ -42,48 +43,38 @@ impl Firsts {
         self.places.get(text).copied()
     }
 
-    pub fn put(&mut self, alloc: Global, text: &[u8], place: usize) -> Result<(), NoMemory>
-        ensures { OnOk result ((other : List ℕ) → place_in self.new other
+    /// Gives a text its place, and tells the one that it had.
+    pub fn put(&mut self, text: &'a [u8], place: usize) -> Result<Option<usize>, NoMemory>
+        ensures had { IfOk result (λ had. had ≡ place_in self.old text.now) }
+        ensures put { OnOk result ((other : List ℕ) → place_in self.new other
             ≡ (if bytes_eq other text.now then Some place else place_in self.old other)) }
     {
-        self.places.insert(Vec::from_slice(alloc, text)?, place)?;
-        Ok(())
+        Ok(self.places.insert(text, place)?)
     }
 }
 
-// Whether a place comes before the first so far, if there is one.
-fn comes_first(order: Order, messages: &[Message], first: Option<usize>, place: usize) -> bool
-    requires within { place < length messages.now }
-    requires first { (f : ℕ) → first ≡ Some f → f < length messages.now }
-    ensures { (if result then Some place else first)
-        ≡ earlier (is_before order (plain_messages messages.now)) first place }
-{
-    match first {
-        Some(first) => order.is_before(messages, place, first),
-        None => true,
-    }
-}
-
-/// Takes a place into a table of the first places of texts.
-pub fn add_first(
-    alloc: Global,
+/// Takes a place into a table of the first places of texts, and tells whether the text was there.
+pub fn add_first<'a>(
     order: Order,
     messages: &[Message],
-    firsts: &mut Firsts,
-    text: &[u8],
+    firsts: &mut Firsts<'a>,
+    text: &'a [u8],
     place: usize,
-) -> Result<(), NoMemory>
+) -> Result<bool, NoMemory>
     requires within { place < length messages.now }
     requires below { IsBelow firsts.old (length messages.now) }
-    ensures { OnOk result ((other : List ℕ) → place_in firsts.new other
+    ensures again { IfOk result (λ again. again ≡ is_some (place_in firsts.old text.now)) }
+    ensures first { OnOk result ((other : List ℕ) → place_in firsts.new other
         ≡ (if bytes_eq other text.now
         then earlier (is_before order (plain_messages messages.now)) (place_in firsts.old other)
         place
         else place_in firsts.old other)) }
 {
-    let first = firsts.find(text);
-    if !comes_first(order, messages, first, place) {
-        return Ok(());
+    let Some(first) = firsts.put(text, place)? else {
+        return Ok(false);
+    };
+    if !order.is_before(messages, place, first) {
+        firsts.put(text, first)?;
     }
-    firsts.put(alloc, text, place)
+    Ok(true)
 }

@@ -1,11 +1,11 @@
 //! Whom each message answers by the ids of headers, through a table of holders.
 
-ghost use Rattle.std.specs.Prelude.{◌≡◌, ◌+◌, ◌<◌, ◌≤◌, length, map, option_map, IfOk, OnOk, IfSome};
+ghost use Rattle.std.specs.Prelude.{◌≡◌, ◌+◌, ◌<◌, ◌≤◌, length, map, option_map, IfOk, OnOk, IfSome, None, false};
 ghost use Rattle.mail_base.specs.Series.{plain_texts};
 ghost use Rattle.threads.specs.Firsts.{place_in};
 ghost use Rattle.threads.specs.Links as spec;
 ghost use Rattle.threads.specs.Message.{plain_message, plain_messages};
-ghost use Rattle.threads.specs.Inner.{HoldersBelow};
+ghost use Rattle.threads.specs.Inner.{HoldOwn, HoldersBelow};
 
 use crate::firsts::{Firsts, add_first};
 use crate::message::{Message, Order};
@@ -14,38 +14,35 @@ use crate::step::Step;
 use mail_base::{Bytes, NoMemory};
 use std::alloc::Global;
 
-// Takes in the next message.
-fn add_holder(
-    alloc: Global,
-    messages: &[Message],
-    holders: &mut Firsts,
+// Takes in the next message, and tells whether another holds its id.
+fn add_holder<'a>(
+    messages: &'a [Message],
+    holders: &mut Firsts<'a>,
     place: usize,
-) -> Result<(), NoMemory>
+) -> Result<bool, NoMemory>
     requires within { place < length messages.now }
     requires before { HoldersBelow messages.now holders.old place }
-    ensures { OnOk result (HoldersBelow messages.now holders.new (place + 1)) }
+    ensures below { OnOk result (HoldersBelow messages.now holders.new (place + 1)) }
+    ensures own { IfOk result (λ again. again ≡ false → HoldOwn messages.now holders.old place
+        → HoldOwn messages.now holders.new (place + 1)) }
 {
-    let Some(id) = &messages[place].message_id else {
-        return Ok(());
-    };
-    add_first(
-        alloc,
-        Order::Listed,
-        messages,
-        holders,
-        id.as_slice(),
-        place,
-    )
+    match &messages[place].message_id {
+        Some(id) => add_first(Order::Listed, messages, holders, id.as_slice(), place),
+        None => Ok(false),
+    }
 }
 
-fn holders_of(alloc: Global, messages: &[Message]) -> Result<Firsts, NoMemory>
-    ensures { IfOk result (λ h. place_in h ≡ spec.holder (plain_messages messages.now)) }
+// The table of holders, and whether some id has several.
+fn holders_of<'a>(alloc: Global, messages: &'a [Message]) -> Result<(Firsts<'a>, bool), NoMemory>
+    ensures table { IfOk result (λ h. place_in h.0 ≡ spec.holder (plain_messages messages.now)) }
+    ensures own { IfOk result (λ h. h.1 ≡ false → HoldOwn messages.now h.0 (length messages.now)) }
 {
-    let mut holders = Firsts::new(alloc);
+    let mut holders = Firsts::with_room(alloc, messages.len())?;
+    let mut shared = false;
     for place in 0..messages.len() {
-        add_holder(alloc, messages, &mut holders, place)?;
+        shared |= add_holder(messages, &mut holders, place)?;
     }
-    Ok(holders)
+    Ok((holders, shared))
 }
 
 // Another place that holds the id.
@@ -72,27 +69,33 @@ fn referred(holders: &Firsts, place: usize, candidates: &[Bytes]) -> Option<usiz
     None
 }
 
-fn duplicated(holders: &Firsts, place: usize, own: &Option<Bytes>) -> Option<usize>
+// Where no id has several holders, each stands by itself, and none is looked for.
+fn duplicated(holders: &Firsts, shared: bool, place: usize, own: &Option<Bytes>) -> Option<usize>
+    requires { shared ≡ false → spec.duplicated (place_in holders.now) place
+        (option_map (λ id. id.items) own.now) ≡ None }
     ensures { result ≡ spec.duplicated (place_in holders.now) place
         (option_map (λ id. id.items) own.now) }
 {
     match own {
-        Some(id) => other_holder(holders, place, id),
-        None => None,
+        Some(id) if shared => other_holder(holders, place, id),
+        _ => None,
     }
 }
 
 fn link_of(
     options: ThreadOptions,
     holders: &Firsts,
+    shared: bool,
     message: &Message,
     place: usize,
 ) -> Option<Step>
+    requires { shared ≡ false → spec.duplicated (place_in holders.now) place
+        (plain_message message.now).message_id ≡ None }
     ensures { result
         ≡ spec.link_by (place_in holders.now) options (plain_message message.now) place }
 {
     if options.duplicates {
-        if let Some(place) = duplicated(holders, place, &message.message_id) {
+        if let Some(place) = duplicated(holders, shared, place, &message.message_id) {
             return Some(Step {
                 place,
                 link: Link::Duplicate,
@@ -116,10 +119,10 @@ pub fn links_of(
 ) -> Result<Vec<Option<Step>>, NoMemory>
     ensures { IfOk result (λ l. l.items ≡ spec.links options (plain_messages messages.now)) }
 {
-    let holders = holders_of(alloc, messages)?;
+    let (holders, shared) = holders_of(alloc, messages)?;
     let mut links = Vec::with_capacity(alloc, messages.len())?;
     for (place, message) in messages.iter().enumerate() {
-        links.push(link_of(options, &holders, message, place))?;
+        links.push(link_of(options, &holders, shared, message, place))?;
     }
     Ok(links)
 }

@@ -15,11 +15,10 @@ use mail_base::NoMemory;
 use std::alloc::Global;
 
 // Takes in the next message, unless it has a parent.
-fn add_subject(
-    alloc: Global,
-    messages: &[Message],
+fn add_subject<'a>(
+    messages: &'a [Message],
     parents: &[Option<Step>],
-    firsts: &mut Firsts,
+    firsts: &mut Firsts<'a>,
     place: usize,
 ) -> Result<(), NoMemory>
     requires within { place < length messages.now }
@@ -31,21 +30,22 @@ fn add_subject(
         return Ok(());
     }
     let subject = messages[place].base_subject.as_slice();
-    add_first(alloc, Order::Sent, messages, firsts, subject, place)
+    add_first(Order::Sent, messages, firsts, subject, place)?;
+    Ok(())
 }
 
-fn firsts_of(
+fn firsts_of<'a>(
     alloc: Global,
-    messages: &[Message],
+    messages: &'a [Message],
     parents: &[Option<Step>],
-) -> Result<Firsts, NoMemory>
+) -> Result<Firsts<'a>, NoMemory>
     requires { length parents.now ≡ length messages.now }
     ensures { IfOk result
         (λ f. place_in f ≡ spec.first_with (plain_messages messages.now) parents.now) }
 {
-    let mut firsts = Firsts::new(alloc);
+    let mut firsts = Firsts::with_room(alloc, 0)?;
     for place in 0..messages.len() {
-        add_subject(alloc, messages, parents, &mut firsts, place)?;
+        add_subject(messages, parents, &mut firsts, place)?;
     }
     Ok(firsts)
 }
