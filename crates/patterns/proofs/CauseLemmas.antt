@@ -16,17 +16,19 @@ use Rattle.people.specs.declared.error.ExprError.TheVariants as expr
 use Rattle.people.specs.declared.judged.Verdict.{Verdict}
 use Rattle.people.specs.declared.judged.Verdict.TheVariants.{Good, Size}
 use Rattle.std.proofs.lemmas.List.{map-append}
-use Rattle.patterns.specs.Asked.{asked, asked_operations, expr_of, exprs_in, leaf_expr}
-use Rattle.patterns.specs.Asked.{plain_asked, with_expr}
-use Rattle.patterns.specs.Operations.{operation_map}
-use Rattle.patterns.specs.Trees.{Tells, Searches, Dated, Counts}
-use Rattle.patterns.specs.declared.asked.Asked.{Asked}
-use Rattle.patterns.specs.declared.operation.Operation.TheVariants as operation
+use Rattle.patterns_match.specs.Asked.{asked_operations}
+use Rattle.patterns.specs.Exprs.{asked, expr_of, exprs_in, leaf_expr}
+use Rattle.patterns_match.specs.Asked.{plain_asked}
+use Rattle.patterns.specs.Exprs.{with_expr}
+use Rattle.patterns_match.specs.Operations.{operation_map}
+use Rattle.patterns_match.specs.Trees.{Tells, Searches, Dated, Counts}
+use Rattle.patterns_match.specs.declared.asked.Asked.{Asked}
+use Rattle.patterns_match.specs.declared.operation.Operation.TheVariants as operation
 use Rattle.patterns.specs.Causes.{Halfway, Judges, SomeOf, is_good}
 use Rattle.patterns.specs.Errors.{is_fault, of_expr_error}
-use Rattle.patterns.specs.Trees.{Leaf}
-use Rattle.patterns.specs.declared.letter.Field.{Field}
-use Rattle.patterns.specs.declared.operation.Operation.{Operation}
+use Rattle.patterns_match.specs.Trees.{Leaf}
+use Rattle.patterns_match.specs.declared.letter.Field.{Field}
+use Rattle.patterns_match.specs.declared.operation.Operation.{Operation}
 use Rattle.patterns.specs.declared.pattern_error.PatternError.{PatternError}
 use Rattle.patterns.specs.declared.pattern_error.PatternError.TheVariants as error
 

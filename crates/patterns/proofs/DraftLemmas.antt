@@ -4,11 +4,12 @@ use Rattle.std.specs.Prelude.{Vec, vec_len}
 use Rattle.std.specs.declared.alloc.Global.{Global}
 use Rattle.std.proofs.lemmas.List.{length-map, map-append}
 use Rattle.patterns.specs.Needs.{plain_need}
-use Rattle.patterns.specs.Operations.{IsCode, code, made, operation_map, plain_operations}
-use Rattle.patterns.specs.Trees.{Tree}
+use Rattle.patterns_match.specs.Operations.{IsCode, code, operation_map}
+use Rattle.patterns.specs.Needs.{made, plain_operations}
+use Rattle.patterns_match.specs.Trees.{Tree}
 use Rattle.patterns.specs.declared.need.Need.{Need}
-use Rattle.patterns.specs.declared.operation.Operation.{Operation}
-use Rattle.patterns.proofs.OperationLemmas.{is_code}
+use Rattle.patterns_match.specs.declared.operation.Operation.{Operation}
+use Rattle.patterns_match.proofs.OperationLemmas.{is_code}
 
 pub vec_length : {X : Type 0} (v : Vec X Global) → vec_len v ≡ length v.items
 vec_length v = omega arith

@@ -1,14 +1,14 @@
 -- What the definitions say of written patterns.
 use Rattle.std.proofs.Common.{◌≡◌, ℕ, List, [], Option, None, Ok, Err, codes, refl, false, true}
 use Rattle.patterns.specs.Faults.{Empty, UnknownLetter, Unbalanced, BadRange, BadDate}
-use Rattle.patterns.specs.Letters.{letter_of, rows}
+use Rattle.patterns_match.specs.Letters.{letter_of, rows}
 use Rattle.patterns.specs.Patterns.{pattern_of}
-use Rattle.patterns.specs.Trees.{Days, Asks, Not, And, Or, Group, Related, Tells, Searches, Counts}
-use Rattle.patterns.specs.declared.letter.Mark.TheVariants.{New, Deleted, Duplicate}
-use Rattle.patterns.specs.declared.letter.Field.TheVariants.{From, Subject, Body}
-use Rattle.patterns.specs.declared.letter.Number.TheVariants.{Bytes}
-use Rattle.patterns.specs.declared.range.Range.TheVariants as range
-use Rattle.patterns.specs.declared.relation.Relation.TheVariants.{Parent}
+use Rattle.patterns_match.specs.Trees.{Days, Asks, Not, And, Or, Group, Related, Tells, Searches, Counts}
+use Rattle.patterns_match.specs.declared.letter.Mark.TheVariants.{New, Deleted, Duplicate}
+use Rattle.patterns_match.specs.declared.letter.Field.TheVariants.{From, Subject, Body}
+use Rattle.patterns_match.specs.declared.letter.Number.TheVariants.{Bytes}
+use Rattle.patterns_match.specs.declared.range.Range.TheVariants as range
+use Rattle.patterns_match.specs.declared.relation.Relation.TheVariants.{Parent}
 
 abbrev no_day : List ℕ → Option Days
 no_day text = None

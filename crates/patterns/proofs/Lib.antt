@@ -2,10 +2,8 @@ pub mod NumberLemmas
 pub mod Facts
 pub mod DaysLemmas
 pub mod PrintedLemmas
-pub mod OperationLemmas
 pub mod DraftLemmas
 pub mod StateLemmas
 pub mod ReadLemmas
 pub mod CauseLemmas
 pub mod ReadingLemmas
-pub mod MachineLemmas

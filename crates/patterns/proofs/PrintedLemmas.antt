@@ -20,9 +20,9 @@ use Rattle.std.proofs.lemmas.List.{append-nil}
 use Rattle.mail_base.proofs.RoundPlaces.{prefix_all, prefix_stop}
 use Rattle.patterns.specs.Laws.{RangesAreRead}
 use Rattle.patterns.specs.Numbers.{greatest, is_number, number_of, up_to_greatest}
-use Rattle.patterns.specs.Ranges.{between, exactly_or_between, range_of}
-use Rattle.patterns.specs.declared.range.Range.TheVariants as range
-use Rattle.patterns.specs.declared.range.Measure.TheVariants.{Count}
+use Rattle.patterns.specs.RangeTexts.{between, exactly_or_between, range_of}
+use Rattle.patterns_match.specs.declared.range.Range.TheVariants as range
+use Rattle.patterns.specs.declared.range_text.Measure.TheVariants.{Count}
 use Rattle.patterns.proofs.NumberLemmas.{own}
 
 no_zero : (b : ℕ) → 48 < b → not (b == 48) ≡ true

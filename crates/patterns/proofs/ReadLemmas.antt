@@ -6,7 +6,7 @@ use Rattle.patterns.specs.Faults.{Fault, Reading}
 use Rattle.patterns.specs.Patterns.{State, more_of, read_from, stepped}
 use Rattle.patterns.specs.States.{Fails}
 use Rattle.patterns.specs.Tokens.{token_at}
-use Rattle.patterns.specs.Trees.{Days, Tree}
+use Rattle.patterns_match.specs.Trees.{Days, Tree}
 use Rattle.patterns.specs.declared.read_error.ReadError.{ReadError}
 use Rattle.patterns.specs.declared.read_error.ReadError.TheVariants as error
 

@@ -3,24 +3,26 @@ use Rattle.std.proofs.Common.{◌≡◌, ◌∙◌, ◌++◌, ℕ, false, List, 
 use Rattle.std.proofs.Common.{map, refl, sym, ap, subst, arith}
 use Rattle.std.proofs.lemmas.List.{length-map, map-append}
 use Rattle.people.specs.Judged.{PlainJudged}
-use Rattle.patterns.specs.Asked.{asked, asked_operations, asked_tree, exprs_in, tree_map}
+use Rattle.patterns_match.specs.Asked.{asked_operations, asked_tree}
+use Rattle.patterns.specs.Exprs.{asked, exprs_in, tree_map}
 use Rattle.patterns.specs.Causes.{Judges}
 use Rattle.patterns.specs.Errors.{is_fault, of_read_error}
 use Rattle.patterns.specs.Faults.{Empty, UnknownLetter, Unbalanced, BadRange, BadDate, TooDeep}
 use Rattle.patterns.specs.Faults.{Reading, reading_map}
-use Rattle.patterns.specs.Operations.{IsCode, code, made, operation_map, plain_operations}
+use Rattle.patterns_match.specs.Operations.{IsCode, code, operation_map}
+use Rattle.patterns.specs.Needs.{made, plain_operations}
 use Rattle.patterns.specs.Readings.{IsErrorOf, IsRead, exprs_read}
 use Rattle.patterns.specs.States.{Fails}
-use Rattle.patterns.specs.Trees.{Leaf, Tree, Asks, Not, And, Or, Group, Related}
-use Rattle.patterns.specs.declared.asked.Asked.{Asked}
+use Rattle.patterns_match.specs.Trees.{Leaf, Tree, Asks, Not, And, Or, Group, Related}
+use Rattle.patterns_match.specs.declared.asked.Asked.{Asked}
 use Rattle.patterns.specs.declared.need.Need.{Need}
-use Rattle.patterns.specs.declared.operation.Operation.{Operation}
-use Rattle.patterns.specs.declared.operation.Operation.TheVariants as operation
+use Rattle.patterns_match.specs.declared.operation.Operation.{Operation}
+use Rattle.patterns_match.specs.declared.operation.Operation.TheVariants as operation
 use Rattle.patterns.specs.declared.pattern_error.PatternError.{PatternError}
 use Rattle.patterns.specs.declared.pattern_error.PatternError.TheVariants as error
 use Rattle.patterns.specs.declared.read_error.ReadError.{ReadError}
 use Rattle.patterns.specs.declared.read_error.ReadError.TheVariants as read
-use Rattle.patterns.proofs.OperationLemmas.{is_code}
+use Rattle.patterns_match.proofs.OperationLemmas.{is_code}
 
 module _ (f : Leaf → Leaf) where
   one : (t : Tree) (o : Operation Leaf)

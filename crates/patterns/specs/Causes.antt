@@ -8,9 +8,9 @@ use Rattle.people.specs.Expr.{is_literal}
 use Rattle.people.specs.Judged.{PlainJudged, verdict_on}
 use Rattle.people.specs.declared.judged.Verdict.{Verdict}
 use Rattle.people.specs.declared.judged.Verdict.TheVariants.{Size}
-use Rattle.patterns.specs.Asked.{exprs_in}
-use Rattle.patterns.specs.Trees.{Leaf}
-use Rattle.patterns.specs.declared.operation.Operation.{Operation}
+use Rattle.patterns.specs.Exprs.{exprs_in}
+use Rattle.patterns_match.specs.Trees.{Leaf}
+use Rattle.patterns_match.specs.declared.operation.Operation.{Operation}
 use Rattle.patterns.specs.declared.pattern_error.PatternError.{PatternError}
 use Rattle.patterns.specs.declared.pattern_error.PatternError.TheVariants as error
 

@@ -7,8 +7,8 @@ use Rattle.mail_base.specs.Fronts.{◌>>=◌}
 use Rattle.mail_base.specs.Places.{split_once}
 use Rattle.patterns.specs.Days.{day_of, days_back, months_back}
 use Rattle.patterns.specs.Numbers.{number_of}
-use Rattle.patterns.specs.declared.range.Range.{Range}
-use Rattle.patterns.specs.declared.range.Range.TheVariants as range
+use Rattle.patterns_match.specs.declared.range.Range.{Range}
+use Rattle.patterns_match.specs.declared.range.Range.TheVariants as range
 
 -- a number of units of time
 abbrev pub up_to_most : ℕ → Option ℕ

@@ -2,7 +2,6 @@
 use Rattle.std.specs.Prelude.{◌==◌, ◌&&◌, ◌+◌, ◌+ℤ◌, ℕ, ℤ, pos, neg_ℤ, Bool, true, int_le, nat_le}
 use Rattle.std.specs.Prelude.{nat_lt, List, length, Option, Some}
 use Rattle.std.specs.Prelude.{None, option_map, if◌then◌else◌}
-use Rattle.std.specs.Int.{int_div_euclid}
 use Rattle.std.specs.Str.{byte}
 use Rattle.jiff_core.specs.Calendar.{days_from_civil, days_in_month}
 use Rattle.jiff_core.specs.Date.{epoch_day}
@@ -72,7 +71,3 @@ abbrev pub months_back : Date → ℕ → Option ℤ
 months_back today n =
     let moved = neg_ℤ (pos n) in
     in_calendar (has_year (shifted_year today moved)) (add_months today moved)
-
--- the day on which a moment falls, by an offset from UTC
-abbrev pub day_number : ℤ → ℤ → ℤ
-day_number moment offset = int_div_euclid (moment +ℤ offset) (pos 86_400)

@@ -3,10 +3,10 @@ use Rattle.std.specs.Prelude.{◌≡◌, ◌&&◌, ◌++◌, ℕ, Bool, true, na
 use Rattle.std.specs.Fmt.{decimal}
 use Rattle.std.specs.Str.{byte}
 use Rattle.patterns.specs.Numbers.{greatest}
-use Rattle.patterns.specs.Ranges.{range_of}
-use Rattle.patterns.specs.declared.range.Range.{Range}
-use Rattle.patterns.specs.declared.range.Range.TheVariants as range
-use Rattle.patterns.specs.declared.range.Measure.TheVariants.{Count}
+use Rattle.patterns.specs.RangeTexts.{range_of}
+use Rattle.patterns_match.specs.declared.range.Range.{Range}
+use Rattle.patterns_match.specs.declared.range.Range.TheVariants as range
+use Rattle.patterns.specs.declared.range_text.Measure.TheVariants.{Count}
 
 -- a range as it is written
 abbrev pub printed_range : Range ℕ → List ℕ

@@ -1,8 +1,6 @@
 pub mod Numbers
-pub mod Ranges
-pub mod Letters
+pub mod RangeTexts
 pub mod Arguments
-pub mod Trees
 pub mod Faults
 pub mod Tokens
 pub mod Patterns
@@ -10,12 +8,8 @@ pub mod Days
 pub mod Dates
 pub mod Laws
 pub mod Needs
-pub mod Operations
 pub mod States
 pub mod Errors
-pub mod Asked
+pub mod Exprs
 pub mod Causes
 pub mod Readings
-pub mod Listings
-pub mod Satisfies
-pub mod Machine

@@ -7,9 +7,9 @@ use Rattle.std.specs.Str.{byte}
 use Rattle.mail_base.specs.Blanks.{is_blank}
 use Rattle.patterns.specs.Faults.{◌>>?◌, Empty, Reading, TooDeep, Unbalanced}
 use Rattle.patterns.specs.Tokens.{Token, Open, Close, Bar, Bang, Term, token_at}
-use Rattle.patterns.specs.Trees.{Days, Tree, Asks, And, Or, Group, Related, Searches, negated}
-use Rattle.patterns.specs.declared.letter.Field.TheVariants.{From, Subject}
-use Rattle.patterns.specs.declared.relation.Relation.{Relation}
+use Rattle.patterns_match.specs.Trees.{Days, Tree, Asks, And, Or, Group, Related, Searches, negated}
+use Rattle.patterns_match.specs.declared.letter.Field.TheVariants.{From, Subject}
+use Rattle.patterns_match.specs.declared.relation.Relation.{Relation}
 
 -- What was read of a pattern, or of what is in a parenthesis: the alternatives before the last bar,
 -- the terms behind it, and the exclamation marks behind these.

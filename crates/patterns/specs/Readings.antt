@@ -3,21 +3,18 @@ use Rattle.std.specs.Prelude.{◌≡◌, ℕ, ℤ, List, [], Result, Ok, Err, Is
 use Rattle.jiff_core.specs.Date.{epoch_day}
 use Rattle.jiff_core.specs.declared.civil.date.Date.{Date}
 use Rattle.people.specs.Judged.{PlainJudged}
-use Rattle.patterns.specs.Asked.{asked, asked_tree, exprs, tree_map}
+use Rattle.patterns_match.specs.Asked.{asked_tree}
+use Rattle.patterns.specs.Exprs.{asked, exprs, tree_map}
 use Rattle.patterns.specs.Causes.{Judges}
 use Rattle.patterns.specs.Dates.{days_of}
-use Rattle.patterns.specs.Days.{day_number}
+use Rattle.patterns_match.specs.Days.{day_number}
 use Rattle.patterns.specs.Faults.{Reading, Empty, UnknownLetter, Unbalanced, BadRange, BadDate}
 use Rattle.patterns.specs.Faults.{TooDeep, reading_map}
 use Rattle.patterns.specs.Patterns.{pattern_of}
-use Rattle.patterns.specs.Trees.{Tree}
-use Rattle.patterns.specs.declared.pattern.Pattern.{Pattern}
+use Rattle.patterns_match.specs.Trees.{Tree}
+use Rattle.patterns_match.specs.declared.pattern.Pattern.{Pattern}
 use Rattle.patterns.specs.declared.pattern_error.PatternError.{PatternError}
 use Rattle.patterns.specs.declared.pattern_error.PatternError.TheVariants as error
-
--- the tree of a pattern that was read
-abbrev pub pattern_tree : Pattern → Tree
-pattern_tree pattern = asked_tree pattern.operations.items
 
 -- the expressions of a pattern, where the text is one
 abbrev pub exprs_read : Reading Tree → List (List ℕ)

@@ -2,9 +2,9 @@
 use Rattle.std.specs.Prelude.{◌≡◌, ℕ, List, [], ◌∷◌, Option, Some, None, Result, Ok, Err}
 use Rattle.std.specs.Prelude.{option_map, reverse, map}
 use Rattle.patterns.specs.Faults.{Reading}
-use Rattle.patterns.specs.Operations.{made}
+use Rattle.patterns.specs.Needs.{made}
 use Rattle.patterns.specs.Patterns.{Side, Opened, State}
-use Rattle.patterns.specs.Trees.{Tree}
+use Rattle.patterns_match.specs.Trees.{Tree}
 use Rattle.patterns.specs.declared.draft.Draft.{Draft}
 use Rattle.patterns.specs.declared.read_error.ReadError.{ReadError}
 use Rattle.patterns.specs.declared.read_error.ReadError.TheVariants as error

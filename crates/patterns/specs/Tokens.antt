@@ -8,22 +8,23 @@ use Rattle.mail_base.specs.Blanks.{without_blanks}
 use Rattle.patterns.specs.Arguments.{argument_at, is_quote}
 use Rattle.patterns.specs.Faults.{◌>>?◌, BadDate, BadRange, Empty, Fault, Reading, Unbalanced}
 use Rattle.patterns.specs.Faults.{UnknownLetter}
-use Rattle.patterns.specs.Letters.{letter_of}
-use Rattle.patterns.specs.Ranges.{range_map, range_of}
+use Rattle.patterns_match.specs.Letters.{letter_of}
+use Rattle.patterns_match.specs.Ranges.{range_map}
+use Rattle.patterns.specs.RangeTexts.{range_of}
 use Rattle.jiff_core.specs.Date.{epoch_day}
 use Rattle.patterns.specs.declared.token.Leaf.{Leaf as HeldLeaf}
 use Rattle.patterns.specs.declared.token.Leaf.TheVariants as held
 use Rattle.patterns.specs.declared.token.Token.{Token as HeldToken}
 use Rattle.patterns.specs.declared.token.Token.TheVariants as token
-use Rattle.patterns.specs.Trees.{Days, Leaf, Tells, Searches, Dated, Counts}
-use Rattle.patterns.specs.declared.letter.Letter.{Letter}
-use Rattle.patterns.specs.declared.letter.Letter.TheVariants as letter
-use Rattle.patterns.specs.declared.letter.Number.{Number}
-use Rattle.patterns.specs.declared.letter.Number.TheVariants.{Place, Score, Attachments, Bytes}
-use Rattle.patterns.specs.declared.range.Measure.{Measure}
-use Rattle.patterns.specs.declared.range.Measure.TheVariants.{Count, Size}
-use Rattle.patterns.specs.declared.relation.Relation.{Relation}
-use Rattle.patterns.specs.declared.relation.Relation.TheVariants.{Thread, Parent, Child}
+use Rattle.patterns_match.specs.Trees.{Days, Leaf, Tells, Searches, Dated, Counts}
+use Rattle.patterns_match.specs.declared.letter.Letter.{Letter}
+use Rattle.patterns_match.specs.declared.letter.Letter.TheVariants as letter
+use Rattle.patterns_match.specs.declared.letter.Number.{Number}
+use Rattle.patterns_match.specs.declared.letter.Number.TheVariants.{Place, Score, Attachments, Bytes}
+use Rattle.patterns.specs.declared.range_text.Measure.{Measure}
+use Rattle.patterns.specs.declared.range_text.Measure.TheVariants.{Count, Size}
+use Rattle.patterns_match.specs.declared.relation.Relation.{Relation}
+use Rattle.patterns_match.specs.declared.relation.Relation.TheVariants.{Thread, Parent, Child}
 
 -- what stands next in a pattern, but blanks
 pub data Token : Type 0 where

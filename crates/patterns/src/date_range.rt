@@ -3,13 +3,13 @@
 ghost use Rattle.std.specs.Prelude.{◌≡◌, ◌≤◌, option_map, IfSome};
 ghost use Rattle.jiff_core.specs.Date.{epoch_day};
 ghost use Rattle.patterns.specs.Dates as spec;
-ghost use Rattle.patterns.specs.Ranges.{range_map};
+ghost use Rattle.patterns_match.specs.Ranges.{range_map};
 
 use crate::day::{days_back, months_back, read_day};
 use crate::number::number_of;
-use crate::range::Range;
 use jiff::civil::Date;
 use mail_base::split_once;
+use patterns_match::Range;
 
 // A number of units of time, which ends the text before its letter.
 fn count_of(digits: &[u8], behind: &[u8]) -> Option<u32>

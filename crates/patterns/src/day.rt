@@ -3,6 +3,7 @@
 ghost use Rattle.std.specs.Prelude.{◌≡◌, ◌<◌, ◌≤◌, ◌≤ℤ◌, neg_ℤ, pos, option_map, IfSome};
 ghost use Rattle.jiff_core.specs.Date.{epoch_day};
 ghost use Rattle.patterns.specs.Days as spec;
+ghost use Rattle.patterns_match.specs.Days.{day_number};
 
 use jiff::ToSpan;
 use jiff::civil::Date;
@@ -105,7 +106,7 @@ pub fn day_at(moment: i64, offset: i32) -> Date
     requires high { moment ≤ℤ pos 253_000_000_000 }
     requires west { neg_ℤ (pos 86_400) ≤ℤ offset }
     requires east { offset ≤ℤ pos 86_400 }
-    ensures { epoch_day result ≡ spec.day_number moment offset }
+    ensures { epoch_day result ≡ day_number moment offset }
 {
     let number = (moment + i64::from(offset)).div_euclid(86_400);
     let Ok(day) = civil::Date::from_unix_epoch_day(number) else {

@@ -2,13 +2,13 @@
 
 ghost use Rattle.std.specs.Prelude.{◌≡◌, ◌++◌, ◌∷◌, [], IfOk};
 ghost use Rattle.patterns.specs.Needs.{plain_need};
-ghost use Rattle.patterns.specs.Operations.{IsCode, made, plain_operations};
-ghost use Rattle.patterns.specs.Trees.{Asks, Not, And, Or, Group, Related};
+ghost use Rattle.patterns_match.specs.Operations.{IsCode};
+ghost use Rattle.patterns.specs.Needs.{made, plain_operations};
+ghost use Rattle.patterns_match.specs.Trees.{Asks, Not, And, Or, Group, Related};
 
 use crate::need::Need;
-use crate::operation::{Operation, with_last};
-use crate::relation::Relation;
 use mail_base::NoMemory;
+use patterns_match::{Operation, Relation, with_last};
 use std::alloc::Global;
 
 /// A pattern whose expressions are texts.

@@ -9,13 +9,13 @@ ghost use Rattle.patterns.specs.Tokens.{token_at};
 
 use crate::draft::Draft;
 use crate::fault::Fault;
-use crate::letter::Field;
 use crate::need::Need;
 use crate::read_error::ReadError;
 use crate::state::State;
 use crate::token::{Leaf, read_token};
 use jiff::civil::Date;
 use mail_base::{NoMemory, is_blank};
+use patterns_match::Field;
 use std::alloc::Global;
 
 fn begins_term(byte: u8) -> bool

@@ -4,11 +4,10 @@ ghost use Rattle.std.specs.Prelude.{◌≡◌, IfOk};
 ghost use Rattle.patterns.specs.Needs.{plain_need};
 ghost use Rattle.patterns.specs.Tokens.{plain_leaf};
 
-use crate::letter::{Day, Field, Mark, Number};
-use crate::range::Range;
 use crate::token::Leaf;
 use jiff::civil::Date;
 use mail_base::{Bytes, NoMemory};
+use patterns_match::{Day, Field, Mark, Number, Range};
 use std::alloc::Global;
 
 /// What a term asks.

@@ -2,23 +2,23 @@
 
 ghost use Rattle.std.specs.Prelude.{◌≡◌, ◌≤ℤ◌, None, false, neg_ℤ, pos, option_map, map};
 ghost use Rattle.std.specs.Prelude.{IfOk, IfErr};
-ghost use Rattle.patterns.specs.Asked.{asked, asked_operations, exprs_in, plain_asked};
-ghost use Rattle.patterns.specs.Asked as spec;
+ghost use Rattle.patterns_match.specs.Asked.{asked_operations, plain_asked};
+ghost use Rattle.patterns.specs.Exprs.{asked, exprs_in};
+ghost use Rattle.patterns.specs.Exprs as spec;
 ghost use Rattle.patterns.specs.Causes.{Judges};
 ghost use Rattle.patterns.specs.Errors.{is_fault};
 ghost use Rattle.patterns.specs.Needs.{plain_need};
-ghost use Rattle.patterns.specs.Operations.{IsCode, operation_map, plain_operations};
-ghost use Rattle.patterns.specs.Readings.{ReadsPattern, pattern_tree};
+ghost use Rattle.patterns_match.specs.Pattern.{pattern_tree};
+ghost use Rattle.patterns_match.specs.Operations.{IsCode, operation_map};
+ghost use Rattle.patterns.specs.Needs.{plain_operations};
+ghost use Rattle.patterns.specs.Readings.{ReadsPattern};
 
-use crate::asked::{Asked, Sought};
 use crate::day::day_at;
 use crate::draft_text::read_draft;
-use crate::letter::Field;
 use crate::need::Need;
-use crate::operation::{Operation, with_last};
-use crate::pattern::Pattern;
 use crate::pattern_error::PatternError;
 use mail_base::{Bytes, NoMemory};
+use patterns_match::{Asked, Field, Operation, Pattern, Sought, with_last};
 use people::{Expr, Verdicts};
 use std::alloc::Global;
 

@@ -4,15 +4,15 @@ ghost use Rattle.std.specs.Prelude.{◌≡◌, ◌+◌, ◌≤◌, ◌<◌, ◌^
 ghost use Rattle.patterns.specs.Patterns as spec;
 ghost use Rattle.patterns.specs.States.{Gives, first_place, plain_side, plain_state, tree_in};
 ghost use Rattle.patterns.specs.Tokens.{Open, Close, Bar, Bang, Term, plain_leaf, plain_token};
-ghost use Rattle.patterns.specs.Trees.{negated};
+ghost use Rattle.patterns_match.specs.Trees.{negated};
 
 use crate::draft::Draft;
 use crate::fault::Fault;
 use crate::need::Need;
 use crate::read_error::ReadError;
-use crate::relation::Relation;
 use crate::token::{Leaf, Token};
 use mail_base::NoMemory;
+use patterns_match::Relation;
 use std::alloc::Global;
 
 /// What was read of a pattern, or of what is in a parenthesis.

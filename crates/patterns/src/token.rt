@@ -8,11 +8,10 @@ ghost use Rattle.patterns.specs.Tokens as spec;
 use crate::argument::argument_at;
 use crate::date_range::read_days;
 use crate::fault::Fault;
-use crate::letter::{Day, Field, Letter, Mark, Number, read_letter};
-use crate::range::{Measure, Range, read_range};
-use crate::relation::Relation;
+use crate::range_text::{Measure, read_range};
 use jiff::civil::Date;
 use mail_base::without_blanks;
+use patterns_match::{Day, Field, Letter, Mark, Number, Range, Relation, read_letter};
 
 /// What a term asks without asking other terms.
 #[derive(Clone, Copy)]

@@ -1,10 +1,12 @@
 use Rattle.std.proofs.Common.{false, ◌≡◌, ◌∙◌, sym, ap}
 use Rattle.std.proofs.lemmas.Result.{err_from_is_err_and}
-use Rattle.patterns.specs.Asked.{asked, plain_asked}
+use Rattle.patterns_match.specs.Asked.{plain_asked}
+use Rattle.patterns.specs.Exprs.{asked}
 use Rattle.patterns.specs.Needs.{plain_need}
-use Rattle.patterns.specs.Operations.{operation_map, plain_operations}
-use Rattle.patterns.specs.Trees.{Searches}
-use Rattle.patterns.specs.declared.operation.Operation.TheVariants as operation
+use Rattle.patterns_match.specs.Operations.{operation_map}
+use Rattle.patterns.specs.Needs.{plain_operations}
+use Rattle.patterns_match.specs.Trees.{Searches}
+use Rattle.patterns_match.specs.declared.operation.Operation.TheVariants as operation
 use Rattle.patterns.proofs.CauseLemmas.{asked_more, expr_asked, halfway_on, halfway_skip}
 use Rattle.patterns.proofs.CauseLemmas.{halfway_stop, no_memory}
 use Rattle.patterns.proofs.pattern_text.read_exprs.Goals as goal

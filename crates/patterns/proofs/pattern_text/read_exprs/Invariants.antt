@@ -1,7 +1,9 @@
 use Rattle.std.proofs.Common.{◌≡◌, ◌++◌, length, map}
-use Rattle.patterns.specs.Asked.{asked, asked_operations}
+use Rattle.patterns_match.specs.Asked.{asked_operations}
+use Rattle.patterns.specs.Exprs.{asked}
 use Rattle.patterns.specs.Causes.{Halfway}
-use Rattle.patterns.specs.Operations.{operation_map, plain_operations}
+use Rattle.patterns_match.specs.Operations.{operation_map}
+use Rattle.patterns.specs.Needs.{plain_operations}
 use Rattle.patterns.proofs.pattern_text.read_exprs.Given as goal
 
 abbrev pub invariant-loop-operation : goal.invariant-loop-operation

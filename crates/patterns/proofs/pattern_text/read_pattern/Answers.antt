@@ -5,9 +5,9 @@ use Rattle.patterns.proofs.ReadingLemmas.{asked_code, exprs_fail, exprs_read_on,
 use Rattle.jiff.proofs.SpanFacts.{signed_arith}
 use Rattle.jiff_core.specs.Date.{epoch_day}
 use Rattle.patterns.specs.Dates.{days_of}
-use Rattle.patterns.specs.Days.{day_number}
+use Rattle.patterns_match.specs.Days.{day_number}
 use Rattle.patterns.specs.Patterns.{pattern_of}
-use Rattle.patterns.specs.Readings.{pattern_tree}
+use Rattle.patterns_match.specs.Pattern.{pattern_tree}
 use Rattle.patterns.proofs.pattern_text.read_pattern.Goals as goal
 
 pub returns-in_err-draft-clause-reads : goal.returns-in_err-draft-clause-reads

@@ -1,6 +1,6 @@
 use Rattle.std.proofs.Common.{◌≡◌}
 use Rattle.patterns.specs.States.{tree_in}
-use Rattle.patterns.specs.Trees.{negated}
+use Rattle.patterns_match.specs.Trees.{negated}
 use Rattle.patterns.proofs.state.negated.Given as goal
 
 abbrev pub invariant-loop : goal.invariant-loop

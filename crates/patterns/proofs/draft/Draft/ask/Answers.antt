@@ -1,8 +1,8 @@
 use Rattle.std.proofs.Common.{ap}
 use Rattle.patterns.proofs.DraftLemmas.{makes}
 use Rattle.patterns.specs.Needs.{plain_need}
-use Rattle.patterns.specs.Operations.{plain_operations}
-use Rattle.patterns.specs.Trees.{Asks}
+use Rattle.patterns.specs.Needs.{plain_operations}
+use Rattle.patterns_match.specs.Trees.{Asks}
 use Rattle.patterns.proofs.draft.Draft.ask.Goals as goal
 
 pub invariant_of-result : goal.invariant_of-result

@@ -1,7 +1,7 @@
 use Rattle.std.proofs.Common.{refl}
 use Rattle.patterns.proofs.DraftLemmas.{with_last}
-use Rattle.patterns.specs.Trees.{Not}
-use Rattle.patterns.specs.declared.operation.Operation.TheVariants as operation
+use Rattle.patterns_match.specs.Trees.{Not}
+use Rattle.patterns_match.specs.declared.operation.Operation.TheVariants as operation
 use Rattle.patterns.proofs.draft.Draft.negate.Goals as goal
 
 pub invariant_of-result : goal.invariant_of-result

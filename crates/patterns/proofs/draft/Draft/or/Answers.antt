@@ -1,8 +1,8 @@
 use Rattle.std.proofs.Common.{◌∙◌, ◌++◌, [], ◌∷◌, ap, sym}
 use Rattle.patterns.proofs.DraftLemmas.{joined, vec_length}
-use Rattle.patterns.specs.Operations.{code}
-use Rattle.patterns.specs.Trees.{Or}
-use Rattle.patterns.specs.declared.operation.Operation.TheVariants as operation
+use Rattle.patterns_match.specs.Operations.{code}
+use Rattle.patterns_match.specs.Trees.{Or}
+use Rattle.patterns_match.specs.declared.operation.Operation.TheVariants as operation
 use Rattle.patterns.proofs.draft.Draft.or.Goals as goal
 
 pub invariant_of-result : goal.invariant_of-result

@@ -1,5 +1,0 @@
-use Rattle.patterns.proofs.MachineLemmas.{operations_answer}
-use Rattle.patterns.proofs.laws.operations_answer.Goals as goal
-
-pub returns : goal.returns
-returns c = operations_answer

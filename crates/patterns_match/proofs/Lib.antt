@@ -1,0 +1,7 @@
+pub mod OperationLemmas
+pub mod MachineLemmas
+pub mod ListingLemmas
+pub mod JoinedLemmas
+pub mod BodyLemmas
+pub mod SoughtLemmas
+pub mod AskingLemmas

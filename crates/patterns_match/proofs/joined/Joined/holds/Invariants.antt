@@ -1,0 +1,11 @@
+use Rattle.std.proofs.Common.{◌≡◌, length}
+use Rattle.patterns_match.specs.Joined.{holds, joined}
+use Rattle.patterns_match.proofs.joined.Joined.holds.Given as goal
+
+-- it stands in what is left or nowhere
+abbrev pub invariant-loop-text : goal.invariant-loop-text
+invariant-loop-text l =
+    holds l.case (joined l.text) l.literal ≡ holds l.case (joined l.fn.self) l.literal
+
+abbrev pub decreases-loop-text : goal.decreases-loop-text
+decreases-loop-text l = length (joined l.text)

@@ -1,0 +1,16 @@
+pub mod Letters
+pub mod Ranges
+pub mod Trees
+pub mod Leaves
+pub mod Operations
+pub mod Asked
+pub mod Pattern
+pub mod Days
+pub mod Listings
+pub mod Satisfies
+pub mod Machine
+pub mod Entries
+pub mod Sought
+pub mod Joined
+pub mod Scores
+pub mod ScoreEntries
