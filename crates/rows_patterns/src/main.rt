@@ -1,17 +1,15 @@
-//! The worked rows of expressions, of the tables of people, of patterns and of scores: each case
-//! file is read, each case's calls made and compared.
+//! The worked rows of expressions, of patterns, of what they match and of scores: each case file is
+//! read, each case's calls made and compared.
 #![tactic(auto)]
 
 mod expressions;
 mod listing;
 mod matched_cases;
 mod pattern_texts;
-mod people_calls;
 
 use crate::expressions::Expressions;
 use crate::matched_cases::MatchedCases;
 use crate::pattern_texts::PatternTexts;
-use crate::people_calls::PeopleCalls;
 use case_files::{Report, play_file, print_report};
 use mail_base::NoMemory;
 use std::io;
@@ -28,7 +26,6 @@ fn main(rt: HostRuntime) -> io::Result<ExitCode> {
 /// Plays each case file, a line a file.
 fn play_all(rt: &HostRuntime, report: &mut Report) -> Result<(), NoMemory> {
     play_file(rt, &Expressions, "expressions", report)?;
-    play_file(rt, &PeopleCalls, "tables", report)?;
     play_file(rt, &PatternTexts, "patterns", report)?;
     play_file(rt, &MatchedCases, "matches", report)
 }

@@ -41,8 +41,8 @@ impl Subject for PeopleCalls {
     }
 }
 
-// The table to which an entry adds.
-fn table_of(entry: &Entry) -> Option<PeopleTable> {
+/// The table to which an entry adds.
+pub fn table_of(entry: &Entry) -> Option<PeopleTable> {
     match entry.role() {
         b"lists" => Some(PeopleTable::Lists),
         b"subscribed" => Some(PeopleTable::Subscribed),
@@ -51,7 +51,8 @@ fn table_of(entry: &Entry) -> Option<PeopleTable> {
     }
 }
 
-fn add(
+/// Adds an expression that was read.
+pub fn add(
     people: &mut People,
     table: PeopleTable,
     read: Result<Expr, ExprError>,
