@@ -1,5 +1,5 @@
-//! A whole run of the reader: words, keys and moments come in, screens go out. Call `run`, which has
-//! the theorem; `Status` is its answer, and the `Trace` of a session tells what happened.
+//! A whole run of the reader: words, keys and moments come in, screens go out. Call `run`, which
+//! has the theorem; `Status` is its answer, and the `Trace` of a session tells what happened.
 #![tactic(auto)]
 
 mod clock;

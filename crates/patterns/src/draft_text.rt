@@ -73,7 +73,8 @@ fn step_at(
 }
 
 fn read_terms(alloc: Global, today: Date, text: &[u8]) -> Result<Draft, ReadError>
-    ensures { Gives tree_in result (spec.read_from (days_of today) 0 0 (Ok spec.at_first) text.now) }
+    ensures { Gives tree_in result
+        (spec.read_from (days_of today) 0 0 (Ok spec.at_first) text.now) }
 {
     let mut state = State::new(alloc);
     let mut left = text;

@@ -11,8 +11,8 @@ use std::alloc::Global;
 
 /// `message` is the text of a message, and each `line` its row by a `format`. `marks` are S seen,
 /// A aged, R replied, F flagged, D deleted and T tagged; `shut` is `n` and `o` for what stands in
-/// the shut thread whose others it hides, or `-`. `mine` and `subscribed` are expressions of tables;
-/// the other inputs are what else a row shows.
+/// the shut thread whose others it hides, or `-`. `mine` and `subscribed` are expressions of
+/// tables; the other inputs are what else a row shows.
 pub struct IndexLines;
 
 impl Subject for IndexLines {
