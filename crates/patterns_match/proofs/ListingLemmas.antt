@@ -1,8 +1,9 @@
 -- Tests of the messages of a listing.
-use Rattle.std.proofs.Common.{◌≡◌, ◌∙◌, ◌||◌, ◌&&◌, ◌<◌, ℕ, zero, suc, Bool, true, false, List, []}
-use Rattle.std.proofs.Common.{◌∷◌, length, refl, sym, ap, arith, zero-add}
+use Rattle.std.proofs.Common.{◌≡◌, ◌==◌, ◌∙◌, ◌||◌, ◌&&◌, ◌<◌, ℕ, zero, suc, Bool, true, false}
+use Rattle.std.proofs.Common.{List, [], ◌∷◌, length, refl, sym, ap, arith, zero-add}
 use Rattle.std.proofs.Math.Bool.{or-true}
-use Rattle.std.proofs.lemmas.Option.{none-some}
+use Rattle.std.proofs.lemmas.Bool.{eq-eqb, eqb-true, false≢true}
+use Rattle.std.proofs.lemmas.Option.{none-some, slice_get-get_or}
 use Rattle.std.proofs.lemmas.List.Folds.{list_any_at, list_any_none}
 use Rattle.std.proofs.lemmas.List.FromFn.{get_or-range_with_len, length-range_with_len}
 use Rattle.std.proofs.Common.{Option, Some, None, option_map, unwrap_or}
@@ -12,6 +13,7 @@ use Rattle.patterns_match.specs.Listings.{Message}
 use Rattle.patterns_match.specs.Satisfies.{are_related, is_place, is_related, passes}
 use Rattle.patterns_match.specs.Satisfies.{some_related}
 use Rattle.patterns_match.specs.declared.relation.Relation.{Relation}
+use Rattle.patterns_match.specs.declared.relation.Relation.TheVariants.{Parent}
 
 pub any_at : (p : Message → Bool) (xs : List Message) (k : ℕ) → passes p (slice_get xs k) ≡ true
     → list_any p xs ≡ true
@@ -72,3 +74,42 @@ pub nobody_related : (listing : List Message) (relation : Relation) (place : ℕ
     → some_related listing relation place test ≡ false
 nobody_related listing relation place test none =
     range_none (λ k. are_related listing relation place k && test k) (length listing) none
+
+-- of two tests the second fails where the first holds
+under_test : (o : Option Message) (b t : Bool) → (b ≡ true → t ≡ false)
+    → (passes (λ n. b) o && t) ≡ false
+under_test None b t f = refl
+under_test (Some n) true t f = f refl
+under_test (Some n) false t f = refl
+
+-- there is no parent
+pub parentless : (listing : List Message) (place : ℕ) (test : ℕ → Bool) (m : Message)
+    → Some m ≡ slice_get listing place → None ≡ m.parent
+    → some_related listing Parent place test ≡ false
+parentless listing place test m e none =
+    nobody_related listing Parent place test (λ k within.
+    ap (λ o. passes (λ n. passes (is_related Parent place n k) (slice_get listing k)) o && test k)
+    (sym e)
+    ∙ ap (λ p. passes (λ n. is_place k p) (slice_get listing k) && test k) (sym none)
+    ∙ under_test (slice_get listing k) false (test k) (λ b. absurd (false≢true b)))
+
+-- the parent alone is asked
+pub parent_alone : (listing : List Message) (place : ℕ) (test : ℕ → Bool) (m : Message)
+    (parent : ℕ)
+    → Some m ≡ slice_get listing place → Some parent ≡ m.parent → parent < length listing
+    → some_related listing Parent place test ≡ test parent
+parent_alone listing place test m parent e is within =
+    let by_test : (t : Bool) → test parent ≡ t → some_related listing Parent place test ≡ t =
+    λ t. elim t as (λ t. test parent ≡ t → some_related listing Parent place test ≡ t) [
+      | true ↦ λ passed. one_related listing Parent place test m parent e within
+          (ap (passes (λ n. is_place parent m.parent)) (slice_get-get_or listing parent m within)
+          ∙ ap (is_place parent) (sym is) ∙ eq-eqb parent parent refl)
+          passed
+      | false ↦ λ failed. nobody_related listing Parent place test (λ k inside.
+          ap (λ o. passes (λ n. passes (is_related Parent place n k) (slice_get listing k)) o
+          && test k) (sym e)
+          ∙ ap (λ p. passes (λ n. is_place k p) (slice_get listing k) && test k) (sym is)
+          ∙ under_test (slice_get listing k) (k == parent) (test k)
+          (λ same. ap test (eqb-true k parent same) ∙ failed))
+    ] in
+    by_test (test parent) refl

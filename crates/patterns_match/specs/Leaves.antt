@@ -29,14 +29,6 @@ asks_people mark.ToMe = true
 asks_people mark.FromMe = true
 asks_people _ = false
 
--- its texts are searched as they stand in the header
-abbrev pub stands_so : Field → Bool
-stands_so field.Id = true
-stands_so field.Subject = true
-stands_so field.References = true
-stands_so field.Label = true
-stands_so _ = false
-
 -- its texts are made of the parts of the message
 abbrev pub asks_parts : Field → Bool
 asks_parts field.Body = true
@@ -52,7 +44,7 @@ counts_parts _ = false
 abbrev pub takes_none : Leaf → Bool
 takes_none (Tells mark) = not (asks_people mark)
 takes_none (Searches field true text) = not (asks_parts field)
-takes_none (Searches field false text) = stands_so field && is_literal text
+takes_none (Searches field false text) = not (asks_parts field) && is_literal text
 takes_none (Dated day days) = true
 takes_none (Counts number range) = not (counts_parts number)
 

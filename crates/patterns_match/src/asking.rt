@@ -67,8 +67,8 @@ fn is_related<T: Table>(
 }
 
 // Whether a message that is so related to the one at a place satisfies the pattern of these
-// operations. Each message is looked at, so that patterns of other messages in one another take a
-// time that grows by the number of messages with each of them.
+// operations. The parent is asked alone; for others each message is looked at, so that patterns of
+// them in one another take a time that grows by the number of messages with each of them.
 #[cycle(asking)]
 fn some_related<T: Table>(
     alloc: Global,
@@ -89,6 +89,12 @@ fn some_related<T: Table>(
     let Some(entry) = entry_at(place, table) else {
         return Ok(false);
     };
+    if let Relation::Parent = relation {
+        return match entry.parent {
+            Some(parent) => answer(alloc, operations, offset, parent, table, people),
+            None => Ok(false),
+        };
+    }
     for other in 0..table.len() {
         if is_related(relation, place, &entry, other, table)
             && answer(alloc, operations, offset, other, table, people)?

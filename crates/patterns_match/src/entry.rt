@@ -1,6 +1,6 @@
 //! Messages of a table.
 
-ghost use Rattle.std.specs.Prelude.{◌≡◌, option_map, slice_get};
+ghost use Rattle.std.specs.Prelude.{◌≡◌, ◌<◌, IfSome, length, option_map, slice_get};
 ghost use Rattle.patterns_match.specs.Entries.{plain_entry};
 
 use crate::row::Row;
@@ -20,7 +20,9 @@ pub struct Entry<'a> {
 
 /// The message at a place.
 pub fn entry_at<T: Table>(place: usize, table: &T) -> Option<Entry<'_>>
-    ensures { option_map plain_entry result ≡ slice_get (T.messages table.now) place }
+    ensures value { option_map plain_entry result ≡ slice_get (T.messages table.now) place }
+    ensures within { IfSome result
+        (λ e. IfSome e.parent (λ parent. parent < length (T.messages table.now))) }
 {
     if place >= table.len() {
         return None;

@@ -2,7 +2,7 @@
 
 ghost use Rattle.std.specs.Prelude.{◌≡◌, true, IfOk, IsOk};
 ghost use Rattle.patterns_match.specs.Joined.{joined};
-ghost use Rattle.patterns_match.specs.Sought.{is_plain, is_sought_literal, sought_found};
+ghost use Rattle.patterns_match.specs.Sought.{is_sought_literal, sought_found};
 
 use crate::asked::Sought;
 use crate::joined::Joined;
@@ -22,14 +22,17 @@ impl Sought {
         }
     }
 
-    /// The same in a text of several pieces, which are joined for an expression alone.
+    /// The same in a text of several pieces, which are joined where it is no literal.
     pub fn is_found_in(&self, alloc: Global, text: Joined<'_>) -> Result<bool, NoMemory>
         ensures value { IfOk result (λ found. found ≡ sought_found self.now (joined text.entry)) }
-        ensures memory { is_plain self.now ≡ true → IsOk result }
+        ensures memory { is_sought_literal self.now ≡ true → IsOk result }
     {
         match self {
             Sought::Plain(literal) => Ok(text.holds(literal.as_slice())),
-            Sought::Expression(expr) => expr.search(text.copy(alloc)?.as_slice()),
+            Sought::Expression(expr) => match expr.literal() {
+                Some(literal) => Ok(text.holds(literal)),
+                None => expr.search(text.copy(alloc)?.as_slice()),
+            },
         }
     }
 }

@@ -8,7 +8,7 @@ ghost use Rattle.patterns_match.specs.Asked.{plain_search};
 ghost use Rattle.patterns_match.specs.Entries.{plain_entry};
 ghost use Rattle.patterns_match.specs.Leaves as leaves;
 ghost use Rattle.patterns_match.specs.Listings as spec;
-ghost use Rattle.patterns_match.specs.Sought.{is_plain, is_sought_literal, sought_found};
+ghost use Rattle.patterns_match.specs.Sought.{is_sought_literal, sought_found};
 
 use crate::asked::Sought;
 use crate::body::{body_found, kind_found};
@@ -38,7 +38,7 @@ fn any_found(sought: &Sought, texts: &[Bytes]) -> Result<bool, NoMemory>
 fn person_found(alloc: Global, sought: &Sought, person: &Person) -> Result<bool, NoMemory>
     ensures value { IfOk result (λ found. found
         ≡ sought_found sought.now (spec.person_text (plain_person person.now))) }
-    ensures memory { is_plain sought.now ≡ true → IsOk result }
+    ensures memory { is_sought_literal sought.now ≡ true → IsOk result }
 {
     let text = Joined {
         first: person.name.as_slice(),
@@ -61,7 +61,7 @@ fn id_of(header: &Header) -> Option<&[u8]>
 fn any_person(alloc: Global, sought: &Sought, persons: &[Person]) -> Result<bool, NoMemory>
     ensures value { IfOk result (λ found. found
         ≡ list_any (sought_found sought.now) (spec.person_texts (map plain_person persons.now))) }
-    ensures memory { is_plain sought.now ≡ true → IsOk result }
+    ensures memory { is_sought_literal sought.now ≡ true → IsOk result }
 {
     let mut left = persons;
     while let [first, rest @ ..] = left {
@@ -76,7 +76,7 @@ fn any_person(alloc: Global, sought: &Sought, persons: &[Person]) -> Result<bool
 fn line_found(alloc: Global, sought: &Sought, field: &headers::Field) -> Result<bool, NoMemory>
     ensures value { IfOk result (λ found. found
         ≡ sought_found sought.now (spec.field_text (plain_field field.now))) }
-    ensures memory { is_plain sought.now ≡ true → IsOk result }
+    ensures memory { is_sought_literal sought.now ≡ true → IsOk result }
 {
     let text = Joined {
         first: field.name.as_slice(),
@@ -89,7 +89,7 @@ fn line_found(alloc: Global, sought: &Sought, field: &headers::Field) -> Result<
 fn any_line(alloc: Global, sought: &Sought, fields: &[headers::Field]) -> Result<bool, NoMemory>
     ensures value { IfOk result (λ found. found
         ≡ list_any (sought_found sought.now) (map spec.field_text (map plain_field fields.now))) }
-    ensures memory { is_plain sought.now ≡ true → IsOk result }
+    ensures memory { is_sought_literal sought.now ≡ true → IsOk result }
 {
     let mut left = fields;
     while let [first, rest @ ..] = left {
@@ -121,7 +121,7 @@ fn any_of_both(
 ) -> Result<bool, NoMemory>
     ensures value { IfOk result (λ found. found ≡ list_any (sought_found sought.now)
         (spec.person_texts (map plain_person persons.now ++ map plain_person others.now))) }
-    ensures memory { is_plain sought.now ≡ true → IsOk result }
+    ensures memory { is_sought_literal sought.now ≡ true → IsOk result }
 {
     if any_person(alloc, sought, persons)? {
         return Ok(true);
@@ -133,7 +133,7 @@ fn anyone_found(alloc: Global, sought: &Sought, header: &Header) -> Result<bool,
     ensures value { IfOk result (λ found. found ≡ list_any (sought_found sought.now)
         (spec.person_texts (plain_persons header.now.authors ++ plain_persons header.now.senders
         ++ plain_persons header.now.to ++ plain_persons header.now.cc))) }
-    ensures memory { is_plain sought.now ≡ true → IsOk result }
+    ensures memory { is_sought_literal sought.now ≡ true → IsOk result }
 {
     if any_of_both(
         alloc,

@@ -1,6 +1,6 @@
 //! Expressions.
 
-ghost use Rattle.std.specs.Prelude.{◌≡◌, true, IsOk, IfOk};
+ghost use Rattle.std.specs.Prelude.{◌≡◌, true, false, IsOk, IfOk, IfSome, IfNone};
 ghost use Rattle.mail_base.specs.Shown.{utf8_text};
 ghost use Rattle.people.specs.Expr as spec;
 ghost use Rattle.people.specs.Judged.{Reads};
@@ -55,6 +55,18 @@ impl Expr {
             text: line,
             pattern,
         })
+    }
+
+    /// The text that is searched for as it stands, where it is a literal.
+    pub fn literal(&self) -> Option<&[u8]>
+        ensures some { IfSome result
+            (λ text. (text.now ≡ self.now) × (spec.is_literal self.now ≡ true)) }
+        ensures none { IfNone result (spec.is_literal self.now ≡ false) }
+    {
+        match &self.pattern {
+            None => Some(self.text.as_slice()),
+            Some(_) => None,
+        }
     }
 
     /// Whether it is found in the text, in which each malformed byte counts as a `?`.

@@ -1,4 +1,6 @@
-use Rattle.std.proofs.Common.{◌∙◌, ◌≤◌, refl, length, sym, ap, arith, FitsSigned, w32, to_z, of_z, length-take}
+use Rattle.std.proofs.Common.{◌≡◌, ◌∙◌, ◌≤◌, refl, length, sym, subst, ap, arith, FitsSigned, w32}
+use Rattle.std.proofs.Common.{to_z, of_z, length-take}
+use Rattle.std.specs.Prelude.{IfOk}
 use Rattle.std.proofs.lemmas.Bool.{false≢true}
 use Rattle.std.proofs.lemmas.Int.{to_z-of_z}
 use Rattle.jiff.proofs.SpanFacts.{signed_arith}
@@ -9,6 +11,7 @@ use Rattle.patterns_match.specs.Satisfies.{satisfies}
 use Rattle.patterns_match.proofs.AskingLemmas.{framed, ordered, steps_if, steps_others, steps_unless}
 use Rattle.patterns_match.proofs.AskingLemmas.{free_front, whole_front}
 use Rattle.patterns_match.proofs.ListingLemmas.{nobody_related, none_related, one_related}
+use Rattle.patterns_match.proofs.ListingLemmas.{parent_alone, parentless}
 use Rattle.patterns_match.proofs.asking.+asking.Goals as goal
 
 pub answer-loop-left-init : goal.answer-loop-left-init
@@ -29,7 +32,29 @@ some_related-returns-in_default-clause-value g t c =
     let listing = g.T.Table.messages c.args.table.now in
     sym (none_related listing c.args.relation c.args.place
     (satisfies c.args.people.now c.args.offset listing (asked_tree c.args.operations.now))
-    c.in_default.ensures)
+    c.in_default.ensures.value)
+
+pub some_related-returns-in-None-clause-value : goal.some_related-returns-in-None-clause-value
+some_related-returns-in-None-clause-value g t c =
+    let listing = g.T.Table.messages c.args.table.now in
+    let tree = asked_tree c.args.operations.now in
+    let test = satisfies c.args.people.now c.args.offset listing tree in
+    rw c.in-Parent.is
+    (sym (parentless listing c.args.place test (plain_entry c.in-Some.entry) c.in-Some.ensures.value
+    (sym c.in-None.is)))
+
+pub some_related-returns-in-Some-parent-clause-value :
+    goal.some_related-returns-in-Some-parent-clause-value
+some_related-returns-in-Some-parent-clause-value g t c =
+    let listing = g.T.Table.messages c.args.table.now in
+    let tree = asked_tree c.args.operations.now in
+    let test = satisfies c.args.people.now c.args.offset listing tree in
+    let fits : FitsSigned w32 c.args.offset = omega (arith, signed_arith) in
+    let value = simp to_z-of_z at c.answer.ensures.value in
+    let alone = parent_alone listing c.args.place test (plain_entry c.in-Some.entry)
+    c.in-Some-parent.parent c.in-Some.ensures.value (sym c.in-Some-parent.is)
+    (rw c.in-Some-parent.is at c.in-Some.ensures.within) in
+    rw c.in-Parent.is (subst (λ b. IfOk c.answer.result (λ held. held ≡ b)) (sym alone) value)
 
 pub some_related-returns-then-branch-clause-value :
     goal.some_related-returns-then-branch-clause-value
@@ -40,7 +65,8 @@ some_related-returns-then-branch-clause-value g t c =
     let value = simp to_z-of_z at c.in_ok-answer.ensures.value in
     sym (one_related listing c.args.relation c.args.place
     (satisfies c.args.people.now c.args.offset listing tree) (plain_entry c.in-Some.entry)
-    c.loop-other.other c.in-Some.ensures (omega (arith, c.loop-other-test.true, c.len-other-end.ensures))
+    c.loop-other.other c.in-Some.ensures.value
+    (omega (arith, c.loop-other-test.true, c.len-other-end.ensures))
     (sym c.is_related.ensures ∙ c.if-is_related.true)
     (ap (λ (p : PlainPeople). satisfies p c.args.offset listing tree c.loop-other.other)
     (sym c.loop-other.invariant.same) ∙ sym value ∙ c.if-branch.true))
