@@ -1,0 +1,3 @@
+pub mod Entries
+pub mod Visibility
+pub mod Tree
