@@ -1,0 +1,4 @@
+pub mod PendingLemmas
+pub mod ByIdLemmas
+pub mod ChangeLemmas
+pub mod FoundLemmas

@@ -1,0 +1,45 @@
+-- The listed messages.
+use Rattle.std.specs.Prelude.{ℕ, Bool, false, List, map}
+use Rattle.mail_base.specs.declared.flags.Flags.{Flags}
+use Rattle.mail_base.specs.declared.kind.Id.{Id}
+use Rattle.index_items.specs.Pending.{PlainPending, nothing, plain_pending, shown}
+use Rattle.index_items.specs.declared.item.Item.{Item}
+
+-- a message: its flags in the folder, what the user changed of it, its tag, and whether the thread
+-- of which it is the root is shut
+pub record PlainItem : Type 0 where
+  pub id : Id
+  pub flags : Flags
+  pub pending : PlainPending
+  pub tagged : Bool
+  pub shut : Bool
+
+abbrev pub plain_item : Item → PlainItem
+plain_item i = record {
+  id = i.id;
+  flags = i.flags;
+  pending = plain_pending i.pending;
+  tagged = i.tagged;
+  shut = i.shut;
+}
+
+abbrev pub plain_items : List Item → List PlainItem
+plain_items items = map plain_item items
+
+-- a message as it comes
+abbrev pub listed : Id → Flags → PlainItem
+listed id flags = record {
+  id = id;
+  flags = flags;
+  pending = nothing;
+  tagged = false;
+  shut = false;
+}
+
+-- the flags of a message as they are shown
+abbrev pub shown_flags : PlainItem → Flags
+shown_flags i = shown i.flags i.pending
+
+-- the numbers of the messages' ids
+abbrev pub numbers : List PlainItem → List ℕ
+numbers items = map (λ i. i.id.0) items

@@ -1,0 +1,5 @@
+pub mod Pending
+pub mod Items
+pub mod Changes
+pub mod ById
+pub mod Found

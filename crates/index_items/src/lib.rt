@@ -1,0 +1,16 @@
+//! The listed messages as the index keeps them: what the user changed of each and the folder does
+//! not hold yet, its tag, and whether its thread is shut. Ask `changes` for what a sync is to do, and
+//! `settled` and `joined` for what a sync and a scan leave of the list.
+#![tactic(auto)]
+
+mod by_id;
+mod change;
+mod found;
+mod item;
+mod pending;
+
+pub use by_id::ById;
+pub use change::{changes, settled};
+pub use found::joined;
+pub use item::Item;
+pub use pending::Pending;
