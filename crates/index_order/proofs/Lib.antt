@@ -1,0 +1,9 @@
+pub mod TotalLemmas
+pub mod SortedLemmas
+pub mod LinkLemmas
+pub mod FillLemmas
+pub mod GreatestLemmas
+pub mod KeyLemmas
+pub mod IdLemmas
+pub mod ThreadLemmas
+pub mod LawLemmas

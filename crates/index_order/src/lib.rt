@@ -1,0 +1,16 @@
+//! The order of the index: messages by the keys of a sort, or in threads. Keep the `SortKeys` of
+//! each message of a listing, and ask `order` for their ids under some `SortOptions`.
+#![tactic(auto)]
+
+mod greatest;
+mod keys;
+mod laws;
+mod listing;
+mod options;
+mod sorted;
+mod standing;
+
+pub use keys::SortKeys;
+pub use laws::greatest_is_greatest;
+pub use listing::order;
+pub use options::{Sort, SortOptions};
