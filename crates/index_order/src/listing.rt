@@ -4,7 +4,7 @@ ghost use Rattle.std.specs.Prelude.{◌≡◌, true, length, map, IfOk, IsSome};
 ghost use Rattle.std.specs.List.{range_with_len};
 ghost use Rattle.std.specs.List.Sorted.{IsPermutation};
 ghost use Rattle.threads.specs.Links.{target};
-ghost use Rattle.threads.specs.Order.{order_from};
+ghost use Rattle.threads.specs.Order.{ParentsFirst, order_from};
 ghost use Rattle.threads.specs.Subjects.{parents};
 ghost use Rattle.threads.specs.Threads.{place_of};
 ghost use Rattle.index_order.specs.Inner as inner;
@@ -76,6 +76,7 @@ fn ids_by(alloc: Global, threads: &Threads, standing: &Standing) -> Result<Ids, 
         (λ ids. ids.items ≡ order_from (inner.comes_before standing.now) threads.now) }
     ensures once { IfOk result
         (λ ids. IsPermutation (map (λ m. m.id) threads.now.messages) ids.items) }
+    ensures first { IfOk result (λ ids. ParentsFirst threads.now ids.items) }
 {
     threads.order_from(alloc, &|a: Id, b: Id| standing.comes_before(a, b))
 }
@@ -91,6 +92,7 @@ fn in_threads(
     ensures order { IfOk result (λ ids. ids.items ≡ map (spec.id_at keys.now)
         (spec.in_threads options keys.now (parents threads.now.options threads.now.messages))) }
     ensures once { IfOk result (λ ids. IsPermutation (map (λ k. k.id) keys.now) ids.items) }
+    ensures first { IfOk result (λ ids. ParentsFirst threads.now ids.items) }
 {
     let numbers = numbers_of(alloc, keys)?;
     let above = parent_places(alloc, keys, &numbers, threads)?;
@@ -120,6 +122,9 @@ pub fn order(
     ensures order { IfOk result (λ ids. ids.items ≡ spec.order options keys.now threads.now) }
     // Each message once.
     ensures once { IfOk result (λ ids. IsPermutation (map (λ k. k.id) keys.now) ids.items) }
+    // In threads each message stands behind its parent.
+    ensures first { spec.is_threads options.sort ≡ true
+        → IfOk result (λ ids. ParentsFirst threads.now ids.items) }
 {
     if options.sort.is_threads() {
         in_threads(alloc, keys, threads, options)

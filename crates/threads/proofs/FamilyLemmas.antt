@@ -14,7 +14,8 @@ use Rattle.std.specs.Cmp.{IsStrictWeakOrder}
 use Rattle.std.specs.List.{filter, flat_map, range_with_len}
 use Rattle.std.specs.declared.alloc.Global.{Global}
 use Rattle.mail_base.specs.declared.kind.Id.{Id}
-use Rattle.threads.specs.Families.{AreEntries, AreFamilies, CanOrder, CanWalk, below, lists, places}
+use Rattle.threads.specs.Families.{AreEntries, AreFamilies, ArePut, CanOrder, CanWalk, below}
+use Rattle.threads.specs.Families.{lists, places}
 use Rattle.threads.specs.Links.{target}
 use Rattle.threads.specs.Message.{PlainMessage, no_message}
 use Rattle.threads.specs.Order.{IsStrictOrder, by_id, children, id_at, in_order_by, is_child}
@@ -28,10 +29,12 @@ use Rattle.threads.specs.Subjects.{parents}
 use Rattle.threads.specs.Threads.{root_of}
 use Rattle.threads.specs.declared.options.ThreadOptions.{ThreadOptions}
 use Rattle.threads.proofs.FoundLemmas.{all_parents_long, parents_below}
+use Rattle.threads.proofs.BackLemmas.{all_within, trees_back}
 use Rattle.threads.proofs.CloseLemmas.{Each-both}
 use Rattle.threads.proofs.OnceLemmas.{all_once}
 use Rattle.threads.proofs.SortLemmas.{in_order_filter, places_within}
 use Rattle.threads.proofs.TreeLemmas.{can_walk, children_follow, ends_there, filter_within, none_below}
+use Rattle.threads.proofs.TreeLemmas.{roots_end}
 
 -- a list the other way round
 
@@ -176,6 +179,22 @@ module _ (messages : List PlainMessage) (above : List (Option Step)) (es : List 
       (sym (all_ids messages))
       (IsPermutation-map (id_at messages) (range_with_len 0 (length messages))
       (flat_map (tree_of kids (length messages)) (reverse families.roots.items)) here)
+
+  pub put : ArePut messages above
+      (map (id_at messages) (flat_map (tree_of (below families.children.items) (length messages))
+      (reverse families.roots.items)))
+  unfolding kids
+  put =
+      let kids = below families.children.items in
+      let roots = reverse families.roots.items in
+      record {
+        places = flat_map (tree_of kids (length messages)) roots;
+        the_ids = refl;
+        within = all_within kids (length messages) walks (length messages) roots roots_within;
+        back = trees_back (target above) kids follow (length messages) roots
+            (subst (Each (λ r. target above r ≡ None)) (sym roots_are)
+            (roots_end above (places es)));
+      }
 
 -- what was worked out can be put in order
 pub can_order : (options : ThreadOptions) (messages : List PlainMessage) → AreDistinct messages

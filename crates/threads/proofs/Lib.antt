@@ -10,3 +10,4 @@ pub mod TreeLemmas
 pub mod FamilyLemmas
 pub mod OnceLemmas
 pub mod OwnLemmas
+pub mod BackLemmas

@@ -144,6 +144,18 @@ children_follow parents p (x ∷ xs) =
     by_test true is more = (child_follows parents p x is, more)
     by_test false is more = more
 
+pub roots_end : (parents : List (Option Step)) (xs : List ℕ)
+    → Each (λ r. target parents r ≡ None) (filter (is_root parents) xs)
+roots_end parents [] = tt
+roots_end parents (x ∷ xs) = by_target (target parents x) refl (roots_end parents xs)
+  where
+    by_target : (t : Option ℕ) → target parents x ≡ t
+        → Each (λ r. target parents r ≡ None) (filter (is_root parents) xs)
+        → Each (λ r. target parents r ≡ None)
+        (if is_none t then x ∷ filter (is_root parents) xs else filter (is_root parents) xs)
+    by_target None is more = (is, more)
+    by_target (Some q) is more = more
+
 -- nothing is below what is no place
 pub none_below : (parents : List (Option Step)) (p : ℕ) (xs : List ℕ)
     → LeadsBelow (length parents) parents → length parents ≤ p

@@ -1,10 +1,12 @@
 -- For the code alone: who stands below whom, while threads are put in order.
 use Rattle.std.specs.Prelude.{◌≡◌, ◌<◌, ℕ, List, [], ◌∷◌, length, map, reverse, Vec, Option}
-use Rattle.std.specs.Prelude.{slice_index_or}
+use Rattle.std.specs.Prelude.{Some, slice_get, slice_index_or}
 use Rattle.std.specs.List.{All, filter, flat_map, range_with_len}
 use Rattle.std.specs.declared.alloc.Global.{Global}
+use Rattle.mail_base.specs.declared.kind.Id.{Id}
 use Rattle.threads.specs.Forest.{IsForest}
 use Rattle.threads.specs.Found.{AreDistinct, LeadsBelow}
+use Rattle.threads.specs.Links.{target}
 use Rattle.threads.specs.Message.{PlainMessage}
 use Rattle.threads.specs.Order.{id_at, is_child, is_root, tree_of}
 use Rattle.threads.specs.Walk.{Each}
@@ -55,3 +57,16 @@ pub record CanOrder (messages : List PlainMessage) (parents : List (Option Step)
   pub long : length parents ≡ length messages
   pub leads : LeadsBelow (length parents) parents
   pub forest : IsForest parents
+
+-- where a step leads on from a place of a list, it leads to one that stands before it
+abbrev pub LeadsBack : (ℕ → Option ℕ) → List ℕ → Type 0
+LeadsBack on places = (i p q : ℕ) → slice_get places i ≡ Some p → on p ≡ Some q
+    → (j : ℕ) × (j < i) × (slice_get places j ≡ Some q)
+
+-- the ids at places that stand behind their parents
+pub record ArePut (messages : List PlainMessage) (parents : List (Option Step)) (ids : List Id)
+    : Type 0 where
+  pub places : List ℕ
+  pub the_ids : ids ≡ map (id_at messages) places
+  pub within : Each (λ p. p < length messages) places
+  pub back : LeadsBack (target parents) places

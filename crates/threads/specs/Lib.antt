@@ -1,3 +1,4 @@
+pub mod Numbers
 pub mod Message
 pub mod Firsts
 pub mod Links

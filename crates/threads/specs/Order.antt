@@ -1,6 +1,6 @@
 -- Messages in the order of threads: each root, and behind it all that follow it.
 use Rattle.std.specs.Prelude.{◌≡◌, ◌^◌, ◌<◌, ℕ, zero, suc, Bool, false, List, [], ◌∷◌, length}
-use Rattle.std.specs.Prelude.{map, is_none, nat_eq, Option, if◌then◌else◌}
+use Rattle.std.specs.Prelude.{map, is_none, nat_eq, slice_get, Option, Some, if◌then◌else◌}
 use Rattle.std.specs.Cmp.{IsStrictWeakOrder}
 use Rattle.std.specs.Fn.{FnReturns, Shared}
 use Rattle.std.specs.List.{filter, flat_map, range_with_len}
@@ -9,7 +9,8 @@ use Rattle.mail_base.specs.declared.kind.Id.{Id}
 use Rattle.threads.specs.Links.{target}
 use Rattle.threads.specs.Message.{PlainMessage, at}
 use Rattle.threads.specs.Subjects.{parents}
-use Rattle.threads.specs.Threads.{PlainThreads}
+use Rattle.threads.specs.Threads.{PlainThreads, parent}
+use Rattle.threads.specs.declared.options.Parent.{Parent}
 use Rattle.threads.specs.declared.step.Step.{Step}
 
 -- an element put before the first of these that does not stand before it
@@ -74,3 +75,8 @@ abbrev pub Answers : {B : Type 0} → Shared B (Id × (Id × Unit {0})) Bool →
     → (Id → Id → Bool) → Type 0
 Answers g test before = (a b : Id) (r : Bool) → a.0 < 2 ^ 32 → b.0 < 2 ^ 32
     → FnReturns g test (a, (b, tt)) r → r ≡ before a b
+
+-- the parent of each message stands before it in a list of ids
+abbrev pub ParentsFirst : PlainThreads → List Id → Type 0
+ParentsFirst threads ids = (i : ℕ) (id : Id) (above : Parent) → slice_get ids i ≡ Some id
+    → parent threads id ≡ Some above → (j : ℕ) × (j < i) × (slice_get ids j ≡ Some above.id)

@@ -6,6 +6,7 @@
 mod firsts;
 mod links;
 mod message;
+mod numbers;
 mod options;
 mod order;
 mod step;

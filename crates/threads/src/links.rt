@@ -1,10 +1,10 @@
 //! Whom each message answers by the ids of headers, through a table of holders.
 
-ghost use Rattle.std.specs.Prelude.{◌≡◌, ◌+◌, ◌<◌, ◌≤◌, length, map, option_map, IfOk, OnOk, IfSome, None, false};
+ghost use Rattle.std.specs.Prelude.{◌≡◌, ◌+◌, ◌<◌, ◌≤◌, length, map, option_map, IfOk, OnOk, IfSome, Some, None, false};
 ghost use Rattle.mail_base.specs.Series.{plain_texts};
 ghost use Rattle.threads.specs.Firsts.{place_in};
 ghost use Rattle.threads.specs.Links as spec;
-ghost use Rattle.threads.specs.Message.{plain_message, plain_messages};
+ghost use Rattle.threads.specs.Message.{at, plain_messages};
 ghost use Rattle.threads.specs.Inner.{HoldOwn, HoldersBelow};
 
 use crate::firsts::{Firsts, add_first};
@@ -55,13 +55,58 @@ fn other_holder(holders: &Firsts, place: usize, id: &Bytes) -> Option<usize>
     }
 }
 
-fn referred(holders: &Firsts, place: usize, candidates: &[Bytes]) -> Option<usize>
+// The message before a place, where it has the id.
+fn previous_with(messages: &[Message], place: usize, id: &[u8]) -> Option<usize>
+    requires { place < length messages.now }
+    ensures { IfSome result (λ p. (p + 1 ≡ place)
+        × ((at (plain_messages messages.now) p).message_id ≡ Some id.now)) }
+{
+    if place == 0 {
+        return None;
+    }
+    let previous = place - 1;
+    match &messages[previous].message_id {
+        Some(own) if own.as_slice() == id => Some(previous),
+        _ => None,
+    }
+}
+
+// Another place that holds the id. Where no id has several holders, nothing is looked up if it is
+// the one before: a reply often stands right behind what it answers.
+fn referred_holder(
+    holders: &Firsts,
+    shared: bool,
+    messages: &[Message],
+    place: usize,
+    id: &Bytes,
+) -> Option<usize>
+    requires within { place < length messages.now }
+    requires own { shared ≡ false → HoldOwn messages.now holders.now (length messages.now) }
+    ensures { result ≡ spec.other_than place (place_in holders.now id.now.items) }
+{
+    if !shared {
+        if let Some(previous) = previous_with(messages, place, id.as_slice()) {
+            return Some(previous);
+        }
+    }
+    other_holder(holders, place, id)
+}
+
+fn referred(
+    holders: &Firsts,
+    shared: bool,
+    messages: &[Message],
+    place: usize,
+    candidates: &[Bytes],
+) -> Option<usize>
+    requires within { place < length messages.now }
+    requires own { shared ≡ false → HoldOwn messages.now holders.now (length messages.now) }
     ensures { result
         ≡ spec.referred (place_in holders.now) place (map (λ c. c.items) candidates.now) }
 {
     let mut left = candidates;
     while let [first, rest @ ..] = left {
-        if let Some(other) = other_holder(holders, place, first) {
+        if let Some(other) = referred_holder(holders, shared, messages, place, first) {
             return Some(other);
         }
         left = rest;
@@ -86,14 +131,16 @@ fn link_of(
     options: ThreadOptions,
     holders: &Firsts,
     shared: bool,
-    message: &Message,
+    messages: &[Message],
     place: usize,
 ) -> Option<Step>
-    requires { shared ≡ false → spec.duplicated (place_in holders.now) place
-        (plain_message message.now).message_id ≡ None }
+    requires within { place < length messages.now }
+    requires own { shared ≡ false → HoldOwn messages.now holders.now (length messages.now) }
     ensures { result
-        ≡ spec.link_by (place_in holders.now) options (plain_message message.now) place }
+        ≡ spec.link_by (place_in holders.now) options (at (plain_messages messages.now) place)
+        place }
 {
+    let message = &messages[place];
     if options.duplicates {
         if let Some(place) = duplicated(holders, shared, place, &message.message_id) {
             return Some(Step {
@@ -102,7 +149,13 @@ fn link_of(
             });
         }
     }
-    match referred(holders, place, message.candidates.as_slice()) {
+    match referred(
+        holders,
+        shared,
+        messages,
+        place,
+        message.candidates.as_slice(),
+    ) {
         Some(place) => Some(Step {
             place,
             link: Link::Reference,
@@ -121,8 +174,8 @@ pub fn links_of(
 {
     let (holders, shared) = holders_of(alloc, messages)?;
     let mut links = Vec::with_capacity(alloc, messages.len())?;
-    for (place, message) in messages.iter().enumerate() {
-        links.push(link_of(options, &holders, shared, message, place))?;
+    for place in 0..messages.len() {
+        links.push(link_of(options, &holders, shared, messages, place))?;
     }
     Ok(links)
 }

@@ -44,6 +44,7 @@ fn entries_of(alloc: Global, messages: &[Message]) -> Result<Vec<Entry>, NoMemor
     Ok(entries)
 }
 
+// No two messages have one id, so what does not come first comes behind.
 fn compared<B: Fn(Id, Id) -> bool>(before: &B, a: Id, b: Id) -> Ordering
     requires { B.IsAlwaysCallable before.now }
     ensures { (order : id.Id → id.Id → Bool) → Answers B.Fn before.now order
@@ -51,10 +52,8 @@ fn compared<B: Fn(Id, Id) -> bool>(before: &B, a: Id, b: Id) -> Ordering
 {
     if before(a, b) {
         Ordering::Less
-    } else if before(b, a) {
-        Ordering::Greater
     } else {
-        Ordering::Equal
+        Ordering::Greater
     }
 }
 
@@ -177,6 +176,8 @@ pub fn ordered<B: Fn(Id, Id) -> bool>(
         (thread_order (by_id order (plain_messages messages.now)) parents.now)) }
     ensures once { IfOk result
         (λ ids. IsPermutation (map (λ m. m.id) (plain_messages messages.now)) ids.items) }
+    ensures put { IfOk result
+        (λ ids. spec.ArePut (plain_messages messages.now) parents.now ids.items) }
 {
     let mut entries = sorted(alloc, messages, before)?;
     entries.reverse();

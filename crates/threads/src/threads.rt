@@ -13,6 +13,7 @@ ghost use Rattle.threads.specs.Threads as spec;
 
 use crate::links::links_of;
 use crate::message::{Message, kept_of};
+use crate::numbers::BuildNumberHasher;
 use crate::options::{Parent, ThreadOptions};
 use crate::order::ordered;
 use crate::step::Step;
@@ -32,7 +33,7 @@ pub struct Threads {
     options: ThreadOptions,
     messages: Vec<Message>,
     // the numbers of their ids, in the same order
-    numbers: IndexSet<u32>,
+    numbers: IndexSet<u32, BuildNumberHasher>,
     found: Option<Found>,
 }
 
@@ -70,7 +71,7 @@ impl Threads {
             alloc,
             options,
             messages: Vec::new(alloc),
-            numbers: IndexSet::new(alloc),
+            numbers: IndexSet::with_hasher(alloc, BuildNumberHasher::new()),
             found: None,
         }
     }
@@ -167,9 +168,10 @@ impl Threads {
         ensures order { (by : id.Id → id.Id → Bool) → order.IsStrictOrder by
             → order.Answers B.Fn before.now by
             → IfOk result (λ ids. ids.items ≡ order.order_from by self.now) }
-        // Each message once, whatever `before` answers.
+        // Each message once, and behind its parent, whatever `before` answers.
         ensures once { IfOk result
             (λ ids. IsPermutation (map (λ m. m.id) self.now.messages) ids.items) }
+        ensures first { IfOk result (λ ids. order.ParentsFirst self.now ids.items) }
     {
         match &self.found {
             Some(found) => {

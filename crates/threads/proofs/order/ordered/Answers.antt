@@ -3,11 +3,11 @@ use Rattle.std.proofs.lemmas.List.{length-map}
 use Rattle.std.proofs.lemmas.Result.{IfOk-weaker}
 use Rattle.std.specs.List.{flat_map, range_with_len}
 use Rattle.std.specs.List.Sorted.{IsPermutation}
-use Rattle.threads.specs.Families.{AreFamilies, CanWalk, below, places}
+use Rattle.threads.specs.Families.{AreFamilies, ArePut, CanWalk, below, places}
 use Rattle.threads.specs.Message.{plain_message, plain_messages}
 use Rattle.threads.specs.Order.{by_id, id_at, in_order_by, tree_of}
 use Rattle.threads.specs.Walk.{Each}
-use Rattle.threads.proofs.FamilyLemmas.{once, ordered, roots_within, walks}
+use Rattle.threads.proofs.FamilyLemmas.{once, ordered, put, roots_within, walks}
 use Rattle.threads.proofs.order.ordered.Goals as goal
 
 pub walk-requires-clause-within : goal.walk-requires-clause-within
@@ -74,3 +74,20 @@ returns-clause-once g c =
     (sym size)))
     (once ms c.args.parents.now es families c.requires.parents
     c.in_ok-entries.ensures.entries made moved)) c.walk.ensures
+
+pub returns-clause-put : goal.returns-clause-put
+returns-clause-put g c =
+    let ms = plain_messages c.args.messages.now in
+    let es = c.in_ok-entries.entries.items in
+    let families = c.in_ok-families.families in
+    let made : AreFamilies c.args.parents.now (places (reverse es)) families =
+    subst (λ l. AreFamilies c.args.parents.now (places l) families)
+    (c.deref.ensures.value ∙ c.reverse.ensures.items) c.in_ok-families.ensures in
+    let size = length-map c.args.messages.now plain_message in
+    IfOk-weaker c.walk.result _ _ (λ ids e.
+    subst (ArePut ms c.args.parents.now) (sym (e
+    ∙ ap (λ n. map (id_at ms)
+    (flat_map (tree_of (below families.children.items) n) (reverse families.roots.items)))
+    (sym size)))
+    (put ms c.args.parents.now es families c.requires.parents
+    c.in_ok-entries.ensures.entries made)) c.walk.ensures
