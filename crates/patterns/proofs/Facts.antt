@@ -3,7 +3,9 @@ use Rattle.std.proofs.Common.{◌≡◌, ℕ, List, [], Option, None, Ok, Err, c
 use Rattle.patterns.specs.Faults.{Empty, UnknownLetter, Unbalanced, BadRange, BadDate}
 use Rattle.patterns_match.specs.Letters.{letter_of, rows}
 use Rattle.patterns.specs.Patterns.{pattern_of}
-use Rattle.patterns_match.specs.Trees.{Days, Asks, Not, And, Or, Group, Related, Tells, Searches, Counts}
+use Rattle.patterns.specs.Printed.{printed}
+use Rattle.patterns_match.specs.Trees.{Days, Asks, Not, And, Or, Group, Related, Tells, Searches}
+use Rattle.patterns_match.specs.Trees.{Counts}
 use Rattle.patterns_match.specs.declared.letter.Mark.TheVariants.{New, Deleted, Duplicate}
 use Rattle.patterns_match.specs.declared.letter.Field.TheVariants.{From, Subject, Body}
 use Rattle.patterns_match.specs.declared.letter.Number.TheVariants.{Bytes}
@@ -16,6 +18,12 @@ no_day text = None
 unknown : pattern_of no_day (codes "~Y") ≡ Err (UnknownLetter 1)
 unfolding letter_of rows
 unknown = refl
+
+written : printed (λ days. []) (Or (And (Asks (Tells New)) (Not (Group (Asks (Tells Deleted)))))
+    (Related Parent (And (Asks (Searches Subject true (codes "a")))
+    (Asks (Searches Body false (codes "a b"))))))
+    ≡ codes "~N !(~D) | ~<(=s a ~b \"a b\")"
+written = refl
 
 open_one : pattern_of no_day (codes "(~A") ≡ Err (Unbalanced 0)
 unfolding letter_of rows

@@ -1,7 +1,11 @@
 pub mod NumberLemmas
 pub mod Facts
 pub mod DaysLemmas
+pub mod PlaceLemmas
+pub mod RangeLemmas
+pub mod PrintedDaysLemmas
 pub mod PrintedLemmas
+pub mod PlacedLemmas
 pub mod DraftLemmas
 pub mod StateLemmas
 pub mod ReadLemmas

@@ -1,31 +1,30 @@
 -- Laws of the definitions.
-use Rattle.std.specs.Prelude.{◌≡◌, ◌&&◌, ◌++◌, ℕ, Bool, true, nat_le, List, [], ◌∷◌, Some}
-use Rattle.std.specs.Fmt.{decimal}
-use Rattle.std.specs.Str.{byte}
-use Rattle.patterns.specs.Numbers.{greatest}
+use Rattle.std.specs.Prelude.{◌≡◌, ◌&&◌, ℕ, ℤ, true, List, Option, Some, Ok}
+use Rattle.jiff_core.specs.declared.civil.date.Date.{Date}
+use Rattle.patterns.specs.Dates.{days_of}
+use Rattle.patterns.specs.Patterns.{most_open, pattern_of}
+use Rattle.patterns.specs.Printed.{can_write, can_write_range, is_placed, nests_in, printed}
+use Rattle.patterns.specs.Printed.{printed_range}
+use Rattle.patterns.specs.PrintedDays.{can_write_days, printed_days}
 use Rattle.patterns.specs.RangeTexts.{range_of}
+use Rattle.patterns_match.specs.Trees.{Days, Tree}
 use Rattle.patterns_match.specs.declared.range.Range.{Range}
-use Rattle.patterns_match.specs.declared.range.Range.TheVariants as range
-use Rattle.patterns.specs.declared.range_text.Measure.TheVariants.{Count}
-
--- a range as it is written
-abbrev pub printed_range : Range ℕ → List ℕ
-printed_range (range.Exactly n) = decimal n
-printed_range (range.Between low high) = decimal low ++ byte "-" ∷ decimal high
-printed_range (range.UpTo high) = byte "-" ∷ decimal high
-printed_range (range.From low) = decimal low ++ byte "-" ∷ []
-printed_range (range.Below n) = byte "<" ∷ decimal n
-printed_range (range.Above n) = byte ">" ∷ decimal n
-
--- its numbers can be written
-abbrev pub can_write : Range ℕ → Bool
-can_write (range.Exactly n) = nat_le n greatest
-can_write (range.Between low high) = nat_le low greatest && nat_le high greatest
-can_write (range.UpTo high) = nat_le high greatest
-can_write (range.From low) = nat_le low greatest
-can_write (range.Below n) = nat_le n greatest
-can_write (range.Above n) = nat_le n greatest
+use Rattle.patterns.specs.declared.range_text.Measure.{Measure}
 
 -- a range that is written is read as itself
 abbrev pub RangesAreRead : Type 0
-RangesAreRead = (r : Range ℕ) → can_write r ≡ true → range_of Count (printed_range r) ≡ Some r
+RangesAreRead = (measure : Measure) (r : Range ℕ) → can_write_range r ≡ true
+    → range_of measure (printed_range r) ≡ Some r
+
+-- A pattern that is written is read as itself, on the same day, by whatever calendar its days are
+-- written.
+abbrev pub PatternsAreRead : Type 0
+PatternsAreRead = (today : Date) (date_of : ℤ → Date) (tree : Tree)
+    → can_write (can_write_days today date_of) tree ≡ true
+    → pattern_of (days_of today) (printed (printed_days today date_of) tree) ≡ Ok tree
+
+-- Each part of a pattern that is read is what its place asks for, and at most 64 parentheses are
+-- open in it at once.
+abbrev pub ReadPatternsArePlaced : Type 0
+ReadPatternsArePlaced = (days : List ℕ → Option Days) (text : List ℕ) (tree : Tree)
+    → pattern_of days text ≡ Ok tree → (is_placed tree && nests_in tree most_open) ≡ true

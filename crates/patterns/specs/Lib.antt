@@ -6,6 +6,9 @@ pub mod Tokens
 pub mod Patterns
 pub mod Days
 pub mod Dates
+pub mod Signs
+pub mod Printed
+pub mod PrintedDays
 pub mod Laws
 pub mod Needs
 pub mod States

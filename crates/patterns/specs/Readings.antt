@@ -3,7 +3,6 @@ use Rattle.std.specs.Prelude.{◌≡◌, ℕ, ℤ, List, [], Result, Ok, Err, Is
 use Rattle.jiff_core.specs.Date.{epoch_day}
 use Rattle.jiff_core.specs.declared.civil.date.Date.{Date}
 use Rattle.people.specs.Judged.{PlainJudged}
-use Rattle.patterns_match.specs.Asked.{asked_tree}
 use Rattle.patterns.specs.Exprs.{asked, exprs, tree_map}
 use Rattle.patterns.specs.Causes.{Judges}
 use Rattle.patterns.specs.Dates.{days_of}
@@ -12,7 +11,6 @@ use Rattle.patterns.specs.Faults.{Reading, Empty, UnknownLetter, Unbalanced, Bad
 use Rattle.patterns.specs.Faults.{TooDeep, reading_map}
 use Rattle.patterns.specs.Patterns.{pattern_of}
 use Rattle.patterns_match.specs.Trees.{Tree}
-use Rattle.patterns_match.specs.declared.pattern.Pattern.{Pattern}
 use Rattle.patterns.specs.declared.pattern_error.PatternError.{PatternError}
 use Rattle.patterns.specs.declared.pattern_error.PatternError.TheVariants as error
 

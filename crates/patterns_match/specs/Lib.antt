@@ -11,6 +11,7 @@ pub mod Satisfies
 pub mod Machine
 pub mod Entries
 pub mod Sought
+pub mod Kept
 pub mod Joined
 pub mod Scores
 pub mod ScoreEntries

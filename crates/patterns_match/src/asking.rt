@@ -4,6 +4,7 @@ ghost use Rattle.std.specs.Prelude.{◌≡◌, ◌<◌, ◌∷◌, true, length,
 ghost use Rattle.std.specs.Prelude.{IfOk, IsOk, if◌then◌else◌};
 ghost use Rattle.patterns_match.specs.Asked.{asked_operations, asked_tree, plain_asked};
 ghost use Rattle.patterns_match.specs.Entries.{plain_entry};
+ghost use Rattle.patterns_match.specs.Kept.{IsKeptAt};
 ghost use Rattle.patterns_match.specs.Machine.{AreFramed, Steps, are_free};
 ghost use Rattle.patterns_match.specs.Operations.{IsCode, operation_map};
 ghost use Rattle.patterns_match.specs.Pattern.{pattern_tree};
@@ -13,6 +14,7 @@ ghost use Rattle.patterns_match.specs.Satisfies as spec;
 use crate::asked::Asked;
 use crate::asks::asks;
 use crate::entry::{Entry, entry_at};
+use crate::kept::Kept;
 use crate::operation::Operation;
 use crate::pattern::Pattern;
 use crate::relation::Relation;
@@ -91,13 +93,17 @@ fn some_related<T: Table>(
     };
     if let Relation::Parent = relation {
         return match entry.parent {
-            Some(parent) => answer(alloc, operations, offset, parent, table, people),
+            Some(parent) => {
+                let mut kept = Kept::new(alloc);
+                answer(&mut kept, operations, offset, parent, table, people)
+            }
             None => Ok(false),
         };
     }
     for other in 0..table.len() {
+        let mut kept = Kept::new(alloc);
         if is_related(relation, place, &entry, other, table)
-            && answer(alloc, operations, offset, other, table, people)?
+            && answer(&mut kept, operations, offset, other, table, people)?
         {
             return Ok(true);
         }
@@ -108,7 +114,7 @@ fn some_related<T: Table>(
 // The answer behind an operation, with the operations that are asked next.
 #[cycle(asking)]
 fn step<'a, T: Table>(
-    alloc: Global,
+    kept: &mut Kept,
     operation: &Operation<Asked>,
     rest: &'a [Operation<Asked>],
     held: bool,
@@ -119,21 +125,23 @@ fn step<'a, T: Table>(
 ) -> Result<(bool, &'a [Operation<Asked>]), NoMemory>
     requires framed { AreFramed (operation_map plain_asked operation.now
         ∷ asked_operations rest.now) }
+    requires kept { IsKeptAt (T.messages table.now) place kept.old }
     ensures steps { IfOk result (λ p. Steps people.old offset (T.messages table.now) place held
         (operation_map plain_asked operation.now ∷ asked_operations rest.now)
         p.0 (asked_operations p.1.now)) }
+    ensures kept { IfOk result (λ _. IsKeptAt (T.messages table.now) place kept.new) }
     ensures same { people.new ≡ people.old }
     ensures memory { are_free (operation_map plain_asked operation.now
         ∷ asked_operations rest.now) ≡ true → IsOk result }
 {
     match operation {
-        Operation::Ask(asked) => { Ok((asks(alloc, asked, offset, place, table, people)?, rest)) }
+        Operation::Ask(asked) => { Ok((asks(kept, asked, offset, place, table, people)?, rest)) }
         Operation::Negate => Ok((!held, rest)),
         Operation::SkipUnless(count) => Ok((held, skipped(rest, !held, *count))),
         Operation::SkipIf(count) => Ok((held, skipped(rest, held, *count))),
         Operation::Others(relation, count) => {
             let others = front(rest, *count);
-            let found = some_related(alloc, *relation, others, offset, place, table, people)?;
+            let found = some_related(kept.alloc, *relation, others, offset, place, table, people)?;
             Ok((found, behind(rest, *count)))
         }
         Operation::Both | Operation::Either | Operation::Group | Operation::Related(_) => {
@@ -145,7 +153,7 @@ fn step<'a, T: Table>(
 // Whether the message at a place satisfies the pattern of these operations.
 #[cycle(asking)]
 fn answer<T: Table>(
-    alloc: Global,
+    kept: &mut Kept,
     operations: &[Operation<Asked>],
     offset: i32,
     place: usize,
@@ -153,6 +161,7 @@ fn answer<T: Table>(
     people: &mut People,
 ) -> Result<bool, NoMemory>
     requires whole { IsCode (asked_operations operations.now) }
+    requires kept { IsKeptAt (T.messages table.now) place kept.old }
     ensures value { IfOk result (λ held. held ≡ spec.satisfies people.old offset
         (T.messages table.now) (asked_tree operations.now) place) }
     ensures same { people.new ≡ people.old }
@@ -161,7 +170,7 @@ fn answer<T: Table>(
     let mut held = false;
     let mut left = operations;
     while let [first, rest @ ..] = left {
-        let (next, behind) = step(alloc, first, rest, held, offset, place, table, people)?;
+        let (next, behind) = step(kept, first, rest, held, offset, place, table, people)?;
         held = next;
         left = behind;
     }
@@ -181,8 +190,9 @@ pub fn is_matched<T: Table>(
     ensures same { people.new ≡ people.old }
     ensures memory { asks_freely (pattern_tree pattern.now) ≡ true → IsOk result }
 {
+    let mut kept = Kept::new(alloc);
     answer(
-        alloc,
+        &mut kept,
         pattern.operations.as_slice(),
         pattern.offset,
         place,
@@ -192,7 +202,7 @@ pub fn is_matched<T: Table>(
 }
 
 /// Whether the message at a place satisfies the pattern. Operations are asked front to back, up to
-/// where the answer is known; a body is decoded where a term asks for it.
+/// where the answer is known; a part is decoded where a term first asks for it.
 pub fn matches<T: Table>(
     alloc: Global,
     pattern: &mut Pattern,

@@ -1,19 +1,20 @@
 //! What a pattern searches for, in the parts of a message.
 
-ghost use Rattle.std.specs.Prelude.{◌≡◌, [], All, drop, length, map, option_map, unwrap_or};
-ghost use Rattle.std.specs.Prelude.{IfOk, IfSome};
+ghost use Rattle.std.specs.Prelude.{◌≡◌, ◌++◌, ◌∷◌, [], All, drop, length, map, unwrap_or, IfOk};
 ghost use Rattle.std.specs.List.{count_by, flat_map, list_any};
 ghost use Rattle.bstr.specs.Text.{lines_of, without_terminator};
 ghost use Rattle.mime_tree.specs.Order.{StandsWithin};
-ghost use Rattle.mime_tree.specs.Part.{plain_part, plain_parts};
+ghost use Rattle.mime_tree.specs.Part.{plain_part};
 ghost use Rattle.mime_tree.specs.Parts.{parts_of};
+ghost use Rattle.patterns_match.specs.Kept.{AreFirst, IsKept, lines_in};
 ghost use Rattle.patterns_match.specs.Listings as spec;
 ghost use Rattle.patterns_match.specs.Sought.{sought_found};
 
 use crate::asked::Sought;
+use crate::kept::{Kept, KeptParts, lines_of};
 use bstr::ByteSlice;
-use mail_base::{Line, NoMemory, behind_line};
-use mime_tree::{MimeError, Part, Parts, decoded_text, read_parts};
+use mail_base::{Line, Lines, NoMemory, behind_line};
+use mime_tree::Part;
 use std::alloc::Global;
 
 // Whether it is found in one of the lines.
@@ -31,28 +32,61 @@ fn any_found(sought: &Sought, lines: &[Line]) -> Result<bool, NoMemory>
     Ok(false)
 }
 
-// Whether it is found in a line of a part of text.
-fn part_found(alloc: Global, sought: &Sought, raw: &[u8], part: &Part) -> Result<bool, NoMemory>
-    requires { StandsWithin (length raw.now) part.now }
-    ensures { IfOk result (λ found. found ≡ list_any (sought_found sought.now)
-        (spec.part_lines raw.now (plain_part part.now))) }
+// Whether it is found in a line of those that were decoded.
+fn any_decoded(sought: &Sought, decoded: &[Lines]) -> Result<bool, NoMemory>
+    ensures { IfOk result (λ found. found
+        ≡ list_any (list_any (sought_found sought.now)) (lines_in decoded.now)) }
 {
-    if !part.content.as_slice().starts_with(b"text/") {
-        return Ok(false);
+    let mut left = decoded;
+    while let [first, rest @ ..] = left {
+        if any_found(sought, first.as_slice())? {
+            return Ok(true);
+        }
+        left = rest;
     }
-    let lines = decoded_text(alloc, raw, part)?;
-    any_found(sought, lines.as_slice())
+    Ok(false)
 }
 
-// Whether it is found in a line of one of the parts. Each is decoded once, up to the one that has
-// it.
-fn any_part(alloc: Global, sought: &Sought, raw: &[u8], parts: &[Part]) -> Result<bool, NoMemory>
-    requires { All (StandsWithin (length raw.now)) parts.now }
-    ensures { IfOk result (λ found. found ≡ list_any (sought_found sought.now)
-        (flat_map (spec.part_lines raw.now) (map plain_part parts.now))) }
+// Whether it is found in a line of a part, which is decoded and kept behind those before it.
+fn next_found(
+    alloc: Global,
+    sought: &Sought,
+    raw: &[u8],
+    part: &Part,
+    decoded: &mut Vec<Lines>,
+) -> Result<bool, NoMemory>
+    requires { StandsWithin (length raw.now) part.now }
+    ensures value { IfOk result (λ found. found ≡ list_any (sought_found sought.now)
+        (spec.part_lines raw.now (plain_part part.now))) }
+    ensures kept { IfOk result (λ _. lines_in decoded.new.items
+        ≡ lines_in decoded.old.items ++ spec.part_lines raw.now (plain_part part.now) ∷ []) }
 {
-    for part in parts {
-        if part_found(alloc, sought, raw, part)? {
+    let lines = lines_of(alloc, raw, part)?;
+    let found = any_found(sought, lines.as_slice())?;
+    decoded.push(lines)?;
+    Ok(found)
+}
+
+// Whether it is found in a line of one of the parts, of which the first are decoded. Others are
+// decoded up to the one that has it.
+fn any_part(
+    alloc: Global,
+    sought: &Sought,
+    raw: &[u8],
+    parts: &[Part],
+    decoded: &mut Vec<Lines>,
+) -> Result<bool, NoMemory>
+    requires within { All (StandsWithin (length raw.now)) parts.now }
+    requires first { AreFirst raw.now (map plain_part parts.now) decoded.old.items }
+    ensures value { IfOk result (λ found. found ≡ list_any (sought_found sought.now)
+        (flat_map (spec.part_lines raw.now) (map plain_part parts.now))) }
+    ensures kept { IfOk result (λ _. AreFirst raw.now (map plain_part parts.now) decoded.new.items) }
+{
+    if any_decoded(sought, decoded.as_slice())? {
+        return Ok(true);
+    }
+    while let Some(part) = parts.get(decoded.len()) {
+        if next_found(alloc, sought, raw, part, decoded)? {
             return Ok(true);
         }
     }
@@ -80,32 +114,24 @@ fn text_from(text: &[u8], place: usize) -> &[u8]
     rest
 }
 
-// The parts of a message, unless they nest too deep.
-fn parts_in(alloc: Global, raw: &[u8]) -> Result<Option<Parts>, NoMemory>
-    ensures value { IfOk result (λ parts. option_map plain_parts parts ≡ parts_of raw.now) }
-    ensures within { IfOk result
-        (λ parts. IfSome parts (λ p. All (StandsWithin (length raw.now)) p.items)) }
-{
-    match read_parts(alloc, raw) {
-        Ok(parts) => Ok(Some(parts)),
-        Err(MimeError::TooDeep) => Ok(None),
-        Err(MimeError::NoMemory) => Err(NoMemory),
-    }
-}
-
 /// Whether it is found in a line of the body, which begins at the empty line at a place.
 pub fn body_found(
-    alloc: Global,
+    kept: &mut Kept,
     sought: &Sought,
     raw: &[u8],
     body_at: usize,
 ) -> Result<bool, NoMemory>
-    ensures { IfOk result (λ found. found ≡ list_any (sought_found sought.now)
+    requires { IsKept raw.now kept.old }
+    ensures value { IfOk result (λ found. found ≡ list_any (sought_found sought.now)
         (spec.body_lines raw.now body_at (parts_of raw.now))) }
+    ensures kept { IfOk result (λ _. IsKept raw.now kept.new) }
 {
-    match parts_in(alloc, raw)? {
-        Some(parts) => any_part(alloc, sought, raw, parts.as_slice()),
-        None => raw_found(sought, behind_line(text_from(raw, body_at))),
+    kept.read(raw)?;
+    match &kept.parts {
+        KeptParts::Read(parts) => {
+            any_part(kept.alloc, sought, raw, parts.as_slice(), &mut kept.decoded)
+        }
+        _ => raw_found(sought, behind_line(text_from(raw, body_at))),
     }
 }
 
@@ -124,13 +150,16 @@ fn any_kind(sought: &Sought, parts: &[Part]) -> Result<bool, NoMemory>
 }
 
 /// Whether it is found in the type of a part.
-pub fn kind_found(alloc: Global, sought: &Sought, raw: &[u8]) -> Result<bool, NoMemory>
-    ensures { IfOk result (λ found. found ≡ list_any (sought_found sought.now)
+pub fn kind_found(kept: &mut Kept, sought: &Sought, raw: &[u8]) -> Result<bool, NoMemory>
+    requires { IsKept raw.now kept.old }
+    ensures value { IfOk result (λ found. found ≡ list_any (sought_found sought.now)
         (map (λ p. p.content) (unwrap_or (parts_of raw.now) []))) }
+    ensures kept { IfOk result (λ _. IsKept raw.now kept.new) }
 {
-    match parts_in(alloc, raw)? {
-        Some(parts) => any_kind(sought, parts.as_slice()),
-        None => Ok(false),
+    kept.read(raw)?;
+    match &kept.parts {
+        KeptParts::Read(parts) => any_kind(sought, parts.as_slice()),
+        _ => Ok(false),
     }
 }
 
@@ -141,12 +170,15 @@ fn attached(parts: &[Part]) -> usize
 }
 
 /// How many parts are attachments.
-pub fn attachments(alloc: Global, raw: &[u8]) -> Result<u64, NoMemory>
-    ensures { IfOk result (λ count. count
+pub fn attachments(kept: &mut Kept, raw: &[u8]) -> Result<u64, NoMemory>
+    requires { IsKept raw.now kept.old }
+    ensures value { IfOk result (λ count. count
         ≡ count_by (λ p. p.attachment) (unwrap_or (parts_of raw.now) [])) }
+    ensures kept { IfOk result (λ _. IsKept raw.now kept.new) }
 {
-    match parts_in(alloc, raw)? {
-        Some(parts) => Ok(attached(parts.as_slice()) as u64),
-        None => Ok(0),
+    kept.read(raw)?;
+    match &kept.parts {
+        KeptParts::Read(parts) => Ok(attached(parts.as_slice()) as u64),
+        _ => Ok(0),
     }
 }

@@ -10,6 +10,7 @@ mod dates;
 mod entry;
 mod found;
 mod joined;
+mod kept;
 mod laws;
 mod letter;
 mod may_score;

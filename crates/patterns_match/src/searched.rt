@@ -6,6 +6,7 @@ ghost use Rattle.headers.specs.Field.{plain_field};
 ghost use Rattle.headers.specs.Person.{plain_person, plain_persons};
 ghost use Rattle.patterns_match.specs.Asked.{plain_search};
 ghost use Rattle.patterns_match.specs.Entries.{plain_entry};
+ghost use Rattle.patterns_match.specs.Kept.{IsKept};
 ghost use Rattle.patterns_match.specs.Leaves as leaves;
 ghost use Rattle.patterns_match.specs.Listings as spec;
 ghost use Rattle.patterns_match.specs.Sought.{is_sought_literal, sought_found};
@@ -14,6 +15,7 @@ use crate::asked::Sought;
 use crate::body::{body_found, kind_found};
 use crate::entry::Entry;
 use crate::joined::Joined;
+use crate::kept::Kept;
 use crate::letter::Field;
 use headers::{Header, Person, first_value};
 use mail_base::{Bytes, NoMemory};
@@ -147,31 +149,36 @@ fn anyone_found(alloc: Global, sought: &Sought, header: &Header) -> Result<bool,
 }
 
 // Whether it is found in a header line or a line of the body.
-fn whole_found(alloc: Global, sought: &Sought, entry: &Entry<'_>) -> Result<bool, NoMemory>
-    ensures { IfOk result (λ found. found ≡ list_any (sought_found sought.now)
+fn whole_found(kept: &mut Kept, sought: &Sought, entry: &Entry<'_>) -> Result<bool, NoMemory>
+    requires { IsKept (plain_entry entry.now).raw kept.old }
+    ensures value { IfOk result (λ found. found ≡ list_any (sought_found sought.now)
         (spec.header_texts (plain_entry entry.now) ++ spec.body_texts (plain_entry entry.now))) }
+    ensures kept { IfOk result (λ _. IsKept (plain_entry entry.now).raw kept.new) }
 {
-    if any_line(alloc, sought, entry.header.fields.as_slice())? {
+    if any_line(kept.alloc, sought, entry.header.fields.as_slice())? {
         return Ok(true);
     }
-    body_found(alloc, sought, entry.raw, entry.header.body_at)
+    body_found(kept, sought, entry.raw, entry.header.body_at)
 }
 
 /// Whether it is found where a letter searches in a message.
 pub fn is_searched(
-    alloc: Global,
+    kept: &mut Kept,
     field: Field,
     sought: &Sought,
     entry: &Entry<'_>,
 ) -> Result<bool, NoMemory>
+    requires { IsKept (plain_entry entry.now).raw kept.old }
     ensures value { IfOk result (λ found. found ≡ list_any (sought_found sought.now)
         (spec.texts_of field (plain_entry entry.now))) }
+    ensures kept { IfOk result (λ _. IsKept (plain_entry entry.now).raw kept.new) }
     ensures memory { leaves.takes_none (plain_search field sought.now) ≡ true → IsOk result }
 {
     let header = entry.header;
+    let alloc = kept.alloc;
     match field {
-        Field::Body => body_found(alloc, sought, entry.raw, header.body_at),
-        Field::Whole => whole_found(alloc, sought, entry),
+        Field::Body => body_found(kept, sought, entry.raw, header.body_at),
+        Field::Whole => whole_found(kept, sought, entry),
         Field::Header => any_line(alloc, sought, header.fields.as_slice()),
         Field::Cc => any_person(alloc, sought, header.cc.as_slice()),
         Field::Recipients => {
@@ -185,6 +192,6 @@ pub fn is_searched(
         Field::Subject => sought.is_found(header.subject.as_slice()),
         Field::References => any_found(sought, header.candidates.as_slice()),
         Field::Label => maybe_found(sought, first_value(header.fields.as_slice(), b"x-label")),
-        Field::ContentType => kind_found(alloc, sought, entry.raw),
+        Field::ContentType => kind_found(kept, sought, entry.raw),
     }
 }

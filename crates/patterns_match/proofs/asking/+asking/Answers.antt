@@ -23,6 +23,7 @@ answer-loop-left-init g t c =
       framed = framed ops c.requires.whole;
       free = λ f. f;
       within = omega arith;
+      kept = c.requires.kept;
       same = refl;
     }
 

@@ -1,5 +1,6 @@
 use Rattle.std.proofs.Common.{◌≡◌, ◌+◌, ◌*◌, ◌<◌, ◌≤◌, ◌&&◌, ℕ, true, false, length}
 use Rattle.patterns_match.specs.Asked.{asked_operations, asked_tree}
+use Rattle.patterns_match.specs.Kept.{IsKeptAt}
 use Rattle.patterns_match.specs.Machine.{AreFramed, are_free, in_order}
 use Rattle.patterns_match.specs.Satisfies.{are_related, satisfies}
 use Rattle.patterns_match.proofs.asking.+asking.Given as goal
@@ -24,6 +25,7 @@ invariant-answer-loop-left g l = record {
   free : are_free (asked_operations l.operations) ≡ true
       → are_free (asked_operations l.left) ≡ true;
   within : length l.left ≤ length l.operations;
+  kept : IsKeptAt (g.T.Table.messages l.table) l.place l.kept;
   same : l.people ≡ l.fn.people;
 }
 
