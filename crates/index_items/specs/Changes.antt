@@ -1,7 +1,8 @@
 -- What a sync is to do, and what it leaves of the listed messages.
-use Rattle.std.specs.Prelude.{◌≡◌, ◌<◌, ◌&&◌, ◌∷◌, [], ℕ, Bool, not, List, map}
+use Rattle.std.specs.Prelude.{◌≡◌, ◌<◌, ◌&&◌, ◌∷◌, [], ℕ, Bool, List, map}
 use Rattle.std.specs.Prelude.{Option, Some, None, option_map, slice_index_or, if◌then◌else◌}
 use Rattle.std.specs.List.{All, flat_map}
+use Rattle.std.specs.Bool.{beq}
 use Rattle.mail_base.specs.Flags.{applied, stored}
 use Rattle.mail_base.specs.declared.flags.Flags.{Flags}
 use Rattle.mail_base.specs.declared.kind.Id.{Id}
@@ -23,14 +24,12 @@ pub record Changed : Type 0 where
   pub id : Id
   pub change : PlainChange
 
-abbrev pub is_same : Bool → Bool → Bool
-is_same a b = if a then b else not b
-
+-- both have the same flags
 abbrev pub same_flags : Flags → Flags → Bool
 same_flags f g =
-    is_same f.seen g.seen && (is_same f.aged g.aged && (is_same f.replied g.replied
-    && (is_same f.flagged g.flagged && (is_same f.passed g.passed
-    && (is_same f.draft g.draft && is_same f.trashed g.trashed)))))
+    beq f.seen g.seen && (beq f.aged g.aged && (beq f.replied g.replied
+    && (beq f.flagged g.flagged && (beq f.passed g.passed
+    && (beq f.draft g.draft && beq f.trashed g.trashed)))))
 
 -- what a sync is to do with a message: one that is marked deleted goes where that is wished, and
 -- flags are written where the folder would hold others than it does

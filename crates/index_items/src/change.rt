@@ -7,26 +7,8 @@ ghost use Rattle.index_items.specs.Items.{plain_item, plain_items};
 use crate::by_id::ById;
 use crate::item::Item;
 use folder_core::{Change, Changed1, Changes};
-use mail_base::{Flags, Kind, NoMemory};
+use mail_base::{Kind, NoMemory};
 use std::alloc::Global;
-
-fn is_same(a: bool, b: bool) -> bool
-    ensures { result ≡ spec.is_same a b }
-{
-    if a { b } else { !b }
-}
-
-fn same_flags(a: Flags, b: Flags) -> bool
-    ensures { result ≡ spec.same_flags a b }
-{
-    is_same(a.seen, b.seen)
-        && is_same(a.aged, b.aged)
-        && is_same(a.replied, b.replied)
-        && is_same(a.flagged, b.flagged)
-        && is_same(a.passed, b.passed)
-        && is_same(a.draft, b.draft)
-        && is_same(a.trashed, b.trashed)
-}
 
 // What a sync is to do with a message.
 fn change_of(kind: Kind, purge: bool, item: Item) -> Option<Change>
@@ -35,7 +17,7 @@ fn change_of(kind: Kind, purge: bool, item: Item) -> Option<Change>
     if item.pending.deleted && purge {
         return Some(Change::Discard);
     }
-    if same_flags(item.shown().stored(kind), item.flags) {
+    if item.shown().stored(kind) == item.flags {
         return None;
     }
     Some(Change::Alter(item.pending.delta))

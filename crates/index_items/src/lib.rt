@@ -1,6 +1,6 @@
 //! The listed messages as the index keeps them: what the user changed of each and the folder does
-//! not hold yet, its tag, and whether its thread is shut. Ask `changes` for what a sync is to do, and
-//! `settled` and `joined` for what a sync and a scan leave of the list.
+//! not hold yet, its tag, and whether its thread is shut. Ask `changes` for what a sync is to do,
+//! and `settled` and `joined` for what a sync and a scan leave of the list.
 #![tactic(auto)]
 
 mod by_id;
