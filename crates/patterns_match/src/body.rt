@@ -80,7 +80,8 @@ fn any_part(
     requires first { AreFirst raw.now (map plain_part parts.now) decoded.old.items }
     ensures value { IfOk result (λ found. found ≡ list_any (sought_found sought.now)
         (flat_map (spec.part_lines raw.now) (map plain_part parts.now))) }
-    ensures kept { IfOk result (λ _. AreFirst raw.now (map plain_part parts.now) decoded.new.items) }
+    ensures kept { IfOk result
+        (λ _. AreFirst raw.now (map plain_part parts.now) decoded.new.items) }
 {
     if any_decoded(sought, decoded.as_slice())? {
         return Ok(true);

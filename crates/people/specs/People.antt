@@ -1,6 +1,6 @@
 -- The tables of people, aliases, and what they tell of addresses and headers.
 use Rattle.std.specs.Prelude.{◌+◌, ◌++◌, ◌==◌, ℕ, Bool, List, [], ◌∷◌, Option, length, find}
-use Rattle.std.specs.Prelude.{option_map, Vec}
+use Rattle.std.specs.Prelude.{◌-◌, option_map, take, Vec}
 use Rattle.std.specs.Prelude.{if◌then◌else◌}
 use Rattle.std.specs.List.{list_any}
 use Rattle.std.specs.Str.{bytes_eq}
@@ -35,6 +35,16 @@ abbrev pub with_expr : PlainPeople → PeopleTable → List ℕ → PlainPeople
 with_expr people Lists expr = record people { lists = people.lists ++ expr ∷ [] }
 with_expr people Subscribed expr = record people { subscribed = people.subscribed ++ expr ∷ [] }
 with_expr people Mine expr = record people { mine = people.mine ++ expr ∷ [] }
+
+-- all of a list but its last element
+abbrev pub but_last : {A : Type 0} → List A → List A
+but_last xs = take (length xs - 1) xs
+
+-- the people without the last expression of a table
+abbrev pub without_last : PlainPeople → PeopleTable → PlainPeople
+without_last people Lists = record people { lists = but_last people.lists }
+without_last people Subscribed = record people { subscribed = but_last people.subscribed }
+without_last people Mine = record people { mine = but_last people.mine }
 
 -- the aliases with this one: where the name is there, in its place
 abbrev pub with_alias : List Alias → List ℕ → List ℕ → List Alias

@@ -86,6 +86,17 @@ impl People {
         Ok(())
     }
 
+    /// Takes the last expression out of a table, if it has one, as if it had not been added.
+    pub fn drop_last(&mut self, table: PeopleTable)
+        ensures { self.new ≡ spec.without_last self.old table }
+    {
+        match table {
+            PeopleTable::Lists => self.lists.pop(),
+            PeopleTable::Subscribed => self.subscribed.pop(),
+            PeopleTable::Mine => self.mine.pop(),
+        };
+    }
+
     /// Gives a name its value, in place of the one that it has.
     pub fn alias(&mut self, name: &[u8], value: &[u8]) -> Result<(), NoMemory>
         ensures ok { OnOk result (self.new
