@@ -3,3 +3,4 @@ pub mod Items
 pub mod Changes
 pub mod ById
 pub mod Found
+pub mod Alteration

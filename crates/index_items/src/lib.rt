@@ -1,14 +1,17 @@
 //! The listed messages as the index keeps them: what the user changed of each and the folder does
-//! not hold yet, its tag, and whether its thread is shut. Ask `changes` for what a sync is to do,
-//! and `settled` and `joined` for what a sync and a scan leave of the list.
+//! not hold yet, its tag, and whether its thread is shut. Change one of them by `altered`, ask
+//! `changes` for what a sync is to do, and `settled` and `joined` for what a sync and a scan leave
+//! of the list.
 #![tactic(auto)]
 
+mod alteration;
 mod by_id;
 mod change;
 mod found;
 mod item;
 mod pending;
 
+pub use alteration::{Alteration, altered};
 pub use by_id::ById;
 pub use change::{changes, settled};
 pub use found::joined;

@@ -9,4 +9,4 @@ mod visibility;
 
 pub use entry::{Above, Entry};
 pub use tree::Tree;
-pub use visibility::{hiding, visible};
+pub use visibility::{hiding, threads_with, visible};

@@ -1,7 +1,8 @@
 //! The tree before the subjects of visible messages.
 
-ghost use Rattle.std.specs.Prelude.{◌≡◌, ◌<◌, ◌++◌, ℕ, Some, None, false, length, reverse, slice_index_or, IfOk, OnOk};
-ghost use Rattle.index_tree.specs.Entries.{ParentsFirst, RootsWithin, Tells, link};
+ghost use Rattle.std.specs.Prelude.{◌≡◌, ◌<◌, ◌++◌, [], ℕ, Some, None, false, length, reverse};
+ghost use Rattle.std.specs.Prelude.{slice_index_or, IfOk, OnOk};
+ghost use Rattle.index_tree.specs.Entries.{ParentsFirst, RootsWithin, Tells, at, link};
 ghost use Rattle.index_tree.specs.Tree as spec;
 ghost use Rattle.index_tree.specs.Visibility.{is_visible};
 ghost use Rattle.index_tree.specs.declared.entry.Above as above;
@@ -127,6 +128,17 @@ fn put_branch(bytes: &mut Vec<u8>, later: bool, link: Link) -> Result<(), NoMemo
 }
 
 impl Tree {
+    /// Nothing is listed.
+    pub fn none(alloc: Global) -> Tree
+        ensures { result ≡ [] }
+    {
+        Tree {
+            entries: Vec::new(alloc),
+            nearest: Vec::new(alloc),
+            last: Vec::new(alloc),
+        }
+    }
+
     /// Needs each root among the messages, and each message behind its parent.
     pub fn new(alloc: Global, entries: Vec<Entry>) -> Result<Tree, NoMemory>
         requires roots { RootsWithin entries.items }
@@ -141,6 +153,14 @@ impl Tree {
             nearest,
             last,
         })
+    }
+
+    /// Where the root of the message at a place stands.
+    pub fn root(&self, place: usize) -> usize
+        requires { place < length self.now }
+        ensures { result ≡ (at self.now place).root }
+    {
+        self.entries[place].root
     }
 
     // Whether a message behind a place hangs below this one.

@@ -1,6 +1,7 @@
 //! Which messages are visible under a limit and shut threads, and which of them hide others.
 
-ghost use Rattle.std.specs.Prelude.{◌≡◌, ◌<◌, ◌&&◌, ◌||◌, not, false, length, map, slice_index_or, slice_set, IfOk, OnOk, ◌++◌, ◌∷◌, [], if◌then◌else◌};
+ghost use Rattle.std.specs.Prelude.{◌≡◌, ◌<◌, ◌&&◌, ◌||◌, not, false, length, map, slice_index_or};
+ghost use Rattle.std.specs.Prelude.{slice_set, IfOk, OnOk, ◌++◌, ◌∷◌, [], if◌then◌else◌};
 ghost use Rattle.std.specs.List.{range_with_len};
 ghost use Rattle.index_tree.specs.Entries.{RootsWithin, Tells};
 ghost use Rattle.index_tree.specs.Visibility as spec;
@@ -92,6 +93,24 @@ fn threads_with_hidden(
         mark_where(&mut hidden, entry.root, is_hidden(entry, flags[place]));
     }
     Ok(hidden)
+}
+
+/// The threads, by their roots, in which a message passes a test; `passed` tells which do.
+pub fn threads_with(
+    alloc: Global,
+    entries: &[Entry],
+    passed: &[bool],
+) -> Result<Vec<bool>, NoMemory>
+    requires within { RootsWithin entries.now }
+    requires long { length passed.now ≡ length entries.now }
+    ensures { IfOk result (λ marks. spec.AreThreadsWith (λ p. slice_index_or passed.now p false)
+        entries.now (length entries.now) marks.items) }
+{
+    let mut marks = vec![in alloc; false; entries.len()]?;
+    for place in 0..entries.len() {
+        mark_where(&mut marks, entries[place].root, passed[place]);
+    }
+    Ok(marks)
 }
 
 fn hides(entry: Entry, is_visible: bool, has_hidden: bool) -> bool

@@ -1,0 +1,70 @@
+-- What the calls of a view need of its messages.
+use Rattle.std.proofs.Common.{◌≡◌, ◌∙◌, ℕ, List, length, nat_eq, refl, subst, sym}
+use Rattle.std.proofs.lemmas.Simd.{map-map}
+use Rattle.std.specs.List.{IsDistinct}
+use Rattle.folder_core.specs.Letters.{Mail}
+use Rattle.mail_base.specs.declared.kind.Id.{Id}
+use Rattle.index_items.specs.Items.{PlainItem, numbers}
+use Rattle.index_items.specs.Alteration.{alter_at, altered_by}
+use Rattle.index_items.specs.declared.alteration.Alteration.{Alteration}
+use Rattle.index_items.specs.declared.alteration.Alteration.TheVariants.{Pending, Tag, Shut}
+use Rattle.index_view.specs.Answers.{PlainAnswers}
+use Rattle.index_view.specs.Cursor.{moved, moved_by_shutting}
+use Rattle.index_listed.specs.Heads.{AreHeads, AreWithin}
+use Rattle.index_listed.specs.Listed.{PlainListed, ids, listed_with}
+use Rattle.index_view.specs.Listing.{all_listed, ids_of}
+use Rattle.index_view.specs.Seen.{visible_ids}
+use Rattle.index_view.specs.View.{AreApart, Folded, PlainView, Turned, answers_over, facts_of}
+use Rattle.index_view.specs.View.{folded, turned}
+use Rattle.index_view.proofs.ItemLemmas.{altered_numbers}
+
+-- messages with their letters have the same ids
+pub listed_ids : (mails : List Mail) (items : List PlainItem)
+    → ids (all_listed mails items) ≡ numbers items
+listed_ids mails items =
+    map-map (λ (l : PlainListed). l.id.0) (listed_with mails) (ids_of items)
+    ∙ map-map (λ (id : Id). id.0) (λ (i : PlainItem). i.id) items
+
+keeps_id : (alteration : Alteration) (i : PlainItem) → (altered_by alteration i).id ≡ i.id
+keeps_id (Pending delta deleted) i = refl
+keeps_id (Tag mark) i = refl
+keeps_id (Shut mark) i = refl
+
+-- an alteration leaves the ids as they are
+module _ (alteration : Alteration) (id : Id) (items : List PlainItem) where
+  same_numbers : numbers (alter_at id (altered_by alteration) items) ≡ numbers items
+  same_numbers = altered_numbers (altered_by alteration) (keeps_id alteration) id items
+
+  pub altered_within : (count : ℕ) → AreWithin count (numbers items)
+      → AreWithin count (numbers (alter_at id (altered_by alteration) items))
+  altered_within count within = subst (AreWithin count) (sym same_numbers) within
+
+  pub altered_apart : AreApart items → AreApart (alter_at id (altered_by alteration) items)
+  altered_apart apart = subst (IsDistinct nat_eq) (sym same_numbers) apart
+
+-- a view that was given others than another one, and answers what is worked out of them
+pub turned_over : (mails : List Mail) (old new : PlainView) (all : PlainAnswers)
+    → AreHeads new.heads mails → AreWithin (length new.heads) (numbers new.items)
+    → AreApart new.items → all ≡ answers_over mails (facts_of new)
+    → new.answers ≡ old.answers → new.cursor ≡ old.cursor → new.aliases ≡ old.aliases
+    → Turned mails old (turned new all) (facts_of new)
+turned_over mails old new all heads within apart is answers cursor aliases = record {
+  is_of = record { heads = heads; within = within; apart = apart; answered = is };
+  given = refl;
+  cursor = λ i. moved (visible_ids (answers i).sight) (visible_ids all.sight) (cursor i);
+  aliases = aliases;
+}
+
+-- the same where a thread was shut or opened
+pub folded_over : (mails : List Mail) (old new : PlainView) (all : PlainAnswers)
+    → AreHeads new.heads mails → AreWithin (length new.heads) (numbers new.items)
+    → AreApart new.items → all ≡ answers_over mails (facts_of new)
+    → new.answers ≡ old.answers → new.cursor ≡ old.cursor → new.aliases ≡ old.aliases
+    → Folded mails old (folded new all) (facts_of new)
+folded_over mails old new all heads within apart is answers cursor aliases = record {
+  is_of = record { heads = heads; within = within; apart = apart; answered = is };
+  given = refl;
+  cursor = λ i. moved_by_shutting all.sight (visible_ids (answers i).sight)
+      (visible_ids all.sight) (cursor i);
+  aliases = aliases;
+}

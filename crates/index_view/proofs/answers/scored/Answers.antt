@@ -1,0 +1,43 @@
+use Rattle.std.proofs.Common.{◌≡◌, ◌∙◌, List, ap, length, map, subst, sym}
+use Rattle.std.proofs.lemmas.List.{length-map}
+use Rattle.std.specs.Prelude.{IfOk, Vec}
+use Rattle.index_items.specs.Items.{plain_items}
+use Rattle.patterns_match.specs.Listings.{Message}
+use Rattle.patterns_match.specs.ScoreEntries.{held_entries}
+use Rattle.patterns_match.specs.declared.row.Row.{Row}
+use Rattle.index_listed.specs.Listed.{plain_listed}
+use Rattle.index_view.specs.Tables.{first_row_at, first_rows, message_at, scored_rows, seen, table}
+use Rattle.index_view.proofs.ListLemmas.{as_many}
+use Rattle.index_view.proofs.answers.scored.Goals as goal
+
+pub messages_of-requires-clause-rows : goal.messages_of-requires-clause-rows
+messages_of-requires-clause-rows c =
+    let ls = map plain_listed c.args.listed.now in
+    as_many (first_row_at ls (plain_items c.args.items.now) c.args.links.now) (length ls) _
+    (c.deref.ensures.value ∙ c.in_ok-rows.ensures) ∙ length-map c.args.listed.now plain_listed
+
+pub scored_rows-requires : goal.scored_rows-requires
+scored_rows-requires c =
+    let ls = map plain_listed c.args.listed.now in
+    let asked = c.in_ok-messages.messages.asked.items in
+    sym (length-map asked seen)
+    ∙ as_many (message_at ls c.deref.result.now c.args.links.now) (length ls) _
+    c.in_ok-messages.ensures
+    ∙ sym (as_many (first_row_at ls (plain_items c.args.items.now) c.args.links.now) (length ls) _
+    (c.deref-2.ensures.value ∙ c.in_ok-rows.ensures))
+
+pub returns-clause-value : goal.returns-clause-value
+returns-clause-value c =
+    let ls = map plain_listed c.args.listed.now in
+    let links = c.args.links.now in
+    let people = c.args.tables.now.people in
+    let entries = held_entries c.args.tables.now.scores.entries.items in
+    let rows = first_rows ls (plain_items c.args.items.now) links in
+    let messages : map seen c.in_ok-messages.messages.asked.items ≡ table ls rows links =
+    c.in_ok-messages.ensures
+    ∙ ap (λ (r : List Row). table ls r links) (c.deref.ensures.value ∙ c.in_ok-rows.ensures) in
+    subst (λ (z : List Row). IfOk c.scored_rows.result (λ (all : Vec Row _). all.items ≡ z))
+    (ap (λ (m : List Message). scored_rows people entries m c.deref-2.result.now) messages
+    ∙ ap (scored_rows people entries (table ls rows links))
+    (c.deref-2.ensures.value ∙ c.in_ok-rows.ensures))
+    c.scored_rows.ensures.value

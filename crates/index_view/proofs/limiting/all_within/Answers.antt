@@ -1,0 +1,23 @@
+use Rattle.std.proofs.Common.{◌∙◌, Option, ap, map, option_map}
+use Rattle.patterns_match.specs.declared.pattern.Pattern.{Pattern}
+use Rattle.people.specs.People.{PlainPeople}
+use Rattle.index_view.specs.Sight as spec
+use Rattle.index_view.specs.Tables.{seen}
+use Rattle.index_view.proofs.ListLemmas.{put_next}
+use Rattle.index_view.proofs.limiting.all_within.Goals as goal
+
+pub loop-place-preserved : goal.loop-place-preserved
+loop-place-preserved c =
+    let messages = map seen c.args.messages.now.asked.items in
+    let place = c.loop-place.place in
+    let same = c.loop-place.invariant in (
+      c.in_ok-is_within.ensures.same.0 ∙ same.0,
+      c.in_ok-is_within.ensures.same.1 ∙ same.1,
+      put_next (spec.is_within c.args.people.now (option_map spec.plain_limit c.args.limit.now)
+          messages) place c.loop-place.within.items _ _ c.in_ok-push.ensures.items same.2
+          (c.in_ok-is_within.ensures.value
+          ∙ ap (λ (l : Option Pattern). spec.is_within c.loop-place.people
+          (option_map spec.plain_limit l) messages place) same.0
+          ∙ ap (λ (p : PlainPeople). spec.is_within p
+          (option_map spec.plain_limit c.args.limit.now) messages place) same.1),
+    )

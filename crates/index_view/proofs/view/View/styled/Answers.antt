@@ -1,0 +1,34 @@
+use Rattle.std.proofs.Common.{◌∙◌, Some, ap, map, sym}
+use Rattle.std.specs.Prelude.{option_map}
+use Rattle.folder_core.specs.Letters.{plain_letter}
+use Rattle.index_rows.specs.Texts.{index_row}
+use Rattle.index_view.specs.Answers.{place_of}
+use Rattle.index_view.specs.Lines as spec
+use Rattle.index_view.proofs.LinesLemmas.{head_of_letter, listed_within}
+use Rattle.index_view.specs.View.{PlainView}
+use Rattle.index_view.proofs.view.View.styled.Goals as goal
+
+pub entry-entry-requires-clause-head : goal.entry-entry-requires-clause-head
+entry-entry-requires-clause-head c =
+    let mails = map plain_letter c.args.archive.now.items in
+    listed_within mails c.args.self.now c.args.id c.in-Some.place c.requires
+    (ap (λ (v : PlainView). place_of v.answers c.args.id) (sym c.self.view_is)
+    ∙ sym c.in-Some.ensures.place)
+
+pub returns : goal.returns
+returns c =
+    let mails = map plain_letter c.args.archive.now.items in
+    let v = c.args.self.now in
+    let id = c.args.id in
+    let place = c.in-Some.place in
+    let style = spec.plain_style c.args.style in
+    let is = ap (λ (w : PlainView). place_of w.answers id) (sym c.self.view_is)
+    ∙ sym c.in-Some.ensures.place in
+    let header = head_of_letter v.heads mails id c.requires.heads
+    (listed_within mails v id place c.requires is) in
+    let tree = c.in_ok-tree.ensures in
+    ap Some (c.in_ok-index_row.ensures
+    ∙ (λ i. index_row c.args.cols ((c.entry-entry.ensures
+    ∙ (λ j. spec.entry_with (header j) (tree j) v style id place)) i) style.format))
+    ∙ sym (ap (option_map (λ p. index_row c.args.cols (spec.entry mails v style id p)
+    style.format)) is)

@@ -1,0 +1,195 @@
+-- What the index answers, worked out from scratch.
+use Rattle.std.specs.Prelude.{◌≡◌, ℕ, Bool, false, List, [], Option, None, length, map}
+use Rattle.std.specs.Prelude.{nat_eq, option_and_then, option_map, position, slice_index_or}
+use Rattle.std.specs.List.{IsDistinct, filter}
+use Rattle.std.specs.Option.{option_map_or}
+use Rattle.mail_base.specs.declared.kind.Id.{Id}
+use Rattle.index_items.specs.Items.{PlainItem, plain_items}
+use Rattle.index_items.specs.declared.item.Item.{Item}
+use Rattle.index_order.specs.Order.{is_threads, order}
+use Rattle.index_order.specs.declared.options.SortOptions.{SortOptions}
+use Rattle.index_rows.specs.Ties.{PlainTies, ties_of}
+use Rattle.patterns_match.specs.Listings.{Message}
+use Rattle.patterns_match.specs.ScoreEntries.{held_entries}
+use Rattle.patterns_match.specs.Scores.{PlainEntry}
+use Rattle.patterns_match.specs.declared.row.Row.{Row}
+use Rattle.people.specs.People.{PlainPeople}
+use Rattle.threads.specs.Forest.{IsForest}
+use Rattle.threads.specs.Subjects.{parents}
+use Rattle.threads.specs.Threads.{PlainThreads, parent}
+use Rattle.threads.specs.declared.options.Parent.{Parent}
+use Rattle.threads.specs.declared.options.ThreadOptions.{ThreadOptions}
+use Rattle.index_listed.specs.Listed.{PlainListed, ids}
+use Rattle.index_view.specs.Ordering.{keys, numbered}
+use Rattle.index_listed.specs.Places.{numbers}
+use Rattle.index_view.specs.Seen.{PlainSight, sight, visible_ids}
+use Rattle.index_view.specs.Sight.{AreFirst, PlainLimit, all_within, passes, plain_limit, stances}
+use Rattle.index_view.specs.Tables.{first_rows, row_at, scored_rows, table}
+use Rattle.index_listed.specs.Threading.{AllWithin, all_links, at as links_at, threads}
+use Rattle.index_view.specs.declared.answers.Ranked.{Ranked}
+use Rattle.index_view.specs.declared.answers.Threaded.{Threaded}
+use Rattle.index_listed.specs.declared.links.Links.{Links}
+use Rattle.index_view.specs.declared.options.ViewOptions.{ViewOptions}
+use Rattle.index_view.specs.declared.stances.Stance.{Stance}
+use Rattle.index_view.specs.declared.tables.Tables.{Tables}
+
+abbrev pub sort_options : ViewOptions → SortOptions
+sort_options o = record {
+  sort = o.sort;
+  reverse = o.reverse;
+  aux = o.aux;
+  aux_reverse = o.aux_reverse;
+  aux_last = o.aux_last;
+}
+
+-- What is given: how the index stands, the listed messages with what the user changed of them, the
+-- tables of people, the entries of scores, and the limit, if there is one.
+pub record Facts : Type 0 where
+  pub options : ViewOptions
+  pub items : List PlainItem
+  pub people : PlainPeople
+  pub scores : List PlainEntry
+  pub limit : Option PlainLimit
+
+-- What is answered: each message's parent, links, row and ties in listing order, how the messages
+-- stand in order, and what is seen.
+pub record PlainAnswers : Type 0 where
+  pub parents : List (Option Parent)
+  pub links : List Links
+  pub rows : List Row
+  pub ties : List PlainTies
+  pub stances : List Stance
+  pub sight : PlainSight
+
+-- From here on the listed messages stand there with their letters.
+
+abbrev pub threads_of : List PlainListed → Facts → PlainThreads
+threads_of ls f = threads f.options.threads ls
+
+abbrev pub links_of : List PlainListed → Facts → List Links
+links_of ls f = all_links (threads_of ls f) ls
+
+-- rows without numbers, by the links of the messages
+abbrev pub scored_by : PlainPeople → List PlainEntry → List PlainListed → List PlainItem
+    → List Links → List Row
+scored_by people entries ls items links = scored_rows people entries
+    (table ls (first_rows ls items links) links) (first_rows ls items links)
+
+abbrev pub scored : List PlainListed → Facts → List Row
+scored ls f = scored_by f.people f.scores ls f.items (links_of ls f)
+
+-- the ids in order
+abbrev pub ordered : List PlainListed → Facts → List Id
+ordered ls f = order (sort_options f.options) (keys ls (scored ls f)) (threads_of ls f)
+
+abbrev pub rows_of : List PlainListed → Facts → List Row
+rows_of ls f = numbered (ordered ls f) (scored ls f)
+
+-- the messages as the limit and other patterns see them
+abbrev pub messages_of : List PlainListed → Facts → List Message
+messages_of ls f = table ls (rows_of ls f) (links_of ls f)
+
+abbrev pub ties : List PlainListed → Facts → List PlainTies
+ties ls f = map (λ l. ties_of f.people l.header) ls
+
+abbrev pub parents_of : List PlainListed → Facts → List (Option Parent)
+parents_of ls f = map (λ l. parent (threads_of ls f) l.id) ls
+
+abbrev pub stances_of : List PlainListed → Facts → List Stance
+stances_of ls f = stances (is_threads f.options.sort) (threads_of ls f) (ids ls) (ordered ls f)
+
+-- which messages satisfy the limit
+abbrev pub within_of : List PlainListed → Facts → List Bool
+within_of ls f = all_within f.people f.limit (messages_of ls f)
+
+abbrev pub sight_of : List PlainListed → Facts → PlainSight
+sight_of ls f = sight (rows_of ls f) (within_of ls f) (ordered ls f) (stances_of ls f)
+
+abbrev pub answers : List PlainListed → Facts → PlainAnswers
+answers ls f = record {
+  parents = parents_of ls f;
+  links = links_of ls f;
+  rows = rows_of ls f;
+  ties = ties ls f;
+  stances = stances_of ls f;
+  sight = sight_of ls f;
+}
+
+abbrev pub no_answers : PlainAnswers
+no_answers = record {
+  parents = [];
+  links = [];
+  rows = [];
+  ties = [];
+  stances = [];
+  sight = record { order = []; entries = []; new_threads = []; old_threads = [] };
+}
+
+-- where a message stands in the listing
+abbrev pub place_of : PlainAnswers → Id → Option ℕ
+place_of a id = position (nat_eq id.0) (map (λ r. r.id.0) a.rows)
+
+-- what is shown of a message, where it is listed
+abbrev pub row : PlainAnswers → Id → Option Row
+row a id = option_map (row_at a.rows) (place_of a id)
+
+-- its parent, if it has one
+abbrev pub parent_of : PlainAnswers → Id → Option Parent
+parent_of a id = option_and_then (λ p. slice_index_or a.parents p None) (place_of a id)
+
+-- the root of its thread
+abbrev pub thread_of : PlainAnswers → Id → Option Id
+thread_of a id =
+    option_map (λ p. (row_at a.rows (links_at a.links p).root).id) (place_of a id)
+
+-- the message with an id satisfies a pattern, of messages as patterns see them
+abbrev pub id_passes : PlainPeople → PlainLimit → List Message → PlainAnswers → Id → Bool
+id_passes people pattern messages a id =
+    option_map_or (passes people pattern messages) (place_of a id) false
+
+-- the ids that are seen and satisfy a pattern, in order
+abbrev pub picked : PlainPeople → PlainLimit → List Message → PlainAnswers → List Id
+picked people pattern messages a =
+    filter (id_passes people pattern messages a) (visible_ids a.sight)
+
+-- For the code alone.
+
+-- facts by what the code has of them
+abbrev pub facts : ViewOptions → List Item → Tables → Facts
+facts options items tables = record {
+  options = options;
+  items = plain_items items;
+  people = tables.people;
+  scores = held_entries tables.scores.entries.items;
+  limit = option_map plain_limit tables.limit;
+}
+
+-- messages in threads, where each stands, and what it follows
+pub record AreThreaded (options : ThreadOptions) (ls : List PlainListed) (t : Threaded)
+    : Type 0 where
+  pub threads_are : t.threads ≡ threads options ls
+  pub places_are : t.places ≡ ids ls
+  pub links_are : t.links.items ≡ all_links (threads options ls) ls
+  pub within : AllWithin (length ls) t.links.items
+  pub forest : IsForest (parents options (threads options ls).messages)
+
+-- messages with their numbers, their ids in order, and how they stand there
+pub record AreRanked (ls : List PlainListed) (f : Facts) (r : Ranked) : Type 0 where
+  pub rows_are : r.rows.items ≡ rows_of ls f
+  pub order_is : r.order.items ≡ ordered ls f
+  pub apart : IsDistinct nat_eq (numbers r.order.items)
+  pub stances_are : r.stances.items ≡ stances_of ls f
+  pub first : AreFirst r.stances.items
+
+-- what answers keep
+pub record AreKept (places : List ℕ) (parents : List (Option Parent)) (links : List Links)
+    (rows : List Row) (all : List PlainTies) (stances : List Stance) (order : List Id)
+    : Type 0 where
+  pub places_are : places ≡ map (λ r. r.id.0) rows
+  pub parents_long : length parents ≡ length rows
+  pub links_long : length links ≡ length rows
+  pub ties_long : length all ≡ length rows
+  pub within : AllWithin (length rows) links
+  pub stances_long : length stances ≡ length order
+  pub apart : IsDistinct nat_eq (numbers order)
+  pub first : AreFirst stances

@@ -1,0 +1,120 @@
+-- The lines of the index: the page that holds the cursor, each message with its mark.
+use Rattle.std.specs.Prelude.{◌==◌, ◌-◌, ◌*◌, ◌/◌, ◌++◌, ℕ, ℤ, false, List, [], codes, drop}
+use Rattle.std.specs.Prelude.{length, map, replicate, slice_index_or, take}
+use Rattle.std.specs.Prelude.{Option, None, option_and_then, option_map, unwrap_or}
+use Rattle.std.specs.Prelude.{if◌then◌else◌}
+use Rattle.std.specs.Option.{option_map_or}
+use Rattle.mail_base.specs.Shown.{utf8_text}
+use Rattle.mail_base.specs.declared.kind.Id.{Id}
+use Rattle.expando.specs.Formats.{PlainPiece}
+use Rattle.folder_core.specs.Letters.{Mail}
+use Rattle.headers.specs.Header.{PlainHeader}
+use Rattle.index_rows.specs.Entry.{PlainEntry}
+use Rattle.index_rows.specs.Texts.{index_row}
+use Rattle.index_rows.specs.Ties.{PlainTies}
+use Rattle.index_rows.specs.declared.shut.Shut.{Shut}
+use Rattle.patterns_match.specs.declared.row.Row.{Row}
+use Rattle.index_tree.specs.Tree.{tree_text}
+use Rattle.index_view.specs.Answers.{place_of}
+use Rattle.index_listed.specs.Listed.{header_of, mail_at, no_mail}
+use Rattle.index_listed.specs.Places.{place_in}
+use Rattle.index_view.specs.Seen.{PlainSight, shut_at}
+use Rattle.index_view.specs.Tables.{row_at}
+use Rattle.index_view.specs.View.{PlainView, visible_of}
+use Rattle.index_view.specs.declared.lines.Style.{Style}
+
+-- by what rows are made: a format, the characters that tell what a message is to its reader, and
+-- the reader's offset from UTC in seconds
+pub record PlainStyle : Type 0 where
+  pub format : List PlainPiece
+  pub to_chars : List ℕ
+  pub offset : ℤ
+
+-- what stands at a place where there is no message
+abbrev pub no_ties : PlainTies
+no_ties = record { place = 0; from_reader = false; list = None }
+
+-- the tree text of an id, where it stands in the order
+abbrev pub tree_of : PlainSight → Id → List ℕ
+tree_of s id = option_map_or (tree_text s.entries) (place_in s.order id) []
+
+-- the same as text
+abbrev pub tree_line : PlainSight → Id → List ℕ
+tree_line s id = utf8_text (tree_of s id)
+
+-- what a row shows, by the row of a message, how many are listed, the thread that it hides, what
+-- the tables of people tell of it, its header, and what stands before its subject
+abbrev pub entry_of : Row → ℕ → Option Shut → PlainTies → PlainHeader → List ℕ → PlainStyle
+    → PlainEntry
+entry_of row count hidden ties header tree style = record {
+  number = row.number;
+  count = count;
+  flags = row.flags;
+  deleted = row.deleted;
+  tagged = row.tagged;
+  shut = hidden;
+  ties = ties;
+  header = header;
+  size = row.size;
+  score = row.score;
+  tree = tree;
+  received = row.received;
+  to_chars = style.to_chars;
+  offset = style.offset;
+}
+
+-- the shut thread whose other messages an id hides, where it stands in the order
+abbrev pub hidden_by : PlainSight → Id → Option Shut
+hidden_by s id = option_and_then (shut_at s) (place_in s.order id)
+
+-- what a row shows of the message with an id, which stands at a place of the listing, given its
+-- header and what stands before its subject
+abbrev pub entry_with : PlainHeader → List ℕ → PlainView → PlainStyle → Id → ℕ → PlainEntry
+entry_with header tree v style id place = entry_of (row_at v.answers.rows place)
+    (length v.answers.rows) (hidden_by v.answers.sight id)
+    (slice_index_or v.answers.ties place no_ties) header tree style
+
+abbrev pub entry : List Mail → PlainView → PlainStyle → Id → ℕ → PlainEntry
+entry mails v style id place = entry_with (header_of (mail_at mails id))
+    (tree_line v.answers.sight id) v style id place
+
+-- the row of a message in so many columns, where it is listed
+abbrev pub line : List Mail → PlainView → PlainStyle → ℕ → Id → Option (List ℕ)
+line mails v style cols id =
+    option_map (λ place. index_row cols (entry mails v style id place) style.format)
+    (place_of v.answers id)
+
+-- where the cursor stands in what is seen
+abbrev pub cursor_place : PlainView → ℕ
+cursor_place v = unwrap_or (option_and_then (place_in (visible_of v)) v.cursor) 0
+
+-- where the page begins that holds the cursor
+abbrev pub page_start : ℕ → PlainView → ℕ
+page_start rows v = cursor_place v / rows * rows
+
+-- the messages of the page
+abbrev pub page : ℕ → PlainView → List Id
+page rows v = take rows (drop (page_start rows v) (visible_of v))
+
+-- the mark of the cursor's message, and of all others
+abbrev pub mark : Option Id → Id → List ℕ
+mark cursor id =
+    if option_map_or (λ c. c.0 == id.0) cursor false then codes "->" else codes "  "
+
+-- a message of the page with its mark
+abbrev pub marked_line : List Mail → PlainView → PlainStyle → ℕ → Id → List ℕ
+marked_line mails v style cols id =
+    mark v.cursor id ++ unwrap_or (line mails v style (cols - 2) id) []
+
+-- the lines of the page, and then empty ones
+abbrev pub lines : List Mail → PlainView → PlainStyle → ℕ → ℕ → List (List ℕ)
+lines mails v style rows cols = map (marked_line mails v style cols) (page rows v)
+    ++ replicate (rows - length (page rows v)) []
+
+-- For the code alone.
+
+abbrev pub head_at : List PlainHeader → Id → PlainHeader
+head_at heads id = slice_index_or heads id.0 (header_of no_mail)
+
+abbrev pub plain_style : Style → PlainStyle
+plain_style s = record { format = s.format.now; to_chars = s.to_chars.now; offset = s.offset }

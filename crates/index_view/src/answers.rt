@@ -1,0 +1,466 @@
+//! What the index answers, worked out from scratch.
+
+ghost use Rattle.std.specs.Prelude.{◌≡◌, length, map, nat_eq, option_map, true, IfOk};
+ghost use Rattle.std.specs.List.{IsDistinct};
+ghost use Rattle.index_items.specs.Items.{plain_items};
+ghost use Rattle.index_rows.specs.Ties.{plain_ties, ties_of};
+ghost use Rattle.index_view.specs.Answers as spec;
+ghost use Rattle.index_listed.specs.Listed.{ids, plain_listed};
+ghost use Rattle.index_listed.specs.Places.{numbers};
+ghost use Rattle.index_view.specs.Seen.{sight};
+ghost use Rattle.index_view.specs.Sight.{AreFirst, all_within, plain_limit};
+ghost use Rattle.index_view.specs.Tables.{table};
+ghost use Rattle.index_listed.specs.Threading as threading;
+ghost use Rattle.patterns_match.specs.ScoreEntries.{held_entries};
+ghost use Rattle.threads.specs.Threads.{parent};
+
+use crate::asked::{Messages, messages_of};
+use crate::limiting::all_within;
+use crate::options::ViewOptions;
+use crate::ordering::{keys, numbered};
+use crate::rows::{first_rows, scored_rows};
+use crate::sight::Sight;
+use crate::stances::{Stance, stances};
+use crate::tables::Tables;
+use index_items::Item;
+use index_listed::{Links, Listed, Places, all_links, places_of, threads_of};
+use index_order::order;
+use index_rows::{Shut, Ties};
+use mail_base::{Id, Ids, NoMemory};
+use patterns_match::{Pattern, Row, matches};
+use people::People;
+use std::alloc::Global;
+use std::marker::Model;
+use threads::{Parent, ThreadOptions, Threads};
+
+/// What the index answers.
+#[derive(Drop)]
+pub struct Answers {
+    places: Places,
+    parents: Vec<Option<Parent>>,
+    links: Vec<Links>,
+    rows: Vec<Row>,
+    ties: Vec<Ties>,
+    stances: Vec<Stance>,
+    sight: Sight,
+}
+
+impl Model for Answers {
+    ghost use Rattle.std.specs.Prelude.{map};
+    ghost use Rattle.index_rows.specs.Ties.{plain_ties};
+    ghost use Rattle.index_view.specs.Answers.{AreKept, PlainAnswers};
+
+    ghost Value = { PlainAnswers };
+
+    ghost view = { λ a. record {
+      parents = a.parents.items;
+      links = a.links.items;
+      rows = a.rows.items;
+      ties = map plain_ties a.ties.items;
+      stances = a.stances.items;
+      sight = a.sight;
+    } };
+
+    ghost invariant = { λ a. AreKept a.places a.parents.items a.links.items a.rows.items
+        (map plain_ties a.ties.items) a.stances.items a.sight.order };
+}
+
+/// The listed messages in threads, where they stand, and what each follows.
+#[derive(Drop)]
+pub struct Threaded {
+    pub threads: Threads,
+    pub places: Places,
+    pub links: Vec<Links>,
+}
+
+/// The listed messages with their numbers, their ids in order, and how they stand there.
+#[derive(Drop)]
+pub struct Ranked {
+    pub rows: Vec<Row>,
+    pub order: Ids,
+    pub stances: Vec<Stance>,
+}
+
+fn ids_of(alloc: Global, listed: &[Listed<'_>]) -> Result<Vec<Id>, NoMemory>
+    ensures { IfOk result (λ all. numbers all.items ≡ ids (map plain_listed listed.now)) }
+{
+    let mut all = Vec::with_capacity(alloc, listed.len())?;
+    let mut left = listed;
+    while let [first, rest @ ..] = left {
+        all.push(first.id)?;
+        left = rest;
+    }
+    Ok(all)
+}
+
+fn parent_of(threads: &Threads, id: Id) -> Option<Parent>
+    requires { threads.now.is_finished ≡ true }
+    ensures { result ≡ parent threads.now id }
+{
+    if !threads.holds(id) {
+        return None;
+    }
+    threads.parent(id)
+}
+
+fn in_threads(
+    alloc: Global,
+    options: ThreadOptions,
+    listed: &[Listed<'_>],
+) -> Result<Threaded, NoMemory>
+    requires { threading.AreApart (map plain_listed listed.now) }
+    ensures { IfOk result (spec.AreThreaded options (map plain_listed listed.now)) }
+{
+    let threads = threads_of(alloc, options, listed)?;
+    let places = places_of(alloc, &ids_of(alloc, listed)?)?;
+    let links = all_links(alloc, &threads, &places, listed)?;
+    Ok(Threaded {
+        threads,
+        places,
+        links,
+    })
+}
+
+// The messages without numbers, with what each scores.
+fn scored(
+    alloc: Global,
+    tables: &mut Tables,
+    items: &[Item],
+    listed: &[Listed<'_>],
+    links: &[Links],
+) -> Result<Vec<Row>, NoMemory>
+    requires items { length items.now ≡ length listed.now }
+    requires links { length links.now ≡ length listed.now }
+    requires within { threading.AllWithin (length listed.now) links.now }
+    ensures value { IfOk result (λ rows. rows.items ≡ spec.scored_by tables.old.people
+        (held_entries tables.old.scores.entries.items) (map plain_listed listed.now)
+        (plain_items items.now) links.now) }
+    ensures same { tables.new ≡ tables.old }
+{
+    let rows = first_rows(alloc, listed, items, links)?;
+    let messages = messages_of(alloc, listed, &rows, links)?;
+    scored_rows(
+        alloc,
+        &mut tables.scores,
+        &mut tables.people,
+        &messages,
+        &rows,
+    )
+}
+
+fn in_order(
+    alloc: Global,
+    options: ViewOptions,
+    tables: &mut Tables,
+    items: &[Item],
+    listed: &[Listed<'_>],
+    threaded: &Threaded,
+) -> Result<Ranked, NoMemory>
+    requires items { length items.now ≡ length listed.now }
+    requires apart { threading.AreApart (map plain_listed listed.now) }
+    requires threaded { spec.AreThreaded options.threads (map plain_listed listed.now)
+        threaded.now }
+    ensures value { IfOk result (spec.AreRanked (map plain_listed listed.now)
+        (spec.facts options items.now tables.old)) }
+    ensures same { tables.new ≡ tables.old }
+{
+    let scored = scored(alloc, tables, items, listed, &threaded.links)?;
+    let keys = keys(alloc, listed, &scored)?;
+    let order = order(alloc, &keys, &threaded.threads, options.sorting())?;
+    let Threaded {
+        threads,
+        places,
+        ..
+    } = threaded;
+    let order_places = places_of(alloc, order.as_slice())?;
+    let rows = numbered(alloc, &scored, &order_places)?;
+    let is_threaded = options.sort.is_threads();
+    let ids = order.as_slice();
+    let stances = stances(alloc, is_threaded, threads, places, &order_places, ids)?;
+    Ok(Ranked {
+        rows,
+        order,
+        stances,
+    })
+}
+
+fn all_ties(
+    alloc: Global,
+    people: &mut People,
+    listed: &[Listed<'_>],
+) -> Result<Vec<Ties>, NoMemory>
+    ensures value { IfOk result (λ all. map plain_ties all.items
+        ≡ map (λ l. ties_of people.old l.header) (map plain_listed listed.now)) }
+    ensures same { people.new ≡ people.old }
+{
+    let mut all = Vec::with_capacity(alloc, listed.len())?;
+    let mut left = listed;
+    while let [first, rest @ ..] = left {
+        all.push(Ties::of(alloc, people, first.header)?)?;
+        left = rest;
+    }
+    Ok(all)
+}
+
+// The parent of each message.
+fn all_parents(
+    alloc: Global,
+    threads: &Threads,
+    listed: &[Listed<'_>],
+) -> Result<Vec<Option<Parent>>, NoMemory>
+    requires { threads.now.is_finished ≡ true }
+    ensures { IfOk result (λ all. all.items
+        ≡ map (λ l. parent threads.now l.id) (map plain_listed listed.now)) }
+{
+    let mut all = Vec::with_capacity(alloc, listed.len())?;
+    let mut left = listed;
+    while let [first, rest @ ..] = left {
+        all.push(parent_of(threads, first.id))?;
+        left = rest;
+    }
+    Ok(all)
+}
+
+// What of the messages is seen, given their links, rows and order.
+fn sight_of(
+    alloc: Global,
+    tables: &mut Tables,
+    listed: &[Listed<'_>],
+    links: &[Links],
+    rows: &[Row],
+    order: Ids,
+    stances: &[Stance],
+) -> Result<Sight, NoMemory>
+    requires rows { length rows.now ≡ length listed.now }
+    requires links { length links.now ≡ length listed.now }
+    requires within { threading.AllWithin (length listed.now) links.now }
+    requires apart { IsDistinct nat_eq (numbers order.items) }
+    requires stances { length stances.now ≡ length order.items }
+    requires first { AreFirst stances.now }
+    ensures value { IfOk result (λ s. s ≡ sight rows.now
+        (all_within tables.old.people (option_map plain_limit tables.old.limit)
+        (table (map plain_listed listed.now) rows.now links.now)) order.items stances.now) }
+    ensures same { tables.new ≡ tables.old }
+{
+    let messages = messages_of(alloc, listed, rows, links)?;
+    let within = all_within(alloc, &mut tables.limit, &mut tables.people, &messages)?;
+    Sight::new(alloc, rows, &within, order, stances)
+}
+
+impl Answers {
+    ghost use Rattle.std.specs.Prelude.{◌≡◌, ◌<◌, length, map, option_and_then, option_map};
+    ghost use Rattle.std.specs.Prelude.{slice_index_or, IfOk, IfSome};
+    ghost use Rattle.index_rows.specs.Ties.{plain_ties};
+    ghost use Rattle.index_view.specs.Answers as spec;
+    ghost use Rattle.index_view.specs.Lines.{no_ties};
+    ghost use Rattle.index_listed.specs.Listed.{plain_listed};
+    ghost use Rattle.index_listed.specs.Places.{place_in};
+    ghost use Rattle.index_view.specs.Seen.{shut_at, sight};
+    ghost use Rattle.index_view.specs.Sight.{all_within, plain_limit};
+    ghost use Rattle.index_view.specs.Tables.{row_at, seen, table};
+    ghost use Rattle.index_listed.specs.Threading as threading;
+
+    /// Nothing is listed.
+    pub fn none(alloc: Global) -> Answers
+        ensures { result ≡ spec.no_answers }
+    {
+        Answers {
+            places: Places::new(alloc),
+            parents: Vec::new(alloc),
+            links: Vec::new(alloc),
+            rows: Vec::new(alloc),
+            ties: Vec::new(alloc),
+            stances: Vec::new(alloc),
+            sight: Sight::none(alloc),
+        }
+    }
+
+    /// What is answered of the messages.
+    pub fn of(
+        alloc: Global,
+        options: ViewOptions,
+        tables: &mut Tables,
+        items: &[Item],
+        listed: &[Listed<'_>],
+    ) -> Result<Answers, NoMemory>
+        requires items { length items.now ≡ length listed.now }
+        requires apart { threading.AreApart (map plain_listed listed.now) }
+        ensures value { IfOk result (λ a. a ≡ spec.answers (map plain_listed listed.now)
+            (spec.facts options items.now tables.old)) }
+        ensures same { tables.new ≡ tables.old }
+    {
+        let threaded = in_threads(alloc, options.threads, listed)?;
+        let ranked = in_order(alloc, options, tables, items, listed, &threaded)?;
+        let Threaded {
+            threads,
+            places,
+            links,
+        } = threaded;
+        let Ranked {
+            rows,
+            order,
+            stances,
+        } = ranked;
+        Ok(Answers {
+            places,
+            parents: all_parents(alloc, &threads, listed)?,
+            ties: all_ties(alloc, &mut tables.people, listed)?,
+            sight: sight_of(alloc, tables, listed, &links, &rows, order, &stances)?,
+            links,
+            rows,
+            stances,
+        })
+    }
+
+    /// What of the messages is seen under another limit, which stands in the tables.
+    pub fn limited(
+        &self,
+        alloc: Global,
+        tables: &mut Tables,
+        listed: &[Listed<'_>],
+    ) -> Result<Sight, NoMemory>
+        requires { length self.now.rows ≡ length listed.now }
+        ensures value { IfOk result (λ s. s ≡ sight self.now.rows
+            (all_within tables.old.people (option_map plain_limit tables.old.limit)
+            (table (map plain_listed listed.now) self.now.rows self.now.links))
+            self.now.sight.order self.now.stances) }
+        ensures same { tables.new ≡ tables.old }
+    {
+        let order = Ids::from_vec(self.sight.order().as_slice().to_vec(alloc)?);
+        sight_of(
+            alloc,
+            tables,
+            listed,
+            &self.links,
+            &self.rows,
+            order,
+            &self.stances,
+        )
+    }
+
+    /// What is seen.
+    pub fn sight(&self) -> &Sight
+        ensures { result.now ≡ self.now.sight }
+    {
+        &self.sight
+    }
+
+    /// Puts in what is seen of the same order.
+    pub fn put_sight(&mut self, sight: Sight)
+        requires { sight.order ≡ self.old.sight.order }
+        ensures { self.new ≡ record self.old { sight = sight } }
+    {
+        self.sight = sight;
+    }
+
+    /// Where a message stands in the listing.
+    pub fn place(&self, id: Id) -> Option<usize>
+        ensures place { result ≡ spec.place_of self.now id }
+        ensures within { IfSome result (λ p. p < length self.now.rows) }
+    {
+        self.places.find(id)
+    }
+
+    /// How many messages are listed.
+    pub fn count(&self) -> usize
+        ensures { result ≡ length self.now.rows }
+    {
+        self.rows.len()
+    }
+
+    /// What is shown of the message at a place of the listing.
+    pub fn row_at(&self, place: usize) -> Row
+        requires { place < length self.now.rows }
+        ensures { result ≡ row_at self.now.rows place }
+    {
+        self.rows[place]
+    }
+
+    /// What the tables of people tell of it.
+    pub fn ties_at(&self, place: usize) -> &Ties
+        requires { place < length self.now.rows }
+        ensures { plain_ties result.now ≡ slice_index_or self.now.ties place no_ties }
+    {
+        &self.ties[place]
+    }
+
+    /// The shut thread whose other messages the one with an id hides.
+    pub fn shut_of(&self, id: Id) -> Option<Shut>
+        ensures { result ≡ option_and_then (shut_at self.now.sight)
+            (place_in self.now.sight.order id) }
+    {
+        let place = self.sight.place(id)?;
+        self.sight.shut_at(place)
+    }
+
+    /// What is shown of a message.
+    pub fn row(&self, id: Id) -> Option<Row>
+        ensures { result ≡ spec.row self.now id }
+    {
+        let place = self.place(id)?;
+        Some(self.rows[place])
+    }
+
+    /// Whom a message follows, and by what.
+    pub fn parent(&self, id: Id) -> Option<Parent>
+        ensures { result ≡ spec.parent_of self.now id }
+    {
+        let place = self.place(id)?;
+        self.parents[place]
+    }
+
+    /// The root of a message's thread.
+    pub fn thread_of(&self, id: Id) -> Option<Id>
+        ensures { result ≡ spec.thread_of self.now id }
+    {
+        let place = self.place(id)?;
+        let root = self.links[place].root;
+        Some(self.rows[root].id)
+    }
+
+    // Whether the message with an id satisfies a pattern.
+    fn passes(
+        &self,
+        alloc: Global,
+        people: &mut People,
+        messages: &Messages<'_>,
+        pattern: &mut Pattern,
+        id: Id,
+    ) -> Result<bool, NoMemory>
+        requires { length messages.now.asked.items ≡ length self.now.rows }
+        ensures value { IfOk result (λ passed. passed ≡ spec.id_passes people.old
+            (plain_limit pattern.old) (map seen messages.now.asked.items) self.now id) }
+        ensures same { (pattern.new ≡ pattern.old) × (people.new ≡ people.old) }
+    {
+        match self.place(id) {
+            Some(place) => matches(alloc, pattern, place, messages, people),
+            None => Ok(false),
+        }
+    }
+
+    /// The ids that are seen and satisfy a pattern, in order.
+    pub fn picked(
+        &self,
+        alloc: Global,
+        people: &mut People,
+        listed: &[Listed<'_>],
+        pattern: &mut Pattern,
+    ) -> Result<Ids, NoMemory>
+        requires { length self.now.rows ≡ length listed.now }
+        ensures value { IfOk result (λ ids. ids.items ≡ spec.picked people.old
+            (plain_limit pattern.old)
+            (table (map plain_listed listed.now) self.now.rows self.now.links) self.now) }
+        ensures same { (pattern.new ≡ pattern.old) × (people.new ≡ people.old) }
+    {
+        let messages = messages_of(alloc, listed, &self.rows, &self.links)?;
+        let mut ids = Ids::new(alloc);
+        let mut left = self.sight.visible().as_slice();
+        while let [first, rest @ ..] = left {
+            if self.passes(alloc, people, &messages, pattern, *first)? {
+                ids.push(*first)?;
+            }
+            left = rest;
+        }
+        Ok(ids)
+    }
+}

@@ -1,0 +1,102 @@
+//! What a view answers.
+
+use crate::listing::all_listed;
+use crate::view::View;
+use folder_core::{Archive, Changes};
+use index_items::changes;
+use mail_base::{Id, Ids, Kind, NoMemory};
+use patterns_match::{Pattern, Row};
+use std::alloc::Global;
+use threads::Parent;
+
+impl View {
+    ghost use Rattle.std.specs.Prelude.{◌≡◌, map, IfOk};
+    ghost use Rattle.folder_core.specs.Letters.{plain_letter};
+    ghost use Rattle.index_items.specs.Changes.{changes_of, plain_changes};
+    ghost use Rattle.index_view.specs.Answers as answers;
+    ghost use Rattle.index_view.specs.Cursor.{is_seen};
+    ghost use Rattle.index_view.specs.Sight.{plain_limit};
+    ghost use Rattle.index_view.specs.View as spec;
+
+    /// Moves the cursor to a message, and answers whether it is seen; where it is not, the cursor
+    /// stays.
+    pub fn move_to(&mut self, id: Id) -> bool
+        ensures answer { result ≡ is_seen (spec.visible_of self.old) id }
+        ensures moved { self.new ≡ spec.moved_to self.old id }
+    {
+        let is_seen = self.answers.sight().visible_place(id).is_some();
+        if is_seen {
+            self.cursor = Some(id);
+        }
+        is_seen
+    }
+
+    /// The message on which the cursor stands.
+    pub fn cursor(&self) -> Option<Id>
+        ensures { result ≡ self.now.cursor }
+    {
+        self.cursor
+    }
+
+    /// All ids in the order of the index.
+    pub fn ordered(&self) -> &Ids
+        ensures { result.now.items ≡ self.now.answers.sight.order }
+    {
+        self.answers.sight().order()
+    }
+
+    /// The ids that are seen, in order.
+    pub fn visible(&self) -> &Ids
+        ensures { result.now.items ≡ spec.visible_of self.now }
+    {
+        self.answers.sight().visible()
+    }
+
+    /// What is shown of a message; nothing where the id is not listed.
+    pub fn row(&self, id: Id) -> Option<Row>
+        ensures { result ≡ answers.row self.now.answers id }
+    {
+        self.answers.row(id)
+    }
+
+    /// Whom a message follows, and by what.
+    pub fn parent(&self, id: Id) -> Option<Parent>
+        ensures { result ≡ answers.parent_of self.now.answers id }
+    {
+        self.answers.parent(id)
+    }
+
+    /// The root of a message's thread; nothing where the id is not listed.
+    pub fn thread_of(&self, id: Id) -> Option<Id>
+        ensures { result ≡ answers.thread_of self.now.answers id }
+    {
+        self.answers.thread_of(id)
+    }
+
+    /// The ids that are seen and satisfy a pattern, in order.
+    pub fn pick(
+        &mut self,
+        alloc: Global,
+        archive: &Archive,
+        pattern: &mut Pattern,
+    ) -> Result<Ids, NoMemory>
+        requires { spec.IsOf (map plain_letter archive.now.items) self.old }
+        ensures value { IfOk result (λ ids. ids.items
+            ≡ spec.picked_of (map plain_letter archive.now.items) (plain_limit pattern.old)
+            self.old) }
+        ensures same { (self.new ≡ self.old) × (pattern.new ≡ pattern.old) }
+    {
+        let letters = archive.as_slice();
+        let listed = all_listed(self.alloc, letters, &self.heads, &self.items)?;
+        let people = &mut self.tables.people;
+        self.answers.picked(alloc, people, &listed, pattern)
+    }
+
+    /// What a sync is to do; messages that are marked deleted go where `purge`.
+    pub fn changes(&self, alloc: Global, kind: Kind, purge: bool) -> Result<Changes, NoMemory>
+        ensures { IfOk result (λ c. plain_changes c.items
+            ≡ changes_of kind purge self.now.items) }
+    {
+        changes(alloc, kind, purge, &self.items)
+    }
+}

@@ -1,0 +1,48 @@
+//! Which messages satisfy the limit.
+
+ghost use Rattle.std.specs.Prelude.{◌≡◌, ◌<◌, length, map, option_map, IfOk};
+ghost use Rattle.index_view.specs.Sight as spec;
+ghost use Rattle.index_view.specs.Tables.{seen};
+
+use crate::asked::Messages;
+use mail_base::NoMemory;
+use patterns_match::{Pattern, matches};
+use people::People;
+use std::alloc::Global;
+
+// Whether the message at a place satisfies the limit, if there is one.
+fn is_within(
+    alloc: Global,
+    limit: &mut Option<Pattern>,
+    people: &mut People,
+    messages: &Messages<'_>,
+    place: usize,
+) -> Result<bool, NoMemory>
+    requires { place < length messages.now.asked.items }
+    ensures value { IfOk result (λ within. within ≡ spec.is_within people.old
+        (option_map spec.plain_limit limit.old) (map seen messages.now.asked.items) place) }
+    ensures same { (limit.new ≡ limit.old) × (people.new ≡ people.old) }
+{
+    match limit {
+        Some(pattern) => matches(alloc, pattern, place, messages, people),
+        None => Ok(true),
+    }
+}
+
+/// Which messages satisfy the limit, if there is one.
+pub fn all_within(
+    alloc: Global,
+    limit: &mut Option<Pattern>,
+    people: &mut People,
+    messages: &Messages<'_>,
+) -> Result<Vec<bool>, NoMemory>
+    ensures value { IfOk result (λ within. within.items ≡ spec.all_within people.old
+        (option_map spec.plain_limit limit.old) (map seen messages.now.asked.items)) }
+    ensures same { (limit.new ≡ limit.old) × (people.new ≡ people.old) }
+{
+    let mut within = Vec::with_capacity(alloc, messages.asked.len())?;
+    for place in 0..messages.asked.len() {
+        within.push(is_within(alloc, limit, people, messages, place)?)?;
+    }
+    Ok(within)
+}

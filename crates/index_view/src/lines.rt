@@ -1,0 +1,281 @@
+//! The lines of the index.
+
+ghost use Rattle.std.specs.Prelude.{◌≡◌, ◌++◌, [], replicate, OnOk};
+ghost use Rattle.headers.specs.Header.{plain_header};
+ghost use Rattle.index_rows.specs.Entry.{plain_entry};
+ghost use Rattle.index_rows.specs.Ties.{plain_ties};
+ghost use Rattle.index_view.specs.Lines as spec;
+ghost use Rattle.mail_base.specs.Series.{plain_texts};
+
+use crate::view::View;
+use expando::Format;
+use folder_core::Archive;
+use headers::Header;
+use index_rows::{Entry, Shut, Ties, index_row};
+use mail_base::{Bytes, Id, Line, Lines, NoMemory, append_utf8};
+use patterns_match::Row;
+use std::alloc::Global;
+
+/// By what rows are made.
+#[derive(Clone, Copy)]
+pub struct Style<'a> {
+    pub format: &'a Format,
+    pub to_chars: &'a [u8],
+    /// The reader's offset from UTC in seconds.
+    pub offset: i32,
+}
+
+fn mark(cursor: Option<Id>, id: Id) -> &'static str
+    ensures { result.now ≡ spec.mark cursor id }
+{
+    if cursor == Some(id) { "->" } else { "  " }
+}
+
+// What a row shows of a message.
+fn entry_of<'a>(
+    row: Row,
+    count: u64,
+    hidden: Option<Shut>,
+    ties: &'a Ties,
+    header: &'a Header,
+    tree: &'a Line,
+    style: Style<'a>,
+) -> Entry<'a>
+    ensures { plain_entry result ≡ spec.entry_of row count hidden (plain_ties ties.now)
+        (plain_header header.now) tree.now.items (spec.plain_style style.entry) }
+{
+    Entry {
+        number: row.number,
+        count,
+        flags: row.flags,
+        deleted: row.deleted,
+        tagged: row.tagged,
+        shut: hidden,
+        ties,
+        header,
+        size: row.size,
+        score: row.score,
+        tree,
+        received: row.received,
+        to_chars: style.to_chars,
+        offset: style.offset,
+    }
+}
+
+impl View {
+    ghost use Rattle.std.specs.Prelude.{◌≡◌, ◌≤◌, ◌<◌, ◌++◌, length, map, option_map, IfOk, OnOk};
+    ghost use Rattle.folder_core.specs.Letters.{plain_letter};
+    ghost use Rattle.index_rows.specs.Entry.{plain_entry};
+    ghost use Rattle.mail_base.specs.Series.{plain_texts};
+    ghost use Rattle.mail_base.specs.Shown.{utf8_text};
+    ghost use Rattle.index_view.specs.Lines as spec;
+    ghost use Rattle.index_view.specs.View.{IsOf};
+
+    // The tree text of a message.
+    fn tree_of(&self, alloc: Global, id: Id) -> Result<Bytes, NoMemory>
+        ensures { IfOk result
+            (λ text. text.items ≡ spec.tree_of self.now.answers.sight id) }
+    {
+        let sight = self.answers.sight();
+        match sight.place(id) {
+            Some(place) => sight.text_at(alloc, place),
+            None => Ok(Bytes::new(alloc)),
+        }
+    }
+
+    // The same as text.
+    fn tree_line(&self, alloc: Global, id: Id) -> Result<Line, NoMemory>
+        ensures { IfOk result
+            (λ line. line.items ≡ spec.tree_line self.now.answers.sight id) }
+    {
+        let text = self.tree_of(alloc, id)?;
+        let mut line = Line::new(alloc);
+        append_utf8(&mut line, text.as_slice())?;
+        Ok(line)
+    }
+
+    // What a row shows of a message.
+    fn entry<'a>(&'a self, style: Style<'a>, tree: &'a Line, id: Id, place: usize) -> Entry<'a>
+        requires listed { place < length self.now.answers.rows }
+        requires head { id.0 < length self.now.heads }
+        ensures { plain_entry result ≡ spec.entry_with (spec.head_at self.now.heads id)
+            tree.now.items self.now (spec.plain_style style.entry) id place }
+    {
+        entry_of(
+            self.answers.row_at(place),
+            self.answers.count() as u64,
+            self.answers.shut_of(id),
+            self.answers.ties_at(place),
+            &self.heads[id.0 as usize],
+            tree,
+            style,
+        )
+    }
+
+    // The row of a message in so many columns, where it is listed.
+    fn styled(
+        &self,
+        alloc: Global,
+        archive: &Archive,
+        style: Style<'_>,
+        cols: u16,
+        id: Id,
+    ) -> Result<Option<Line>, NoMemory>
+        requires { IsOf (map plain_letter archive.now.items) self.now }
+        ensures { IfOk result (λ line. option_map (λ l. l.items) line
+            ≡ spec.line (map plain_letter archive.now.items) self.now (spec.plain_style style.entry)
+            cols id) }
+    {
+        let Some(place) = self.answers.place(id) else {
+            return Ok(None);
+        };
+        let tree = self.tree_line(alloc, id)?;
+        let entry = self.entry(style, &tree, id, place);
+        Ok(Some(index_row(alloc, style.format, &entry, cols)?))
+    }
+
+    /// The row of a message by a format, in so many columns; nothing where the id is not listed.
+    /// `to_chars` are six characters, `offset` is seconds.
+    pub fn line(
+        &self,
+        alloc: Global,
+        archive: &Archive,
+        id: Id,
+        format: &Format,
+        to_chars: &[u8],
+        offset: i32,
+        cols: u16,
+    ) -> Result<Option<Line>, NoMemory>
+        requires { IsOf (map plain_letter archive.now.items) self.now }
+        ensures { IfOk result (λ line. option_map (λ l. l.items) line
+            ≡ spec.line (map plain_letter archive.now.items) self.now
+            (record { format = format.now; to_chars = to_chars.now; offset = offset }) cols id) }
+    {
+        let style = Style {
+            format,
+            to_chars,
+            offset,
+        };
+        self.styled(alloc, archive, style, cols, id)
+    }
+
+    // A message of the page with its mark.
+    fn marked(
+        &self,
+        alloc: Global,
+        archive: &Archive,
+        style: Style<'_>,
+        cols: u16,
+        id: Id,
+    ) -> Result<Line, NoMemory>
+        requires cols { 2 ≤ cols }
+        requires is_of { IsOf (map plain_letter archive.now.items) self.now }
+        ensures { IfOk result (λ line. line.items
+            ≡ spec.marked_line (map plain_letter archive.now.items) self.now
+            (spec.plain_style style.entry) cols id) }
+    {
+        let mut line = Line::new(alloc);
+        line.append(mark(self.cursor, id))?;
+        if let Some(row) = self.styled(alloc, archive, style, cols - 2, id)? {
+            line.append_bytes(row.as_slice())?;
+        }
+        Ok(line)
+    }
+
+    // Where the cursor stands in what is seen.
+    fn cursor_place(&self) -> usize
+        ensures { result ≡ spec.cursor_place self.now }
+    {
+        match self.cursor {
+            Some(id) => self.answers.sight().visible_place(id).unwrap_or(0),
+            None => 0,
+        }
+    }
+
+    // Where the page begins that holds the cursor.
+    fn page_start(&self, rows: usize) -> usize
+        requires { 0 < rows }
+        ensures { result ≡ spec.page_start rows self.now }
+    {
+        self.cursor_place() / rows * rows
+    }
+
+    // The messages of the page that holds the cursor.
+    fn page(&self, rows: usize) -> &[Id]
+        requires { 0 < rows }
+        ensures page { result.now ≡ spec.page rows self.now }
+        ensures fits { length result.now ≤ rows }
+    {
+        let visible = self.answers.sight().visible().as_slice();
+        let rest = visible.get(self.page_start(rows)..).unwrap_or(&[]);
+        &rest[..rest.len().min(rows)]
+    }
+
+    /// The lines of the page that holds the cursor, exactly `rows` of them: each message with its
+    /// mark, and then empty ones. `to_chars` are six characters, `offset` is seconds.
+    pub fn lines(
+        &self,
+        alloc: Global,
+        archive: &Archive,
+        index_format: &Format,
+        to_chars: &[u8],
+        offset: i32,
+        rows: u16,
+        cols: u16,
+    ) -> Result<Lines, NoMemory>
+        requires cols { 2 ≤ cols }
+        requires is_of { IsOf (map plain_letter archive.now.items) self.now }
+        ensures { IfOk result (λ lines. plain_texts lines
+            ≡ spec.lines (map plain_letter archive.now.items) self.now
+            (record { format = index_format.now; to_chars = to_chars.now; offset = offset })
+            rows cols) }
+    {
+        let mut lines = Lines::new(alloc);
+        if rows == 0 {
+            return Ok(lines);
+        }
+        let style = Style {
+            format: index_format,
+            to_chars,
+            offset,
+        };
+        let page = self.page(rows as usize);
+        self.put_rows(alloc, &mut lines, archive, style, cols, page)?;
+        put_blanks(alloc, &mut lines, rows as usize - page.len())?;
+        Ok(lines)
+    }
+
+    // Adds the messages of a page.
+    fn put_rows(
+        &self,
+        alloc: Global,
+        lines: &mut Lines,
+        archive: &Archive,
+        style: Style<'_>,
+        cols: u16,
+        page: &[Id],
+    ) -> Result<(), NoMemory>
+        requires cols { 2 ≤ cols }
+        requires is_of { IsOf (map plain_letter archive.now.items) self.now }
+        ensures { OnOk result (plain_texts lines.new ≡ plain_texts lines.old
+            ++ map (spec.marked_line (map plain_letter archive.now.items) self.now
+            (spec.plain_style style.entry) cols) page.now) }
+    {
+        let mut left = page;
+        while let [first, rest @ ..] = left {
+            lines.push(self.marked(alloc, archive, style, cols, *first)?)?;
+            left = rest;
+        }
+        Ok(())
+    }
+}
+
+// Adds so many empty lines.
+fn put_blanks(alloc: Global, lines: &mut Lines, count: usize) -> Result<(), NoMemory>
+    ensures { OnOk result (plain_texts lines.new ≡ plain_texts lines.old ++ replicate count []) }
+{
+    for _turn in 0..count {
+        lines.push(Line::new(alloc))?;
+    }
+    Ok(())
+}
