@@ -5,12 +5,12 @@ use Rattle.std.proofs.Common.{◌+◌, suc, cond, not, nat_lt, Option, Some, Non
 use Rattle.std.specs.Prelude.{position}
 use Rattle.threads.specs.Message.{PlainMessage, numbers as thread_numbers}
 use Rattle.threads.specs.Threads.{place_of}
-use Rattle.index_listed.specs.Listed.{ids, plain_listed}
-use Rattle.index_listed.specs.declared.listed.Listed.{Listed}
 use Rattle.std.proofs.lemmas.Bool.{le-ltb, or_parts, eqb-false, eqb-true, false_from_ne_true}
 use Rattle.mail_base.specs.declared.kind.Id.{Id}
-use Rattle.index_listed.specs.Places.{numbers}
 use Rattle.std.specs.List.{AllByRecursion, IsDistinct, list_any, position_or_len}
+use Rattle.index_listed.specs.Listed.{ids, plain_listed}
+use Rattle.index_listed.specs.Places.{numbers}
+use Rattle.index_listed.specs.declared.listed.Listed.{Listed}
 
 other_way : (x n : ℕ) → nat_eq x n ≡ false → nat_eq n x ≡ false
 other_way x n apart = false_from_ne_true (nat_eq n x)

@@ -1,3 +1,11 @@
+pub mod ListLemmas
+pub mod DistinctLemmas
+pub mod PlaceLemmas
 pub mod HeadLemmas
 pub mod ApartLemmas
 pub mod KnownLemmas
+pub mod EntriesLemmas
+pub mod TreeLemmas
+pub mod TreeFacts
+pub mod SightLemmas
+pub mod CursorLemmas

@@ -3,3 +3,11 @@ pub mod Heads
 pub mod Places
 pub mod Known
 pub mod Threading
+pub mod Threaded
+pub mod Entries
+pub mod Visibility
+pub mod Tree
+pub mod Marks
+pub mod Sight
+pub mod Seen
+pub mod Cursor

@@ -5,10 +5,10 @@ use Rattle.std.specs.List.{All, IsDistinct}
 use Rattle.threads.specs.Message.{PlainMessage, message}
 use Rattle.threads.specs.Threads.{PlainThreads, parent, thread_of}
 use Rattle.threads.specs.declared.options.ThreadOptions.{ThreadOptions}
+use Rattle.mail_base.specs.declared.kind.Id.{Id}
 use Rattle.index_listed.specs.Known.{with_text}
 use Rattle.index_listed.specs.Listed.{PlainListed, ids}
 use Rattle.index_listed.specs.declared.links.Links.{Links}
-use Rattle.mail_base.specs.declared.kind.Id.{Id}
 
 -- what threads know of a message
 abbrev pub thread_message : PlainListed → PlainMessage

@@ -1,6 +1,6 @@
 //! The headers of letters, which are kept.
 
-ghost use Rattle.std.specs.Prelude.{◌≡◌, ◌≤◌, ◌++◌, length, map, take, IfOk, OnOk, OnErr};
+ghost use Rattle.std.specs.Prelude.{◌≡◌, length, map, take, IfOk, OnOk};
 ghost use Rattle.folder_core.specs.Letters.{plain_letter};
 ghost use Rattle.headers.specs.Header.{plain_header};
 ghost use Rattle.index_listed.specs.Heads.{AreHeads};

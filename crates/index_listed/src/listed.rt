@@ -22,7 +22,7 @@ pub struct Listed<'a> {
 
 impl<'a> Listed<'a> {
     ghost use Rattle.std.specs.Prelude.{◌≡◌, length};
-    ghost use Rattle.index_listed.specs.Listed.{plain_listed, size_of, text_of};
+    ghost use Rattle.index_listed.specs.Listed.{plain_listed, text_of};
 
     /// The bytes of its text.
     pub fn text(&self) -> &'a [u8]

@@ -1,6 +1,6 @@
 //! The threads of the listed messages.
 
-ghost use Rattle.std.specs.Prelude.{◌≡◌, length, map, IfOk, OnOk};
+ghost use Rattle.std.specs.Prelude.{◌≡◌, map, IfOk, OnOk};
 ghost use Rattle.index_listed.specs.Listed.{plain_listed};
 ghost use Rattle.index_listed.specs.Threading as spec;
 ghost use Rattle.threads.specs.Forest.{IsForest};

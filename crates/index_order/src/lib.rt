@@ -9,8 +9,10 @@ mod listing;
 mod options;
 mod sorted;
 mod standing;
+mod view_options;
 
 pub use keys::SortKeys;
 pub use laws::greatest_is_greatest;
 pub use listing::order;
 pub use options::{Sort, SortOptions};
+pub use view_options::ViewOptions;

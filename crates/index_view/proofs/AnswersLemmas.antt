@@ -4,11 +4,11 @@ use Rattle.std.proofs.lemmas.List.{length-map}
 use Rattle.std.proofs.lemmas.Simd.{map-map}
 use Rattle.std.specs.List.{range_with_len}
 use Rattle.patterns_match.specs.declared.row.Row.{Row}
-use Rattle.index_view.specs.Answers.{Facts, links_of, ordered, rows_of, scored}
 use Rattle.index_listed.specs.Listed.{PlainListed, ids, no_listed}
+use Rattle.index_listed.proofs.PlaceLemmas.{map_at}
+use Rattle.index_view.specs.Answers.{Facts, links_of, ordered, rows_of, scored}
 use Rattle.index_view.specs.Ordering.{with_number}
 use Rattle.index_view.specs.Tables.{first_row_at, first_rows, no_row, scored_at, table}
-use Rattle.index_view.proofs.PlaceLemmas.{map_at}
 
 abbrev number : Row → ℕ
 number r = r.id.0

@@ -1,8 +1,10 @@
 -- The numbers of the listed messages after a sync, a scan and a change.
-use Rattle.std.proofs.Common.{◌≡◌, ◌++◌, ◌∷◌, [], ℕ, Bool, true, false, List, ap, inl, inr, map}
-use Rattle.std.proofs.Common.{Option, Some, None, nat_eq, refl, subst}
-use Rattle.std.proofs.lemmas.List.{map-append}
+use Rattle.std.proofs.Common.{◌≡◌, ◌∙◌, ◌<◌, ◌++◌, ◌∷◌, [], ℕ, Bool, true, false, List, ap, inl}
+use Rattle.std.proofs.Common.{Option, Some, None, inr, map, nat_eq, refl, subst, sym}
+use Rattle.std.proofs.lemmas.List.{get_or-map, length-map, map-append}
+use Rattle.std.proofs.lemmas.List.Elements.{All-from_recursion}
 use Rattle.std.proofs.lemmas.List.Sorted.{IsPermutation-map}
+use Rattle.std.proofs.lemmas.Simd.{map-map}
 use Rattle.std.specs.List.{AllByRecursion, IsDistinct}
 use Rattle.std.specs.List.Sorted.{IsPermutation}
 use Rattle.std.specs.Prelude.{if◌then◌else◌}
@@ -10,13 +12,15 @@ use Rattle.mail_base.specs.declared.flags.Flags.{Flags}
 use Rattle.mail_base.specs.declared.kind.Id.{Id}
 use Rattle.mail_base.specs.declared.kind.Kind.{Kind}
 use Rattle.folder_core.specs.Letters.{Mail}
+use Rattle.folder_core.specs.declared.change.Changed1.{Changed1}
 use Rattle.folder_core.specs.declared.listing.Found.{Found}
-use Rattle.index_items.specs.Changes.{Alters, Changed, Discards, PlainChange, change_for, settled}
-use Rattle.index_items.specs.Changes.{settled_item}
+use Rattle.index_items.specs.Changes.{Alters, AreBelow, Changed, Discards, PlainChange, change_for}
+use Rattle.index_items.specs.Changes.{change_of, changed_item, changes_of, plain_changed}
+use Rattle.index_items.specs.Changes.{plain_changes, settled, settled_item}
 use Rattle.index_items.specs.Found.{IsJoined, came_items, flags_for, is_gone, kept_item, kept_items}
 use Rattle.index_items.specs.Items.{PlainItem, numbers}
-use Rattle.index_view.proofs.DistinctLemmas.{OneOrNone, all_both, all_left, all_moved}
-use Rattle.index_view.proofs.DistinctLemmas.{distinct_left, distinct_left_alone, distinct_moved}
+use Rattle.index_listed.proofs.DistinctLemmas.{OneOrNone, all_both, all_left, all_moved}
+use Rattle.index_listed.proofs.DistinctLemmas.{distinct_left, distinct_left_alone, distinct_moved}
 
 abbrev number : PlainItem → ℕ
 number i = i.id.0
@@ -102,3 +106,36 @@ altered_numbers change keeps id (i ∷ items) = λ k.
     by_test : (b : Bool) → number (if b then change i else i) ≡ number i
     by_test true = ap (λ (d : Id). d.0) (keeps i)
     by_test false = refl
+
+-- ---- what a sync is to do
+
+abbrev changed_number : Changed → ℕ
+changed_number c = c.id.0
+
+changes_all : (P : ℕ → Type 0) (kind : Kind) (purge : Bool) (items : List PlainItem)
+    → AllByRecursion P (numbers items)
+    → AllByRecursion P (map changed_number (changes_of kind purge items))
+changes_all P kind purge [] all = tt
+changes_all P kind purge (i ∷ items) all =
+    subst (AllByRecursion P)
+    (sym (map-append changed_number (changed_item i (change_of kind purge i))
+    (changes_of kind purge items)))
+    (all_both P _ _ (one (change_of kind purge i)) (changes_all P kind purge items all.1))
+  where
+    one : (change : Option PlainChange)
+        → AllByRecursion P (map changed_number (changed_item i change))
+    one None = tt
+    one (Some change) = (all.0, tt)
+
+-- the messages of which a sync is to do something are among those that are listed
+pub changes_below : (bound : ℕ) (kind : Kind) (purge : Bool) (items : List PlainItem)
+    (changes : List Changed1) → AllByRecursion (λ n. n < bound) (numbers items)
+    → plain_changes changes ≡ changes_of kind purge items → AreBelow bound changes
+changes_below bound kind purge items changes low are k d within =
+    let number_of : Changed1 → ℕ = λ c. c.id.0 in
+    subst (λ m. m < bound) (get_or-map number_of changes k d (number_of d) within)
+    (All-from_recursion (λ m. m < bound) (map number_of changes)
+    (subst (AllByRecursion (λ m. m < bound))
+    (ap (map changed_number) (sym are) ∙ map-map changed_number plain_changed changes)
+    (changes_all (λ m. m < bound) kind purge items low)) k (number_of d)
+    (subst (λ m. k < m) (sym (length-map changes number_of)) within))

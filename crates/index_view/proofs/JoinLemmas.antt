@@ -13,7 +13,7 @@ use Rattle.index_items.specs.Found.{AreListedBelow, IsJoined, came_items}
 use Rattle.index_items.specs.Items.{PlainItem, numbers}
 use Rattle.index_listed.specs.Heads.{AreHeads, AreWithin}
 use Rattle.index_listed.specs.Listed.{header_of}
-use Rattle.index_view.specs.View.{IsWithMore, MayTake, PlainView}
+use Rattle.index_view.specs.View.{IsOf, IsWithMore, MayTake, PlainView}
 use Rattle.index_view.proofs.ItemLemmas.{joined_within}
 
 -- a clause for errors alone holds where its promise does
@@ -55,6 +55,12 @@ heads_short : (hs : List PlainHeader) (mails : List Mail) → AreHeads hs mails
 heads_short hs mails are =
     let long = ap length are.same ∙ length-map (take (length hs) mails) header_of
     ∙ length-take (length hs) mails in omega (arith, long)
+
+-- the messages of a view are letters of its archive
+pub all_below : (mails : List Mail) (v : PlainView) → IsOf mails v
+    → AreWithin (length mails) (numbers v.items)
+all_below mails v of = below_more (length v.heads) (length mails)
+    (heads_short v.heads mails of.heads) (numbers v.items) of.within
 
 -- the messages that a scan leaves are letters of the archive
 pub all_within_archive : (mails : List Mail) (found : Found) (hs : List PlainHeader)

@@ -1,15 +1,17 @@
 -- What a view answers is of its messages and of what they are judged by.
 use Rattle.std.proofs.Common.{◌≡◌, ◌∙◌, List, Option, ap, length, option_map, refl, subst, sym}
 use Rattle.folder_core.specs.Letters.{Mail}
-use Rattle.index_items.specs.Items.{numbers}
 use Rattle.patterns_match.specs.declared.pattern.Pattern.{Pattern}
-use Rattle.index_view.specs.Answers.{PlainAnswers, picked}
-use Rattle.index_view.specs.Cursor.{moved}
+use Rattle.index_items.specs.Items.{numbers}
+use Rattle.index_listed.specs.Cursor.{moved}
 use Rattle.index_listed.specs.Heads.{AreHeads, AreWithin}
 use Rattle.index_listed.specs.Listed.{PlainListed}
+use Rattle.index_listed.specs.Seen.{PlainSight, sight, visible_ids}
+use Rattle.index_listed.proofs.CursorLemmas.{stands_moved}
+use Rattle.index_view.specs.Answers.{PlainAnswers, picked}
+use Rattle.index_view.specs.Limit.{PlainLimit, all_within, plain_limit}
 use Rattle.index_view.specs.Listing.{all_listed}
-use Rattle.index_view.specs.Seen.{PlainSight, sight, visible_ids}
-use Rattle.index_view.specs.Sight.{PlainLimit, all_within, plain_limit}
+use Rattle.index_view.specs.Marks.{marks_of}
 use Rattle.index_view.specs.Tables.{table}
 use Rattle.index_view.specs.View.{AreApart, IsOf, PlainView, Turned, answers_over, facts_of}
 use Rattle.index_view.specs.View.{picked_of, turned, visible_of}
@@ -40,15 +42,15 @@ limited v limit s = record v {
 -- all but what is seen is answered as before
 pub limited_turned : (mails : List Mail) (v : PlainView) (limit : Option Pattern)
     (ls : List PlainListed) (s : PlainSight) → IsOf mails v → ls ≡ all_listed mails v.items
-    → s ≡ sight v.answers.rows (all_within v.people (option_map plain_limit limit)
-    (table ls v.answers.rows v.answers.links)) v.answers.sight.order v.answers.stances
+    → s ≡ sight (marks_of v.answers.rows (all_within v.people (option_map plain_limit limit)
+    (table ls v.answers.rows v.answers.links))) v.answers.sight.order v.answers.stances
     → Turned mails v (limited v limit s)
     (record (facts_of v) { limit = option_map plain_limit limit })
 limited_turned mails v limit ls s of listed seen =
     let is = of.answered in
     let pattern = option_map plain_limit limit in
-    let seen_is = seen ∙ (λ i. sight (is i).rows (all_within v.people pattern
-    (table (listed i) (is i).rows (is i).links)) (is i).sight.order (is i).stances) in record {
+    let seen_is = seen ∙ (λ i. sight (marks_of (is i).rows (all_within v.people pattern
+    (table (listed i) (is i).rows (is i).links))) (is i).sight.order (is i).stances) in record {
       is_of = record {
         heads = of.heads;
         within = of.within;
@@ -61,6 +63,7 @@ limited_turned mails v limit ls s of listed seen =
           stances = (is i).stances;
           sight = seen_is i;
         };
+        stands = stands_moved (visible_of v) (visible_ids s) v.cursor;
       };
       given = refl;
       cursor = refl;
@@ -71,8 +74,8 @@ limited_turned mails v limit ls s of listed seen =
 pub limit_set : (mails : List Mail) (old v new : PlainView) (given limit : Option Pattern)
     (ls : List PlainListed) (s : PlainSight) → IsOf mails old → v ≡ old → limit ≡ given
     → ls ≡ all_listed mails v.items
-    → s ≡ sight v.answers.rows (all_within v.people (option_map plain_limit limit)
-    (table ls v.answers.rows v.answers.links)) v.answers.sight.order v.answers.stances
+    → s ≡ sight (marks_of v.answers.rows (all_within v.people (option_map plain_limit limit)
+    (table ls v.answers.rows v.answers.links))) v.answers.sight.order v.answers.stances
     → new ≡ limited v limit s
     → Turned mails old new (record (facts_of old) { limit = option_map plain_limit given })
 limit_set mails old v new given limit ls s of same limits listed seen is =
@@ -92,7 +95,13 @@ pub judged : (mails : List Mail) (old v new : PlainView) (all : PlainAnswers)
 judged mails old v new all heads within apart answered same is =
     subst (λ (n : PlainView). Turned mails old n (facts_of old))
     (sym (is ∙ ap (λ (w : PlainView). turned w all) same)) (record {
-      is_of = record { heads = heads; within = within; apart = apart; answered = answered };
+      is_of = record {
+        heads = heads;
+        within = within;
+        apart = apart;
+        answered = answered;
+        stands = stands_moved (visible_of old) (visible_ids all.sight) old.cursor;
+      };
       given = refl;
       cursor = refl;
       aliases = refl;

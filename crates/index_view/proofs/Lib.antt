@@ -1,10 +1,6 @@
-pub mod ListLemmas
-pub mod DistinctLemmas
-pub mod PlaceLemmas
 pub mod ItemLemmas
 pub mod OrderLemmas
 pub mod AnswersLemmas
-pub mod SightLemmas
 pub mod ViewLemmas
 pub mod JoinLemmas
 pub mod LinesLemmas

@@ -6,8 +6,6 @@ use Rattle.std.proofs.lemmas.List.Sorted.{IsPermutation-map}
 use Rattle.std.specs.List.{IsDistinct, range_with_len}
 use Rattle.std.specs.List.Sorted.{IsPermutation}
 use Rattle.mail_base.specs.declared.kind.Id.{Id}
-use Rattle.index_order.specs.Keys.{PlainKeys}
-use Rattle.index_order.specs.Order.{AreDistinct, AreOf}
 use Rattle.patterns_match.specs.declared.row.Row.{Row}
 use Rattle.threads.specs.Forest.{IsForest}
 use Rattle.threads.specs.Message.{PlainMessage}
@@ -15,11 +13,13 @@ use Rattle.threads.specs.Subjects.{parents}
 use Rattle.threads.specs.Threads.{PlainThreads}
 use Rattle.threads.specs.declared.options.ThreadOptions.{ThreadOptions}
 use Rattle.index_listed.specs.Listed.{PlainListed, ids, no_listed}
-use Rattle.index_view.specs.Ordering.{key_at, keys}
 use Rattle.index_listed.specs.Places.{numbers}
 use Rattle.index_listed.specs.Threading.{AreApart, known_with, links_from, thread_message, threads}
-use Rattle.index_view.proofs.DistinctLemmas.{distinct_moved}
-use Rattle.index_view.proofs.PlaceLemmas.{map_at}
+use Rattle.index_listed.proofs.DistinctLemmas.{distinct_moved}
+use Rattle.index_listed.proofs.PlaceLemmas.{map_at}
+use Rattle.index_order.specs.Keys.{PlainKeys}
+use Rattle.index_order.specs.Order.{AreDistinct, AreOf}
+use Rattle.index_view.specs.Ordering.{key_at, keys}
 
 pub links_long : (ts : PlainThreads) (all : List ℕ) (ls : List PlainListed)
     (known : List ℕ → Bool) → length (links_from ts all known ls) ≡ length ls

@@ -1,21 +1,24 @@
 -- What the calls of a view need of its messages.
-use Rattle.std.proofs.Common.{◌≡◌, ◌∙◌, ℕ, List, length, nat_eq, refl, subst, sym}
+use Rattle.std.proofs.Common.{◌≡◌, ◌∙◌, ℕ, true, List, Some, length, nat_eq, refl}
+use Rattle.std.proofs.Common.{subst, sym}
 use Rattle.std.proofs.lemmas.Simd.{map-map}
 use Rattle.std.specs.List.{IsDistinct}
 use Rattle.folder_core.specs.Letters.{Mail}
 use Rattle.mail_base.specs.declared.kind.Id.{Id}
-use Rattle.index_items.specs.Items.{PlainItem, numbers}
+use Rattle.people.specs.People.{Alias}
 use Rattle.index_items.specs.Alteration.{alter_at, altered_by}
-use Rattle.index_items.specs.declared.alteration.Alteration.{Alteration}
+use Rattle.index_items.specs.Items.{PlainItem, numbers}
 use Rattle.index_items.specs.declared.alteration.Alteration.TheVariants.{Pending, Tag, Shut}
-use Rattle.index_view.specs.Answers.{PlainAnswers}
-use Rattle.index_view.specs.Cursor.{moved, moved_by_shutting}
+use Rattle.index_items.specs.declared.alteration.Alteration.{Alteration}
+use Rattle.index_listed.specs.Cursor.{is_seen, moved, moved_by_shutting}
 use Rattle.index_listed.specs.Heads.{AreHeads, AreWithin}
 use Rattle.index_listed.specs.Listed.{PlainListed, ids, listed_with}
+use Rattle.index_listed.specs.Seen.{visible_ids}
+use Rattle.index_listed.proofs.CursorLemmas.{stands_moved, stands_shut}
+use Rattle.index_view.specs.Answers.{PlainAnswers}
 use Rattle.index_view.specs.Listing.{all_listed, ids_of}
-use Rattle.index_view.specs.Seen.{visible_ids}
-use Rattle.index_view.specs.View.{AreApart, Folded, PlainView, Turned, answers_over, facts_of}
-use Rattle.index_view.specs.View.{folded, turned}
+use Rattle.index_view.specs.View.{AreApart, Folded, IsOf, PlainView, Turned, answers_over}
+use Rattle.index_view.specs.View.{facts_of, folded, turned, visible_of}
 use Rattle.index_view.proofs.ItemLemmas.{altered_numbers}
 
 -- messages with their letters have the same ids
@@ -49,7 +52,13 @@ pub turned_over : (mails : List Mail) (old new : PlainView) (all : PlainAnswers)
     → new.answers ≡ old.answers → new.cursor ≡ old.cursor → new.aliases ≡ old.aliases
     → Turned mails old (turned new all) (facts_of new)
 turned_over mails old new all heads within apart is answers cursor aliases = record {
-  is_of = record { heads = heads; within = within; apart = apart; answered = is };
+  is_of = record {
+    heads = heads;
+    within = within;
+    apart = apart;
+    answered = is;
+    stands = stands_moved (visible_ids new.answers.sight) (visible_ids all.sight) new.cursor;
+  };
   given = refl;
   cursor = λ i. moved (visible_ids (answers i).sight) (visible_ids all.sight) (cursor i);
   aliases = aliases;
@@ -62,9 +71,38 @@ pub folded_over : (mails : List Mail) (old new : PlainView) (all : PlainAnswers)
     → new.answers ≡ old.answers → new.cursor ≡ old.cursor → new.aliases ≡ old.aliases
     → Folded mails old (folded new all) (facts_of new)
 folded_over mails old new all heads within apart is answers cursor aliases = record {
-  is_of = record { heads = heads; within = within; apart = apart; answered = is };
+  is_of = record {
+    heads = heads;
+    within = within;
+    apart = apart;
+    answered = is;
+    stands = stands_shut all.sight (visible_ids new.answers.sight) (visible_ids all.sight)
+        new.cursor;
+  };
   given = refl;
   cursor = λ i. moved_by_shutting all.sight (visible_ids (answers i).sight)
       (visible_ids all.sight) (cursor i);
   aliases = aliases;
+}
+
+-- a view is of its archive wherever its cursor was moved to, while that is seen
+pub moved_of : (mails : List Mail) (v : PlainView) (id : Id) → IsOf mails v
+    → is_seen (visible_of v) id ≡ true → IsOf mails (record v { cursor = Some id })
+moved_of mails v id of seen = record {
+  heads = of.heads;
+  within = of.within;
+  apart = of.apart;
+  answered = of.answered;
+  stands = seen;
+}
+
+-- and whatever aliases were added
+pub aliased_of : (mails : List Mail) (v : PlainView) (aliases : List Alias) → IsOf mails v
+    → IsOf mails (record v { aliases = aliases })
+aliased_of mails v aliases of = record {
+  heads = of.heads;
+  within = of.within;
+  apart = of.apart;
+  answered = of.answered;
+  stands = of.stands;
 }

@@ -4,43 +4,33 @@ use Rattle.std.specs.Prelude.{nat_eq, option_and_then, option_map, position, sli
 use Rattle.std.specs.List.{IsDistinct, filter}
 use Rattle.std.specs.Option.{option_map_or}
 use Rattle.mail_base.specs.declared.kind.Id.{Id}
-use Rattle.index_items.specs.Items.{PlainItem, plain_items}
-use Rattle.index_items.specs.declared.item.Item.{Item}
-use Rattle.index_order.specs.Order.{is_threads, order}
-use Rattle.index_order.specs.declared.options.SortOptions.{SortOptions}
-use Rattle.index_rows.specs.Ties.{PlainTies, ties_of}
 use Rattle.patterns_match.specs.Listings.{Message}
 use Rattle.patterns_match.specs.ScoreEntries.{held_entries}
 use Rattle.patterns_match.specs.Scores.{PlainEntry}
 use Rattle.patterns_match.specs.declared.row.Row.{Row}
 use Rattle.people.specs.People.{PlainPeople}
-use Rattle.threads.specs.Forest.{IsForest}
-use Rattle.threads.specs.Subjects.{parents}
-use Rattle.threads.specs.Threads.{PlainThreads, parent}
+use Rattle.threads.specs.Threads.{PlainThreads}
 use Rattle.threads.specs.declared.options.Parent.{Parent}
-use Rattle.threads.specs.declared.options.ThreadOptions.{ThreadOptions}
+use Rattle.index_items.specs.Items.{PlainItem, plain_items}
+use Rattle.index_items.specs.declared.item.Item.{Item}
 use Rattle.index_listed.specs.Listed.{PlainListed, ids}
-use Rattle.index_view.specs.Ordering.{keys, numbered}
 use Rattle.index_listed.specs.Places.{numbers}
-use Rattle.index_view.specs.Seen.{PlainSight, sight, visible_ids}
-use Rattle.index_view.specs.Sight.{AreFirst, PlainLimit, all_within, passes, plain_limit, stances}
-use Rattle.index_view.specs.Tables.{first_rows, row_at, scored_rows, table}
+use Rattle.index_listed.specs.Seen.{PlainSight, sight, visible_ids}
+use Rattle.index_listed.specs.Sight.{AreFirst, stances}
+use Rattle.index_listed.specs.Threaded.{parents_of as parents_in}
 use Rattle.index_listed.specs.Threading.{AllWithin, all_links, at as links_at, threads}
-use Rattle.index_view.specs.declared.answers.Ranked.{Ranked}
-use Rattle.index_view.specs.declared.answers.Threaded.{Threaded}
 use Rattle.index_listed.specs.declared.links.Links.{Links}
-use Rattle.index_view.specs.declared.options.ViewOptions.{ViewOptions}
-use Rattle.index_view.specs.declared.stances.Stance.{Stance}
+use Rattle.index_listed.specs.declared.stance.Stance.{Stance}
+use Rattle.index_order.specs.Options.{sort_options}
+use Rattle.index_order.specs.Order.{is_threads, order}
+use Rattle.index_order.specs.declared.view_options.ViewOptions.{ViewOptions}
+use Rattle.index_rows.specs.Ties.{PlainTies, ties_of}
+use Rattle.index_view.specs.Limit.{PlainLimit, all_within, passes, plain_limit}
+use Rattle.index_view.specs.Marks.{marks_of}
+use Rattle.index_view.specs.Ordering.{keys, numbered}
+use Rattle.index_view.specs.Tables.{first_rows, row_at, scored_rows, table}
+use Rattle.index_view.specs.declared.answers.Ranked.{Ranked}
 use Rattle.index_view.specs.declared.tables.Tables.{Tables}
-
-abbrev pub sort_options : ViewOptions → SortOptions
-sort_options o = record {
-  sort = o.sort;
-  reverse = o.reverse;
-  aux = o.aux;
-  aux_reverse = o.aux_reverse;
-  aux_last = o.aux_last;
-}
 
 -- What is given: how the index stands, the listed messages with what the user changed of them, the
 -- tables of people, the entries of scores, and the limit, if there is one.
@@ -93,7 +83,7 @@ abbrev pub ties : List PlainListed → Facts → List PlainTies
 ties ls f = map (λ l. ties_of f.people l.header) ls
 
 abbrev pub parents_of : List PlainListed → Facts → List (Option Parent)
-parents_of ls f = map (λ l. parent (threads_of ls f) l.id) ls
+parents_of ls f = parents_in (threads_of ls f) ls
 
 abbrev pub stances_of : List PlainListed → Facts → List Stance
 stances_of ls f = stances (is_threads f.options.sort) (threads_of ls f) (ids ls) (ordered ls f)
@@ -103,7 +93,8 @@ abbrev pub within_of : List PlainListed → Facts → List Bool
 within_of ls f = all_within f.people f.limit (messages_of ls f)
 
 abbrev pub sight_of : List PlainListed → Facts → PlainSight
-sight_of ls f = sight (rows_of ls f) (within_of ls f) (ordered ls f) (stances_of ls f)
+sight_of ls f =
+    sight (marks_of (rows_of ls f) (within_of ls f)) (ordered ls f) (stances_of ls f)
 
 abbrev pub answers : List PlainListed → Facts → PlainAnswers
 answers ls f = record {
@@ -163,15 +154,6 @@ facts options items tables = record {
   scores = held_entries tables.scores.entries.items;
   limit = option_map plain_limit tables.limit;
 }
-
--- messages in threads, where each stands, and what it follows
-pub record AreThreaded (options : ThreadOptions) (ls : List PlainListed) (t : Threaded)
-    : Type 0 where
-  pub threads_are : t.threads ≡ threads options ls
-  pub places_are : t.places ≡ ids ls
-  pub links_are : t.links.items ≡ all_links (threads options ls) ls
-  pub within : AllWithin (length ls) t.links.items
-  pub forest : IsForest (parents options (threads options ls).messages)
 
 -- messages with their numbers, their ids in order, and how they stand there
 pub record AreRanked (ls : List PlainListed) (f : Facts) (r : Ranked) : Type 0 where

@@ -1,10 +1,9 @@
 pub mod Listing
 pub mod Tables
 pub mod Ordering
-pub mod Sight
-pub mod Seen
+pub mod Limit
+pub mod Marks
 pub mod Answers
-pub mod Cursor
 pub mod View
 pub mod Lines
 pub mod Laws

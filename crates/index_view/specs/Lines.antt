@@ -1,24 +1,23 @@
 -- The lines of the index: the page that holds the cursor, each message with its mark.
 use Rattle.std.specs.Prelude.{◌==◌, ◌-◌, ◌*◌, ◌/◌, ◌++◌, ℕ, ℤ, false, List, [], codes, drop}
 use Rattle.std.specs.Prelude.{length, map, replicate, slice_index_or, take}
-use Rattle.std.specs.Prelude.{Option, None, option_and_then, option_map, unwrap_or}
+use Rattle.std.specs.Prelude.{Option, Some, None, option_and_then, option_map, unwrap_or}
 use Rattle.std.specs.Prelude.{if◌then◌else◌}
 use Rattle.std.specs.Option.{option_map_or}
-use Rattle.mail_base.specs.Shown.{utf8_text}
 use Rattle.mail_base.specs.declared.kind.Id.{Id}
 use Rattle.expando.specs.Formats.{PlainPiece}
 use Rattle.folder_core.specs.Letters.{Mail}
 use Rattle.headers.specs.Header.{PlainHeader}
+use Rattle.patterns_match.specs.declared.row.Row.{Row}
+use Rattle.index_listed.specs.Listed.{header_of, mail_at, no_mail}
+use Rattle.index_listed.specs.Places.{place_in}
+use Rattle.index_listed.specs.Seen.{PlainSight, thread_has, tree_line}
+use Rattle.index_listed.specs.Visibility.{hides}
 use Rattle.index_rows.specs.Entry.{PlainEntry}
 use Rattle.index_rows.specs.Texts.{index_row}
 use Rattle.index_rows.specs.Ties.{PlainTies}
 use Rattle.index_rows.specs.declared.shut.Shut.{Shut}
-use Rattle.patterns_match.specs.declared.row.Row.{Row}
-use Rattle.index_tree.specs.Tree.{tree_text}
 use Rattle.index_view.specs.Answers.{place_of}
-use Rattle.index_listed.specs.Listed.{header_of, mail_at, no_mail}
-use Rattle.index_listed.specs.Places.{place_in}
-use Rattle.index_view.specs.Seen.{PlainSight, shut_at}
 use Rattle.index_view.specs.Tables.{row_at}
 use Rattle.index_view.specs.View.{PlainView, visible_of}
 use Rattle.index_view.specs.declared.lines.Style.{Style}
@@ -33,14 +32,6 @@ pub record PlainStyle : Type 0 where
 -- what stands at a place where there is no message
 abbrev pub no_ties : PlainTies
 no_ties = record { place = 0; from_reader = false; list = None }
-
--- the tree text of an id, where it stands in the order
-abbrev pub tree_of : PlainSight → Id → List ℕ
-tree_of s id = option_map_or (tree_text s.entries) (place_in s.order id) []
-
--- the same as text
-abbrev pub tree_line : PlainSight → Id → List ℕ
-tree_line s id = utf8_text (tree_of s id)
 
 -- what a row shows, by the row of a message, how many are listed, the thread that it hides, what
 -- the tables of people tell of it, its header, and what stands before its subject
@@ -62,6 +53,15 @@ entry_of row count hidden ties header tree style = record {
   to_chars = style.to_chars;
   offset = style.offset;
 }
+
+-- the shut thread whose other messages the one at a place of the order hides
+abbrev pub shut_at : PlainSight → ℕ → Option Shut
+shut_at s p = if hides s.entries p
+    then Some (record {
+      has_new = thread_has s.entries s.new_threads p;
+      has_old = thread_has s.entries s.old_threads p;
+    })
+    else None
 
 -- the shut thread whose other messages an id hides, where it stands in the order
 abbrev pub hidden_by : PlainSight → Id → Option Shut

@@ -1,9 +1,9 @@
 -- The listed messages with their letters.
 use Rattle.std.specs.Prelude.{List, map}
 use Rattle.folder_core.specs.Letters.{Mail}
+use Rattle.mail_base.specs.declared.kind.Id.{Id}
 use Rattle.index_items.specs.Items.{PlainItem}
 use Rattle.index_listed.specs.Listed.{PlainListed, all_listed as with_letters}
-use Rattle.mail_base.specs.declared.kind.Id.{Id}
 
 abbrev pub ids_of : List PlainItem → List Id
 ids_of items = map (λ i. i.id) items

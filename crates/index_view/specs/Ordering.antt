@@ -3,10 +3,10 @@ use Rattle.std.specs.Prelude.{◌+◌, ℕ, List, length, map}
 use Rattle.std.specs.List.{range_with_len}
 use Rattle.std.specs.Option.{option_map_or}
 use Rattle.mail_base.specs.declared.kind.Id.{Id}
-use Rattle.index_order.specs.Keys.{PlainKeys, keys_of}
 use Rattle.patterns_match.specs.declared.row.Row.{Row}
 use Rattle.index_listed.specs.Listed.{PlainListed, at, size_of}
 use Rattle.index_listed.specs.Places.{place_in}
+use Rattle.index_order.specs.Keys.{PlainKeys, keys_of}
 use Rattle.index_view.specs.Tables.{row_at}
 
 -- what a message with a score is sorted by

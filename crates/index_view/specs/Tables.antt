@@ -10,8 +10,8 @@ use Rattle.index_items.specs.Items.{PlainItem, listed as item_of, shown_flags}
 use Rattle.index_items.specs.Pending.{no_flags}
 use Rattle.index_listed.specs.Listed.{PlainListed, at, no_id, size_of, text_of}
 use Rattle.index_listed.specs.Threading.{at as links_at}
-use Rattle.index_view.specs.declared.asked.Asked.{Asked}
 use Rattle.index_listed.specs.declared.links.Links.{Links}
+use Rattle.index_view.specs.declared.asked.Asked.{Asked}
 
 -- what stands at a place where there is no message
 abbrev pub no_item : PlainItem

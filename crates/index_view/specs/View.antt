@@ -1,27 +1,27 @@
 -- A view: what it was given, what it answers, and where the cursor stands.
-use Rattle.std.specs.Prelude.{◌≡◌, ◌++◌, [], ℕ, List, Option, Some, None, length, nat_eq}
+use Rattle.std.specs.Prelude.{◌≡◌, ◌++◌, [], ℕ, Bool, List, Option, Some, None, length, nat_eq}
 use Rattle.std.specs.Prelude.{option_map, take}
 use Rattle.std.specs.Prelude.{if◌then◌else◌}
-use Rattle.std.specs.List.{IsDistinct}
+use Rattle.std.specs.List.{IsDistinct, list_any}
 use Rattle.std.specs.Option.{option_or}
 use Rattle.mail_base.specs.declared.kind.Id.{Id}
 use Rattle.folder_core.specs.Letters.{Mail}
 use Rattle.folder_core.specs.declared.listing.Found.{Found}
 use Rattle.headers.specs.Header.{PlainHeader}
-use Rattle.index_items.specs.Found.{AreListedBelow, IsFoundBelow, IsJoined, came_items}
-use Rattle.index_items.specs.Items.{PlainItem, numbers as item_numbers}
 use Rattle.patterns_match.specs.Listings.{Message}
 use Rattle.patterns_match.specs.ScoreEntries.{held_entries}
 use Rattle.patterns_match.specs.declared.pattern.Pattern.{Pattern}
 use Rattle.patterns_match.specs.declared.score_entry.ScoreEntry.{ScoreEntry}
 use Rattle.people.specs.People.{Alias, PlainPeople, alias_of}
-use Rattle.index_view.specs.Answers.{Facts, PlainAnswers, answers, messages_of, no_answers, picked}
-use Rattle.index_view.specs.Cursor.{is_seen, moved, moved_by_shutting}
+use Rattle.index_items.specs.Found.{AreListedBelow, IsFoundBelow, IsJoined, came_items}
+use Rattle.index_items.specs.Items.{PlainItem, numbers as item_numbers}
+use Rattle.index_listed.specs.Cursor.{Stands, is_seen, moved, moved_by_shutting}
 use Rattle.index_listed.specs.Heads.{AreHeads, AreWithin}
+use Rattle.index_listed.specs.Seen.{visible_ids}
+use Rattle.index_order.specs.declared.view_options.ViewOptions.{ViewOptions}
+use Rattle.index_view.specs.Answers.{Facts, PlainAnswers, answers, messages_of, no_answers, picked}
+use Rattle.index_view.specs.Limit.{PlainLimit, plain_limit}
 use Rattle.index_view.specs.Listing.{all_listed}
-use Rattle.index_view.specs.Seen.{visible_ids}
-use Rattle.index_view.specs.Sight.{PlainLimit, plain_limit}
-use Rattle.index_view.specs.declared.options.ViewOptions.{ViewOptions}
 
 -- What a view was given, the headers of the letters that it knows, what it answers, the cursor, and
 -- the aliases that were added.
@@ -62,13 +62,18 @@ answers_over mails f = answers (all_listed mails f.items) f
 abbrev pub AreApart : List PlainItem → Type 0
 AreApart items = IsDistinct nat_eq (item_numbers items)
 
--- A view of an archive: its messages are letters there, each once, and it answers what is worked
--- out from scratch.
+-- A view of an archive: its messages are letters there, each once, it answers what is worked out
+-- from scratch, and its cursor stands on a message that is seen, if there is one.
 pub record IsOf (mails : List Mail) (v : PlainView) : Type 0 where
   pub heads : AreHeads v.heads mails
   pub within : AreWithin (length v.heads) (item_numbers v.items)
   pub apart : AreApart v.items
   pub answered : v.answers ≡ answers_over mails (facts_of v)
+  pub stands : Stands (visible_of v) v.cursor
+
+-- the message with an id is listed
+abbrev pub is_listed : PlainView → Id → Bool
+is_listed v id = list_any (nat_eq id.0) (item_numbers v.items)
 
 -- all is as before
 pub record IsSame (old new : PlainView) : Type 0 where

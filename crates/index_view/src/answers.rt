@@ -1,37 +1,40 @@
 //! What the index answers, worked out from scratch.
 
-ghost use Rattle.std.specs.Prelude.{◌≡◌, length, map, nat_eq, option_map, true, IfOk};
+ghost use Rattle.std.specs.Prelude.{◌≡◌, ◌<◌, length, map, nat_eq, option_map, IfOk};
 ghost use Rattle.std.specs.List.{IsDistinct};
 ghost use Rattle.index_items.specs.Items.{plain_items};
+ghost use Rattle.index_listed.specs.Listed.{plain_listed};
+ghost use Rattle.index_listed.specs.Places.{numbers};
+ghost use Rattle.index_listed.specs.Seen.{sight};
+ghost use Rattle.index_listed.specs.Sight.{AreFirst};
+ghost use Rattle.index_listed.specs.Threaded.{AreThreaded};
+ghost use Rattle.index_listed.specs.Threading as threading;
 ghost use Rattle.index_rows.specs.Ties.{plain_ties, ties_of};
 ghost use Rattle.index_view.specs.Answers as spec;
-ghost use Rattle.index_listed.specs.Listed.{ids, plain_listed};
-ghost use Rattle.index_listed.specs.Places.{numbers};
-ghost use Rattle.index_view.specs.Seen.{sight};
-ghost use Rattle.index_view.specs.Sight.{AreFirst, all_within, plain_limit};
+ghost use Rattle.index_view.specs.Limit.{all_within, plain_limit};
+ghost use Rattle.index_view.specs.Lines.{shut_at as hidden_at};
+ghost use Rattle.index_view.specs.Marks.{marks_of};
 ghost use Rattle.index_view.specs.Tables.{table};
-ghost use Rattle.index_listed.specs.Threading as threading;
 ghost use Rattle.patterns_match.specs.ScoreEntries.{held_entries};
-ghost use Rattle.threads.specs.Threads.{parent};
 
 use crate::asked::{Messages, messages_of};
 use crate::limiting::all_within;
-use crate::options::ViewOptions;
+use crate::marks::marks;
 use crate::ordering::{keys, numbered};
 use crate::rows::{first_rows, scored_rows};
-use crate::sight::Sight;
-use crate::stances::{Stance, stances};
 use crate::tables::Tables;
 use index_items::Item;
-use index_listed::{Links, Listed, Places, all_links, places_of, threads_of};
-use index_order::order;
+use index_listed::{
+    Links, Listed, Places, Sight, Stance, Threaded, in_threads, places_of, stances,
+};
+use index_order::{ViewOptions, order};
 use index_rows::{Shut, Ties};
 use mail_base::{Id, Ids, NoMemory};
 use patterns_match::{Pattern, Row, matches};
 use people::People;
 use std::alloc::Global;
 use std::marker::Model;
-use threads::{Parent, ThreadOptions, Threads};
+use threads::Parent;
 
 /// What the index answers.
 #[derive(Drop)]
@@ -65,60 +68,12 @@ impl Model for Answers {
         (map plain_ties a.ties.items) a.stances.items a.sight.order };
 }
 
-/// The listed messages in threads, where they stand, and what each follows.
-#[derive(Drop)]
-pub struct Threaded {
-    pub threads: Threads,
-    pub places: Places,
-    pub links: Vec<Links>,
-}
-
 /// The listed messages with their numbers, their ids in order, and how they stand there.
 #[derive(Drop)]
 pub struct Ranked {
     pub rows: Vec<Row>,
     pub order: Ids,
     pub stances: Vec<Stance>,
-}
-
-fn ids_of(alloc: Global, listed: &[Listed<'_>]) -> Result<Vec<Id>, NoMemory>
-    ensures { IfOk result (λ all. numbers all.items ≡ ids (map plain_listed listed.now)) }
-{
-    let mut all = Vec::with_capacity(alloc, listed.len())?;
-    let mut left = listed;
-    while let [first, rest @ ..] = left {
-        all.push(first.id)?;
-        left = rest;
-    }
-    Ok(all)
-}
-
-fn parent_of(threads: &Threads, id: Id) -> Option<Parent>
-    requires { threads.now.is_finished ≡ true }
-    ensures { result ≡ parent threads.now id }
-{
-    if !threads.holds(id) {
-        return None;
-    }
-    threads.parent(id)
-}
-
-fn in_threads(
-    alloc: Global,
-    options: ThreadOptions,
-    listed: &[Listed<'_>],
-) -> Result<Threaded, NoMemory>
-    requires { threading.AreApart (map plain_listed listed.now) }
-    ensures { IfOk result (spec.AreThreaded options (map plain_listed listed.now)) }
-{
-    let threads = threads_of(alloc, options, listed)?;
-    let places = places_of(alloc, &ids_of(alloc, listed)?)?;
-    let links = all_links(alloc, &threads, &places, listed)?;
-    Ok(Threaded {
-        threads,
-        places,
-        links,
-    })
 }
 
 // The messages without numbers, with what each scores.
@@ -158,7 +113,7 @@ fn in_order(
 ) -> Result<Ranked, NoMemory>
     requires items { length items.now ≡ length listed.now }
     requires apart { threading.AreApart (map plain_listed listed.now) }
-    requires threaded { spec.AreThreaded options.threads (map plain_listed listed.now)
+    requires threaded { AreThreaded options.threads (map plain_listed listed.now)
         threaded.now }
     ensures value { IfOk result (spec.AreRanked (map plain_listed listed.now)
         (spec.facts options items.now tables.old)) }
@@ -202,25 +157,6 @@ fn all_ties(
     Ok(all)
 }
 
-// The parent of each message.
-fn all_parents(
-    alloc: Global,
-    threads: &Threads,
-    listed: &[Listed<'_>],
-) -> Result<Vec<Option<Parent>>, NoMemory>
-    requires { threads.now.is_finished ≡ true }
-    ensures { IfOk result (λ all. all.items
-        ≡ map (λ l. parent threads.now l.id) (map plain_listed listed.now)) }
-{
-    let mut all = Vec::with_capacity(alloc, listed.len())?;
-    let mut left = listed;
-    while let [first, rest @ ..] = left {
-        all.push(parent_of(threads, first.id))?;
-        left = rest;
-    }
-    Ok(all)
-}
-
 // What of the messages is seen, given their links, rows and order.
 fn sight_of(
     alloc: Global,
@@ -237,28 +173,43 @@ fn sight_of(
     requires apart { IsDistinct nat_eq (numbers order.items) }
     requires stances { length stances.now ≡ length order.items }
     requires first { AreFirst stances.now }
-    ensures value { IfOk result (λ s. s ≡ sight rows.now
+    ensures value { IfOk result (λ s. s ≡ sight (marks_of rows.now
         (all_within tables.old.people (option_map plain_limit tables.old.limit)
-        (table (map plain_listed listed.now) rows.now links.now)) order.items stances.now) }
+        (table (map plain_listed listed.now) rows.now links.now))) order.items stances.now) }
     ensures same { tables.new ≡ tables.old }
 {
     let messages = messages_of(alloc, listed, rows, links)?;
     let within = all_within(alloc, &mut tables.limit, &mut tables.people, &messages)?;
-    Sight::new(alloc, rows, &within, order, stances)
+    let marks = marks(alloc, rows, &within)?;
+    Sight::new(alloc, &marks, order, stances)
+}
+
+// The shut thread whose other messages the one at a place of the order hides.
+fn shut_at(sight: &Sight, place: usize) -> Option<Shut>
+    requires { place < length sight.now.entries }
+    ensures { result ≡ hidden_at sight.now place }
+{
+    if !sight.hides(place) {
+        return None;
+    }
+    Some(Shut {
+        has_new: sight.has_new(place),
+        has_old: sight.has_old(place),
+    })
 }
 
 impl Answers {
-    ghost use Rattle.std.specs.Prelude.{◌≡◌, ◌<◌, length, map, option_and_then, option_map};
-    ghost use Rattle.std.specs.Prelude.{slice_index_or, IfOk, IfSome};
+    ghost use Rattle.std.specs.Prelude.{◌≡◌, ◌<◌, length, map, option_map, slice_index_or, IfOk};
+    ghost use Rattle.std.specs.Prelude.{IfSome};
+    ghost use Rattle.index_listed.specs.Listed.{plain_listed};
+    ghost use Rattle.index_listed.specs.Seen.{sight};
+    ghost use Rattle.index_listed.specs.Threading as threading;
     ghost use Rattle.index_rows.specs.Ties.{plain_ties};
     ghost use Rattle.index_view.specs.Answers as spec;
-    ghost use Rattle.index_view.specs.Lines.{no_ties};
-    ghost use Rattle.index_listed.specs.Listed.{plain_listed};
-    ghost use Rattle.index_listed.specs.Places.{place_in};
-    ghost use Rattle.index_view.specs.Seen.{shut_at, sight};
-    ghost use Rattle.index_view.specs.Sight.{all_within, plain_limit};
+    ghost use Rattle.index_view.specs.Limit.{all_within, plain_limit};
+    ghost use Rattle.index_view.specs.Lines.{hidden_by, no_ties};
+    ghost use Rattle.index_view.specs.Marks.{marks_of};
     ghost use Rattle.index_view.specs.Tables.{row_at, seen, table};
-    ghost use Rattle.index_listed.specs.Threading as threading;
 
     /// Nothing is listed.
     pub fn none(alloc: Global) -> Answers
@@ -292,9 +243,10 @@ impl Answers {
         let threaded = in_threads(alloc, options.threads, listed)?;
         let ranked = in_order(alloc, options, tables, items, listed, &threaded)?;
         let Threaded {
-            threads,
             places,
             links,
+            parents,
+            ..
         } = threaded;
         let Ranked {
             rows,
@@ -303,7 +255,7 @@ impl Answers {
         } = ranked;
         Ok(Answers {
             places,
-            parents: all_parents(alloc, &threads, listed)?,
+            parents,
             ties: all_ties(alloc, &mut tables.people, listed)?,
             sight: sight_of(alloc, tables, listed, &links, &rows, order, &stances)?,
             links,
@@ -320,9 +272,9 @@ impl Answers {
         listed: &[Listed<'_>],
     ) -> Result<Sight, NoMemory>
         requires { length self.now.rows ≡ length listed.now }
-        ensures value { IfOk result (λ s. s ≡ sight self.now.rows
+        ensures value { IfOk result (λ s. s ≡ sight (marks_of self.now.rows
             (all_within tables.old.people (option_map plain_limit tables.old.limit)
-            (table (map plain_listed listed.now) self.now.rows self.now.links))
+            (table (map plain_listed listed.now) self.now.rows self.now.links)))
             self.now.sight.order self.now.stances) }
         ensures same { tables.new ≡ tables.old }
     {
@@ -386,11 +338,10 @@ impl Answers {
 
     /// The shut thread whose other messages the one with an id hides.
     pub fn shut_of(&self, id: Id) -> Option<Shut>
-        ensures { result ≡ option_and_then (shut_at self.now.sight)
-            (place_in self.now.sight.order id) }
+        ensures { result ≡ hidden_by self.now.sight id }
     {
         let place = self.sight.place(id)?;
-        self.sight.shut_at(place)
+        shut_at(&self.sight, place)
     }
 
     /// What is shown of a message.

@@ -3,8 +3,8 @@
 ghost use Rattle.std.specs.Prelude.{◌≡◌, ◌<◌, length, map, IfOk};
 ghost use Rattle.std.specs.List.{All};
 ghost use Rattle.index_listed.specs.Listed.{plain_listed};
-ghost use Rattle.index_view.specs.Tables as spec;
 ghost use Rattle.index_listed.specs.Threading as threading;
+ghost use Rattle.index_view.specs.Tables as spec;
 
 use headers::Header;
 use index_listed::{Links, Listed};

@@ -10,12 +10,13 @@ use std::alloc::Global;
 use threads::Parent;
 
 impl View {
-    ghost use Rattle.std.specs.Prelude.{◌≡◌, map, IfOk};
-    ghost use Rattle.folder_core.specs.Letters.{plain_letter};
-    ghost use Rattle.index_items.specs.Changes.{changes_of, plain_changes};
+    ghost use Rattle.std.specs.Prelude.{◌≡◌, [], None, List, is_some, length, map, true, IfOk};
+    ghost use Rattle.std.specs.Prelude.{IfSome};
+    ghost use Rattle.folder_core.specs.Letters.{Mail, plain_letter};
+    ghost use Rattle.index_items.specs.Changes.{AreBelow, changes_of, plain_changes};
+    ghost use Rattle.index_listed.specs.Cursor.{is_seen};
     ghost use Rattle.index_view.specs.Answers as answers;
-    ghost use Rattle.index_view.specs.Cursor.{is_seen};
-    ghost use Rattle.index_view.specs.Sight.{plain_limit};
+    ghost use Rattle.index_view.specs.Limit.{plain_limit};
     ghost use Rattle.index_view.specs.View as spec;
 
     /// Moves the cursor to a message, and answers whether it is seen; where it is not, the cursor
@@ -23,6 +24,7 @@ impl View {
     pub fn move_to(&mut self, id: Id) -> bool
         ensures answer { result ≡ is_seen (spec.visible_of self.old) id }
         ensures moved { self.new ≡ spec.moved_to self.old id }
+        ensures is_of { (mails : List Mail) → spec.IsOf mails self.old → spec.IsOf mails self.new }
     {
         let is_seen = self.answers.sight().visible_place(id).is_some();
         if is_seen {
@@ -31,9 +33,14 @@ impl View {
         is_seen
     }
 
-    /// The message on which the cursor stands.
+    /// The message on which the cursor stands: one that is seen, or nothing where none is.
     pub fn cursor(&self) -> Option<Id>
-        ensures { result ≡ self.now.cursor }
+        ensures value { result ≡ self.now.cursor }
+        ensures seen { (mails : List Mail) → spec.IsOf mails self.now
+            → IfSome result (λ id. is_seen (spec.visible_of self.now) id ≡ true) }
+        ensures none { (mails : List Mail) → spec.IsOf mails self.now
+            → (result ≡ None → spec.visible_of self.now ≡ [])
+            × (spec.visible_of self.now ≡ [] → result ≡ None) }
     {
         self.cursor
     }
@@ -54,7 +61,9 @@ impl View {
 
     /// What is shown of a message; nothing where the id is not listed.
     pub fn row(&self, id: Id) -> Option<Row>
-        ensures { result ≡ answers.row self.now.answers id }
+        ensures value { result ≡ answers.row self.now.answers id }
+        ensures listed { (mails : List Mail) → spec.IsOf mails self.now
+            → is_some result ≡ spec.is_listed self.now id }
     {
         self.answers.row(id)
     }
@@ -68,7 +77,9 @@ impl View {
 
     /// The root of a message's thread; nothing where the id is not listed.
     pub fn thread_of(&self, id: Id) -> Option<Id>
-        ensures { result ≡ answers.thread_of self.now.answers id }
+        ensures value { result ≡ answers.thread_of self.now.answers id }
+        ensures listed { (mails : List Mail) → spec.IsOf mails self.now
+            → is_some result ≡ spec.is_listed self.now id }
     {
         self.answers.thread_of(id)
     }
@@ -94,8 +105,10 @@ impl View {
 
     /// What a sync is to do; messages that are marked deleted go where `purge`.
     pub fn changes(&self, alloc: Global, kind: Kind, purge: bool) -> Result<Changes, NoMemory>
-        ensures { IfOk result (λ c. plain_changes c.items
+        ensures value { IfOk result (λ c. plain_changes c.items
             ≡ changes_of kind purge self.now.items) }
+        ensures below { (mails : List Mail) → spec.IsOf mails self.now
+            → IfOk result (λ c. AreBelow (length mails) c.items) }
     {
         changes(alloc, kind, purge, &self.items)
     }

@@ -5,19 +5,19 @@ use folder_core::Archive;
 use mail_base::{Bytes, NoMemory};
 use patterns_match::{Pattern, ScoreError, Scores};
 use people::{Expr, PeopleTable};
-use std::alloc::Global;
 use std::mem;
 
 impl View {
-    ghost use Rattle.std.specs.Prelude.{◌≡◌, ◌++◌, ◌∷◌, [], length, map, option_map, OnErr, OnOk};
-    ghost use Rattle.folder_core.specs.Letters.{plain_letter};
+    ghost use Rattle.std.specs.Prelude.{◌≡◌, ◌++◌, ◌∷◌, [], List, length, map, option_map, OnErr};
+    ghost use Rattle.std.specs.Prelude.{OnOk};
+    ghost use Rattle.folder_core.specs.Letters.{Mail, plain_letter};
     ghost use Rattle.index_items.specs.Items.{numbers};
     ghost use Rattle.index_listed.specs.Heads.{AreHeads, AreWithin};
+    ghost use Rattle.index_view.specs.View as spec;
     ghost use Rattle.patterns_match.specs.Pattern.{pattern_tree};
     ghost use Rattle.patterns_match.specs.ScoreEntries.{held_entries};
     ghost use Rattle.patterns_match.specs.Scores as scores;
     ghost use Rattle.people.specs.People.{with_alias, with_expr};
-    ghost use Rattle.index_view.specs.View as spec;
 
     // Works all out from scratch for the tables that stand there.
     fn judge(&mut self, archive: &Archive) -> Result<(), NoMemory>
@@ -67,6 +67,7 @@ impl View {
         ensures ok { OnOk result (self.new
             ≡ record self.old { aliases = with_alias self.old.aliases name.now value.now }) }
         ensures err { OnErr result (self.new ≡ self.old) }
+        ensures is_of { (mails : List Mail) → spec.IsOf mails self.old → spec.IsOf mails self.new }
     {
         self.aliases.alias(name, value)
     }

@@ -1,25 +1,22 @@
 //! The index from scratch: the listed messages with what the user changed of them, in threads and
-//! in order, and what of them is seen. Make a `View`, take in what a scan found by `take_delta`, and
-//! ask for its ids, rows and lines.
+//! in order, and what of them is seen. Make a `View`, take in what a scan found by `take_delta`,
+//! and ask for its ids, rows and lines.
 #![tactic(auto)]
 
 mod answers;
 mod asked;
 mod asking;
-mod cursor;
 mod judging;
 mod laws;
 mod limiting;
 mod lines;
 mod listing;
-mod options;
+mod marks;
 mod ordering;
 mod rows;
-mod sight;
-mod stances;
 mod tables;
 mod view;
 
+pub use index_order::ViewOptions;
 pub use laws::first_folder_is_taken;
-pub use options::ViewOptions;
 pub use view::View;

@@ -1,7 +1,7 @@
 //! Which messages satisfy the limit.
 
 ghost use Rattle.std.specs.Prelude.{◌≡◌, ◌<◌, length, map, option_map, IfOk};
-ghost use Rattle.index_view.specs.Sight as spec;
+ghost use Rattle.index_view.specs.Limit as spec;
 ghost use Rattle.index_view.specs.Tables.{seen};
 
 use crate::asked::Messages;

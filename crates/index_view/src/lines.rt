@@ -12,7 +12,7 @@ use expando::Format;
 use folder_core::Archive;
 use headers::Header;
 use index_rows::{Entry, Shut, Ties, index_row};
-use mail_base::{Bytes, Id, Line, Lines, NoMemory, append_utf8};
+use mail_base::{Id, Line, Lines, NoMemory};
 use patterns_match::Row;
 use std::alloc::Global;
 
@@ -63,36 +63,13 @@ fn entry_of<'a>(
 }
 
 impl View {
-    ghost use Rattle.std.specs.Prelude.{◌≡◌, ◌≤◌, ◌<◌, ◌++◌, length, map, option_map, IfOk, OnOk};
+    ghost use Rattle.std.specs.Prelude.{◌≡◌, ◌≤◌, ◌<◌, ◌++◌, is_some, length, map, option_map};
+    ghost use Rattle.std.specs.Prelude.{IfOk, OnOk};
     ghost use Rattle.folder_core.specs.Letters.{plain_letter};
     ghost use Rattle.index_rows.specs.Entry.{plain_entry};
-    ghost use Rattle.mail_base.specs.Series.{plain_texts};
-    ghost use Rattle.mail_base.specs.Shown.{utf8_text};
     ghost use Rattle.index_view.specs.Lines as spec;
-    ghost use Rattle.index_view.specs.View.{IsOf};
-
-    // The tree text of a message.
-    fn tree_of(&self, alloc: Global, id: Id) -> Result<Bytes, NoMemory>
-        ensures { IfOk result
-            (λ text. text.items ≡ spec.tree_of self.now.answers.sight id) }
-    {
-        let sight = self.answers.sight();
-        match sight.place(id) {
-            Some(place) => sight.text_at(alloc, place),
-            None => Ok(Bytes::new(alloc)),
-        }
-    }
-
-    // The same as text.
-    fn tree_line(&self, alloc: Global, id: Id) -> Result<Line, NoMemory>
-        ensures { IfOk result
-            (λ line. line.items ≡ spec.tree_line self.now.answers.sight id) }
-    {
-        let text = self.tree_of(alloc, id)?;
-        let mut line = Line::new(alloc);
-        append_utf8(&mut line, text.as_slice())?;
-        Ok(line)
-    }
+    ghost use Rattle.index_view.specs.View.{IsOf, is_listed};
+    ghost use Rattle.mail_base.specs.Series.{plain_texts};
 
     // What a row shows of a message.
     fn entry<'a>(&'a self, style: Style<'a>, tree: &'a Line, id: Id, place: usize) -> Entry<'a>
@@ -129,7 +106,7 @@ impl View {
         let Some(place) = self.answers.place(id) else {
             return Ok(None);
         };
-        let tree = self.tree_line(alloc, id)?;
+        let tree = self.answers.sight().tree_line(alloc, id)?;
         let entry = self.entry(style, &tree, id, place);
         Ok(Some(index_row(alloc, style.format, &entry, cols)?))
     }
@@ -147,9 +124,10 @@ impl View {
         cols: u16,
     ) -> Result<Option<Line>, NoMemory>
         requires { IsOf (map plain_letter archive.now.items) self.now }
-        ensures { IfOk result (λ line. option_map (λ l. l.items) line
+        ensures value { IfOk result (λ line. option_map (λ l. l.items) line
             ≡ spec.line (map plain_letter archive.now.items) self.now
             (record { format = format.now; to_chars = to_chars.now; offset = offset }) cols id) }
+        ensures listed { IfOk result (λ line. is_some line ≡ is_listed self.now id) }
     {
         let style = Style {
             format,

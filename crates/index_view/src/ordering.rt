@@ -2,8 +2,8 @@
 
 ghost use Rattle.std.specs.Prelude.{◌≡◌, ◌<◌, List, length, map, IfOk};
 ghost use Rattle.index_listed.specs.Listed.{plain_listed};
-ghost use Rattle.index_view.specs.Ordering as spec;
 ghost use Rattle.index_listed.specs.Places.{numbers};
+ghost use Rattle.index_view.specs.Ordering as spec;
 ghost use Rattle.mail_base.specs.declared.kind.Id as id;
 
 use index_listed::{Listed, Places};

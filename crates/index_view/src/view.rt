@@ -1,22 +1,21 @@
 //! A view of a folder's listed messages.
 
-ghost use Rattle.std.specs.Prelude.{◌≡◌, length, map, nat_eq, IfOk};
+ghost use Rattle.std.specs.Prelude.{◌≡◌, length, map, IfOk};
 ghost use Rattle.folder_core.specs.Letters.{plain_letter};
 ghost use Rattle.headers.specs.Header.{plain_header};
 ghost use Rattle.index_items.specs.Items.{numbers, plain_items};
-ghost use Rattle.index_view.specs.Answers.{facts};
 ghost use Rattle.index_listed.specs.Heads.{AreHeads, AreWithin};
+ghost use Rattle.index_view.specs.Answers.{facts};
 ghost use Rattle.index_view.specs.View as spec;
 
 use crate::answers::Answers;
-use crate::cursor::{moved, moved_by_shutting};
 use crate::listing::all_listed;
-use crate::options::ViewOptions;
 use crate::tables::Tables;
 use folder_core::{Archive, Changes, Found};
 use headers::Header;
 use index_items::{Alteration, Item, altered, joined, settled};
-use index_listed::read_heads;
+use index_listed::{moved, moved_by_shutting, read_heads};
+use index_order::ViewOptions;
 use mail_base::{Delta, Id, Kind, NoMemory};
 use patterns_match::{Pattern, Scores};
 use people::People;
@@ -84,16 +83,14 @@ pub fn answers_over(
 }
 
 impl View {
-    ghost use Rattle.std.specs.Prelude.{◌≡◌, List, length, map, option_map, take, IfOk, OnErr};
-    ghost use Rattle.std.specs.Prelude.{OnOk};
+    ghost use Rattle.std.specs.Prelude.{◌≡◌, List, length, map, option_map, IfOk, OnErr, OnOk};
     ghost use Rattle.folder_core.specs.Letters.{Mail, plain_letter};
-    ghost use Rattle.index_items.specs.Changes.{AreBelow, plain_changes, settled as left_by};
-    ghost use Rattle.index_items.specs.Found.{IsJoined};
-    ghost use Rattle.index_items.specs.Items.{numbers, plain_items};
-    ghost use Rattle.index_items.specs.Alteration.{alter_at, altered as changed_item};
+    ghost use Rattle.index_items.specs.Alteration.{alter_at, altered as changed_item, altered_by};
     ghost use Rattle.index_items.specs.Alteration.{shut as with_shut, tagged as with_tag};
+    ghost use Rattle.index_items.specs.Changes.{AreBelow, plain_changes, settled as left_by};
+    ghost use Rattle.index_items.specs.Items.{numbers, plain_items};
     ghost use Rattle.index_listed.specs.Heads.{AreHeads, AreWithin};
-    ghost use Rattle.index_view.specs.Sight.{plain_limit};
+    ghost use Rattle.index_view.specs.Limit.{plain_limit};
     ghost use Rattle.index_view.specs.View as spec;
 
     /// A view of no messages yet.
@@ -158,6 +155,24 @@ impl View {
         self.items = items;
         self.turn(answers);
         Ok(())
+    }
+
+    // Changes a message.
+    fn put_altered(
+        &mut self,
+        archive: &Archive,
+        id: Id,
+        alteration: Alteration,
+    ) -> Result<(), NoMemory>
+        requires { spec.IsOf (map plain_letter archive.now.items) self.old }
+        ensures ok { OnOk result (spec.Turned (map plain_letter archive.now.items) self.old self.new
+            (record (spec.facts_of self.old) {
+              items = alter_at id (altered_by alteration) self.old.items;
+            })) }
+        ensures err { OnErr result (self.new ≡ self.old) }
+    {
+        let items = altered(self.alloc, &self.items, id, alteration)?;
+        self.put(archive, items)
     }
 
     /// Other options.
@@ -227,9 +242,7 @@ impl View {
             })) }
         ensures err { OnErr result (self.new ≡ self.old) }
     {
-        let change = Alteration::Pending(delta, deleted);
-        let items = altered(self.alloc, &self.items, id, change)?;
-        self.put(archive, items)
+        self.put_altered(archive, id, Alteration::Pending(delta, deleted))
     }
 
     /// Tags a message, or takes its tag away.
@@ -242,8 +255,7 @@ impl View {
             })) }
         ensures err { OnErr result (self.new ≡ self.old) }
     {
-        let items = altered(self.alloc, &self.items, id, Alteration::Tag(tagged))?;
-        self.put(archive, items)
+        self.put_altered(archive, id, Alteration::Tag(tagged))
     }
 
     /// Shuts or opens the thread of a root.

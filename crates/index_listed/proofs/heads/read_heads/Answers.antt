@@ -2,9 +2,9 @@ use Rattle.std.proofs.Common.{◌≡◌, ◌∙◌, ◌+◌, ◌∷◌, [], ◌<
 use Rattle.std.proofs.lemmas.List.{length-append, length-map, map_push}
 use Rattle.folder_core.specs.Letters.{plain_letter}
 use Rattle.headers.specs.Header.{plain_header}
+use Rattle.std.proofs.Common.{slice_index_or}
 use Rattle.index_listed.specs.Heads.{AreHeads}
 use Rattle.index_listed.specs.Listed.{header_of, no_mail}
-use Rattle.std.proofs.Common.{slice_index_or}
 use Rattle.index_listed.proofs.HeadLemmas.{front_kept, heads_next, letter_is}
 use Rattle.index_listed.proofs.heads.read_heads.Goals as goal
 

@@ -1,6 +1,6 @@
 use Rattle.std.proofs.Common.{◌≡◌, ◌++◌, length, map}
-use Rattle.index_rows.specs.Ties.{plain_ties, ties_of}
 use Rattle.index_listed.specs.Listed.{plain_listed}
+use Rattle.index_rows.specs.Ties.{plain_ties, ties_of}
 use Rattle.index_view.proofs.answers.all_ties.Given as goal
 
 abbrev pub invariant-loop-left : goal.invariant-loop-left

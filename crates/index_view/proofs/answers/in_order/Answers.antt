@@ -2,18 +2,18 @@ use Rattle.std.proofs.Common.{◌≡◌, ◌∙◌, List, ap, length, map, nat_e
 use Rattle.std.proofs.lemmas.List.{length-map}
 use Rattle.std.specs.List.{IsDistinct}
 use Rattle.mail_base.specs.declared.kind.Id.{Id}
-use Rattle.index_items.specs.Items.{plain_items}
-use Rattle.index_order.specs.Order.{is_threads, order}
 use Rattle.patterns_match.specs.ScoreEntries.{held_entries}
 use Rattle.threads.specs.Order.{ParentsFirst}
-use Rattle.index_view.specs.Answers.{facts, ordered, scored, scored_by}
+use Rattle.index_items.specs.Items.{plain_items}
 use Rattle.index_listed.specs.Listed.{ids, plain_listed}
-use Rattle.index_view.specs.Ordering.{keys, numbered}
 use Rattle.index_listed.specs.Places.{numbers}
-use Rattle.index_view.specs.Sight.{stances}
-use Rattle.index_view.specs.Tables.{first_rows, scored_at, table}
+use Rattle.index_listed.specs.Sight.{stances}
 use Rattle.index_listed.specs.Threading.{threads}
-use Rattle.index_view.proofs.ListLemmas.{as_many}
+use Rattle.index_listed.proofs.ListLemmas.{as_many}
+use Rattle.index_order.specs.Order.{is_threads, order}
+use Rattle.index_view.specs.Answers.{facts, ordered, scored, scored_by}
+use Rattle.index_view.specs.Ordering.{keys, numbered}
+use Rattle.index_view.specs.Tables.{first_rows, scored_at, table}
 use Rattle.index_view.proofs.OrderLemmas.{keys_given, links_long, ordered_apart}
 use Rattle.index_view.proofs.answers.in_order.Goals as goal
 

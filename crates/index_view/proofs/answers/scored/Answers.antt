@@ -1,13 +1,13 @@
 use Rattle.std.proofs.Common.{◌≡◌, ◌∙◌, List, ap, length, map, subst, sym}
 use Rattle.std.proofs.lemmas.List.{length-map}
 use Rattle.std.specs.Prelude.{IfOk, Vec}
-use Rattle.index_items.specs.Items.{plain_items}
 use Rattle.patterns_match.specs.Listings.{Message}
 use Rattle.patterns_match.specs.ScoreEntries.{held_entries}
 use Rattle.patterns_match.specs.declared.row.Row.{Row}
+use Rattle.index_items.specs.Items.{plain_items}
 use Rattle.index_listed.specs.Listed.{plain_listed}
+use Rattle.index_listed.proofs.ListLemmas.{as_many}
 use Rattle.index_view.specs.Tables.{first_row_at, first_rows, message_at, scored_rows, seen, table}
-use Rattle.index_view.proofs.ListLemmas.{as_many}
 use Rattle.index_view.proofs.answers.scored.Goals as goal
 
 pub messages_of-requires-clause-rows : goal.messages_of-requires-clause-rows

@@ -4,10 +4,10 @@ use Rattle.std.proofs.lemmas.List.FromFn.{length-map-range_with_len}
 use Rattle.std.proofs.lemmas.List.Elements.{All-push}
 use Rattle.std.specs.List.{All}
 use Rattle.index_listed.specs.Listed.{plain_listed}
-use Rattle.index_view.specs.Tables as spec
 use Rattle.index_listed.specs.Threading as threading
+use Rattle.index_listed.proofs.ListLemmas.{put_next}
+use Rattle.index_view.specs.Tables as spec
 use Rattle.index_view.specs.declared.asked.Asked.{Asked}
-use Rattle.index_view.proofs.ListLemmas.{put_next}
 use Rattle.index_view.proofs.asked.messages_of.Goals as goal
 
 pub loop-place-preserved : goal.loop-place-preserved

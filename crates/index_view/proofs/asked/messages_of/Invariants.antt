@@ -1,8 +1,8 @@
 use Rattle.std.proofs.Common.{◌≡◌, length, map}
 use Rattle.std.specs.List.{All, range_with_len}
 use Rattle.index_listed.specs.Listed.{plain_listed}
-use Rattle.index_view.specs.Tables as spec
 use Rattle.index_listed.specs.Threading as threading
+use Rattle.index_view.specs.Tables as spec
 use Rattle.index_view.proofs.asked.messages_of.Given as goal
 
 abbrev pub invariant-loop-place : goal.invariant-loop-place

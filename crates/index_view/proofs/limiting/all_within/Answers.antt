@@ -1,9 +1,9 @@
 use Rattle.std.proofs.Common.{◌∙◌, Option, ap, map, option_map}
 use Rattle.patterns_match.specs.declared.pattern.Pattern.{Pattern}
 use Rattle.people.specs.People.{PlainPeople}
-use Rattle.index_view.specs.Sight as spec
+use Rattle.index_listed.proofs.ListLemmas.{put_next}
+use Rattle.index_view.specs.Limit as spec
 use Rattle.index_view.specs.Tables.{seen}
-use Rattle.index_view.proofs.ListLemmas.{put_next}
 use Rattle.index_view.proofs.limiting.all_within.Goals as goal
 
 pub loop-place-preserved : goal.loop-place-preserved

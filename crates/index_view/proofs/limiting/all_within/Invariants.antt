@@ -1,6 +1,6 @@
 use Rattle.std.proofs.Common.{◌≡◌, map, option_map}
 use Rattle.std.specs.List.{range_with_len}
-use Rattle.index_view.specs.Sight as spec
+use Rattle.index_view.specs.Limit as spec
 use Rattle.index_view.specs.Tables.{seen}
 use Rattle.index_view.proofs.limiting.all_within.Given as goal
 

@@ -1,7 +1,7 @@
 use Rattle.std.proofs.Common.{map}
 use Rattle.index_listed.specs.Listed.{plain_listed}
+use Rattle.index_listed.proofs.ListLemmas.{put_next}
 use Rattle.index_view.specs.Ordering as spec
-use Rattle.index_view.proofs.ListLemmas.{put_next}
 use Rattle.index_view.proofs.ordering.keys.Goals as goal
 
 pub loop-place-preserved : goal.loop-place-preserved

@@ -1,7 +1,7 @@
 use Rattle.std.proofs.Common.{◌≡◌, ◌++◌, List, length}
-use Rattle.index_view.specs.Ordering as spec
-use Rattle.index_listed.specs.Places.{numbers}
 use Rattle.mail_base.specs.declared.kind.Id.{Id}
+use Rattle.index_listed.specs.Places.{numbers}
+use Rattle.index_view.specs.Ordering as spec
 use Rattle.index_view.proofs.ordering.numbered.Given as goal
 
 abbrev pub invariant-loop-left : goal.invariant-loop-left

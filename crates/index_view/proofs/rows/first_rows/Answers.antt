@@ -1,8 +1,8 @@
 use Rattle.std.proofs.Common.{map}
 use Rattle.index_items.specs.Items.{plain_items}
 use Rattle.index_listed.specs.Listed.{plain_listed}
+use Rattle.index_listed.proofs.ListLemmas.{put_next}
 use Rattle.index_view.specs.Tables as spec
-use Rattle.index_view.proofs.ListLemmas.{put_next}
 use Rattle.index_view.proofs.rows.first_rows.Goals as goal
 
 pub loop-place-preserved : goal.loop-place-preserved

@@ -2,8 +2,8 @@ use Rattle.std.proofs.Common.{◌∙◌, ap, map}
 use Rattle.patterns_match.specs.ScoreEntries.{held_entries}
 use Rattle.patterns_match.specs.declared.scores.Scores.{Scores}
 use Rattle.people.specs.People.{PlainPeople}
+use Rattle.index_listed.proofs.ListLemmas.{put_next}
 use Rattle.index_view.specs.Tables as spec
-use Rattle.index_view.proofs.ListLemmas.{put_next}
 use Rattle.index_view.proofs.rows.scored_rows.Goals as goal
 
 pub loop-place-preserved : goal.loop-place-preserved

@@ -3,8 +3,8 @@ use Rattle.std.specs.List.{IsDistinct}
 use Rattle.std.specs.Prelude.{IfOk}
 use Rattle.folder_core.specs.Letters.{plain_letter}
 use Rattle.index_items.specs.Items.{plain_items}
-use Rattle.index_view.specs.Answers.{PlainAnswers, answers, facts}
 use Rattle.index_listed.specs.Listed.{PlainListed, ids, plain_listed}
+use Rattle.index_view.specs.Answers.{PlainAnswers, answers, facts}
 use Rattle.index_view.specs.Listing.{all_listed}
 use Rattle.index_view.proofs.ViewLemmas.{listed_ids}
 use Rattle.index_view.proofs.view.answers_over.Goals as goal

@@ -1,9 +1,10 @@
 use Rattle.std.proofs.Common.{◌≡◌, ◌∙◌, ap, map, option_map, subst}
 use Rattle.std.specs.Prelude.{IfOk}
-use Rattle.index_view.specs.Answers.{PlainAnswers}
 use Rattle.index_listed.specs.Listed.{plain_listed}
-use Rattle.index_view.specs.Seen.{PlainSight, sight}
-use Rattle.index_view.specs.Sight.{all_within, plain_limit}
+use Rattle.index_listed.specs.Seen.{PlainSight, sight}
+use Rattle.index_view.specs.Answers.{PlainAnswers}
+use Rattle.index_view.specs.Limit.{all_within, plain_limit}
+use Rattle.index_view.specs.Marks.{marks_of}
 use Rattle.index_view.specs.Tables.{table}
 use Rattle.index_view.proofs.answers.Answers.limited.Goals as goal
 
@@ -24,5 +25,5 @@ returns-clause-value c =
     ∙ c.in_ok-to_vec.ensures.items_if_clones_equal (λ x y same. same) ∙ c.as_slice.ensures
     ∙ c.order.ensures ∙ ap (λ (z : PlainAnswers). z.sight.order) is in
     subst (λ (z : PlainSight). IfOk c.sight_of.result (λ (s : PlainSight). s ≡ z))
-    (λ i. sight (rows i) (all_within people limit (table ls (rows i) (links i))) (order i)
-    (stances i)) c.sight_of.ensures.value
+    (λ i. sight (marks_of (rows i) (all_within people limit (table ls (rows i) (links i))))
+    (order i) (stances i)) c.sight_of.ensures.value

@@ -1,18 +1,19 @@
 use Rattle.std.proofs.Common.{◌≡◌, ◌∙◌, List, ap, length, map, nat_eq, option_map, subst, sym}
 use Rattle.std.proofs.lemmas.List.{length-map}
 use Rattle.patterns_match.specs.declared.row.Row.{Row}
-use Rattle.index_rows.specs.Ties.{ties_of}
-use Rattle.threads.specs.Threads.{parent}
 use Rattle.std.specs.List.{IsDistinct}
 use Rattle.mail_base.specs.declared.kind.Id.{Id}
-use Rattle.index_order.specs.Order.{is_threads}
-use Rattle.index_view.specs.Answers.{facts, threads_of}
 use Rattle.index_listed.specs.Listed.{ids, plain_listed}
 use Rattle.index_listed.specs.Places.{numbers}
-use Rattle.index_view.specs.Seen.{PlainSight, sight}
-use Rattle.index_view.specs.Sight.{all_within, plain_limit, stances}
-use Rattle.index_view.specs.Tables.{table}
+use Rattle.index_listed.specs.Seen.{PlainSight, sight}
+use Rattle.index_listed.specs.Sight.{stances}
 use Rattle.index_listed.specs.Threading.{AllWithin, threads}
+use Rattle.index_order.specs.Order.{is_threads}
+use Rattle.index_rows.specs.Ties.{ties_of}
+use Rattle.index_view.specs.Answers.{facts, threads_of}
+use Rattle.index_view.specs.Limit.{all_within, plain_limit}
+use Rattle.index_view.specs.Marks.{marks_of}
+use Rattle.index_view.specs.Tables.{table}
 use Rattle.index_view.proofs.AnswersLemmas.{row_numbers, rows_long}
 use Rattle.index_view.proofs.OrderLemmas.{links_long}
 use Rattle.index_view.proofs.answers.Answers.of.Goals as goal
@@ -53,7 +54,7 @@ invariant_of-result c =
     sym (ap length ranked.rows_are ∙ rows_long ls f) in record {
       places_are = given.places_are ∙ sym (row_numbers ls f)
           ∙ ap (map (λ (r : Row). r.id.0)) (sym ranked.rows_are);
-      parents_long = ap length c.in_ok-all_parents.ensures ∙ length-map ls _ ∙ many;
+      parents_long = ap length given.parents_are ∙ length-map ls _ ∙ many;
       links_long = ap length given.links_are
           ∙ links_long (threads c.args.options.threads ls) (ids ls) ls _ ∙ many;
       ties_long = ap length c.in_ok-all_ties.ensures.value ∙ length-map ls _ ∙ many;
@@ -75,15 +76,14 @@ returns-clause-value c =
     let rows = c.deref-2.ensures.value ∙ ranked.rows_are in
     let links = c.deref.ensures.value ∙ given.links_are in
     let stances = c.deref-3.ensures.value ∙ ranked.stances_are in
-    let parents = c.in_ok-all_parents.ensures
-    ∙ (λ i. map (λ l. parent (given.threads_are i) l.id) ls) in
     let ties = c.in_ok-all_ties.ensures.value
     ∙ (λ i. map (λ l. ties_of (same i).people l.header) ls) in
     let seen = c.in_ok-sight_of.ensures.value
-    ∙ (λ i. sight (rows i) (all_within (people i) (option_map plain_limit (same i).limit)
-    (table ls (rows i) (links i))) (ranked.order_is i) (stances i)) in
+    ∙ (λ i. sight (marks_of (rows i) (all_within (people i)
+    (option_map plain_limit (same i).limit) (table ls (rows i) (links i))))
+    (ranked.order_is i) (stances i)) in
     λ i. record {
-      parents = parents i;
+      parents = given.parents_are i;
       links = given.links_are i;
       rows = ranked.rows_are i;
       ties = ties i;

@@ -1,8 +1,8 @@
 use Rattle.std.proofs.Common.{◌∙◌, length, map, sym}
 use Rattle.std.proofs.lemmas.List.{length-map}
 use Rattle.index_listed.specs.Listed.{plain_listed}
+use Rattle.index_listed.proofs.ListLemmas.{as_many}
 use Rattle.index_view.specs.Tables.{message_at, seen}
-use Rattle.index_view.proofs.ListLemmas.{as_many}
 use Rattle.index_view.proofs.answers.Answers.picked.Goals as goal
 
 pub passes-requires : goal.passes-requires

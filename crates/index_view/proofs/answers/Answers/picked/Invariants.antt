@@ -1,8 +1,8 @@
 use Rattle.std.proofs.Common.{◌≡◌, ◌++◌, length, map}
 use Rattle.std.specs.List.{filter}
+use Rattle.index_listed.specs.Seen.{visible_ids}
 use Rattle.index_view.specs.Answers as spec
-use Rattle.index_view.specs.Seen.{visible_ids}
-use Rattle.index_view.specs.Sight.{plain_limit}
+use Rattle.index_view.specs.Limit.{plain_limit}
 use Rattle.index_view.specs.Tables.{seen}
 use Rattle.index_view.proofs.answers.Answers.picked.Given as goal
 

@@ -1,10 +1,10 @@
 use Rattle.std.proofs.Common.{◌≡◌, ◌∙◌, List, ap, length, map, refl, subst, sym}
 use Rattle.folder_core.specs.Letters.{plain_letter}
-use Rattle.index_items.specs.Items.{PlainItem, numbers, plain_items}
 use Rattle.index_items.specs.Alteration.{alter_at, altered_by}
+use Rattle.index_items.specs.Items.{PlainItem, numbers, plain_items}
+use Rattle.index_items.specs.declared.alteration.Alteration.TheVariants.{Shut}
 use Rattle.index_listed.specs.Heads.{AreWithin}
 use Rattle.index_view.specs.View.{AreApart, Folded, PlainView, answers_over, facts_of, folded}
-use Rattle.index_items.specs.declared.alteration.Alteration.TheVariants.{Shut}
 use Rattle.index_view.proofs.ViewLemmas.{altered_apart, altered_within, folded_over}
 use Rattle.index_view.proofs.view.View.collapse.Goals as goal
 

@@ -2,13 +2,13 @@ use Rattle.std.proofs.Common.{◌≡◌, ◌∙◌, List, ap, length, map, subst
 use Rattle.std.proofs.lemmas.List.{length-map}
 use Rattle.folder_core.specs.Letters.{plain_letter}
 use Rattle.headers.specs.Header.{plain_header}
+use Rattle.std.proofs.lemmas.Result.{on_err_weaker}
 use Rattle.index_items.specs.Found.{IsJoined}
 use Rattle.index_items.specs.Items.{PlainItem, numbers, plain_items}
 use Rattle.index_listed.specs.Heads.{AreWithin}
 use Rattle.index_view.specs.View.{PlainView}
 use Rattle.index_view.proofs.ItemLemmas.{joined_apart}
 use Rattle.index_view.proofs.JoinLemmas.{all_within_archive, heads_kept, on_any}
-use Rattle.std.proofs.lemmas.Result.{on_err_weaker}
 use Rattle.index_view.proofs.JoinLemmas.{with_more}
 use Rattle.index_view.proofs.view.View.join.Goals as goal
 

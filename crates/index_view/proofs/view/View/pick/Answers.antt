@@ -5,8 +5,8 @@ use Rattle.folder_core.specs.Letters.{plain_letter}
 use Rattle.mail_base.specs.declared.kind.Id.{Id}
 use Rattle.index_items.specs.Items.{plain_items}
 use Rattle.index_listed.specs.Listed.{plain_listed}
+use Rattle.index_view.specs.Limit.{plain_limit}
 use Rattle.index_view.specs.Listing.{all_listed}
-use Rattle.index_view.specs.Sight.{plain_limit}
 use Rattle.index_view.specs.View.{IsOf, picked_of}
 use Rattle.index_view.proofs.JudgingLemmas.{picked_is, rows_all}
 use Rattle.index_view.proofs.view.View.pick.Goals as goal

@@ -3,10 +3,10 @@ use Rattle.std.proofs.lemmas.List.{length-map}
 use Rattle.folder_core.specs.Letters.{plain_letter}
 use Rattle.headers.specs.Header.{plain_header}
 use Rattle.index_items.specs.Items.{plain_items}
-use Rattle.index_view.specs.Cursor.{moved}
+use Rattle.index_listed.specs.Cursor.{moved}
 use Rattle.index_listed.specs.Listed.{plain_listed}
+use Rattle.index_listed.specs.Seen.{visible_ids}
 use Rattle.index_view.specs.Listing.{all_listed}
-use Rattle.index_view.specs.Seen.{visible_ids}
 use Rattle.index_view.specs.View.{IsOf}
 use Rattle.index_view.proofs.JudgingLemmas.{limit_set, rows_all}
 use Rattle.index_view.proofs.view.View.set_limit.Goals as goal

@@ -1,8 +1,8 @@
 use Rattle.std.proofs.Common.{◌≡◌, ◌∙◌, map, refl, subst, sym}
 use Rattle.folder_core.specs.Letters.{plain_letter}
 use Rattle.index_view.specs.Answers.{facts}
-use Rattle.index_view.specs.contracts.view.View.{the_view}
 use Rattle.index_view.specs.View.{PlainView, Turned, answers_over, facts_of, turned}
+use Rattle.index_view.specs.contracts.view.View.{the_view}
 use Rattle.index_view.proofs.ViewLemmas.{turned_over}
 use Rattle.index_view.proofs.view.View.set_options.Goals as goal
 

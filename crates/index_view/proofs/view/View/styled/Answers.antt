@@ -1,11 +1,12 @@
 use Rattle.std.proofs.Common.{◌∙◌, Some, ap, map, sym}
 use Rattle.std.specs.Prelude.{option_map}
 use Rattle.folder_core.specs.Letters.{plain_letter}
+use Rattle.index_listed.specs.Seen.{PlainSight, tree_line}
 use Rattle.index_rows.specs.Texts.{index_row}
 use Rattle.index_view.specs.Answers.{place_of}
 use Rattle.index_view.specs.Lines as spec
-use Rattle.index_view.proofs.LinesLemmas.{head_of_letter, listed_within}
 use Rattle.index_view.specs.View.{PlainView}
+use Rattle.index_view.proofs.LinesLemmas.{head_of_letter, listed_within}
 use Rattle.index_view.proofs.view.View.styled.Goals as goal
 
 pub entry-entry-requires-clause-head : goal.entry-entry-requires-clause-head
@@ -26,7 +27,8 @@ returns c =
     ∙ sym c.in-Some.ensures.place in
     let header = head_of_letter v.heads mails id c.requires.heads
     (listed_within mails v id place c.requires is) in
-    let tree = c.in_ok-tree.ensures in
+    let tree = c.in_ok-tree.ensures ∙ ap (λ (s : PlainSight). tree_line s id)
+    (c.sight.ensures ∙ ap (λ (w : PlainView). w.answers.sight) c.self.view_is) in
     ap Some (c.in_ok-index_row.ensures
     ∙ (λ i. index_row c.args.cols ((c.entry-entry.ensures
     ∙ (λ j. spec.entry_with (header j) (tree j) v style id place)) i) style.format))

@@ -1,8 +1,8 @@
 use Rattle.std.proofs.Common.{◌≡◌, ◌∙◌, ap, length, map, sym, take}
 use Rattle.std.proofs.lemmas.List.{length-map, take-map}
 use Rattle.headers.specs.Header.{plain_header}
-use Rattle.index_view.specs.View.{PlainView}
 use Rattle.std.proofs.lemmas.Result.{on_err_weaker}
+use Rattle.index_view.specs.View.{PlainView}
 use Rattle.index_view.proofs.view.View.take_delta.Goals as goal
 
 pub returns-then-is_err-clause-err : goal.returns-then-is_err-clause-err

@@ -1,3 +1,0 @@
-pub mod EntriesLemmas
-pub mod TreeLemmas
-pub mod Facts

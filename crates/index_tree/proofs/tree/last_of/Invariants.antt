@@ -1,5 +1,0 @@
-use Rattle.index_tree.specs.Tree.{AreLast}
-use Rattle.index_tree.proofs.tree.last_of.Given as goal
-
-abbrev pub invariant-loop-place : goal.invariant-loop-place
-invariant-loop-place l = AreLast l.entries l.place l.last.items

@@ -1,5 +1,0 @@
-use Rattle.index_tree.specs.Visibility.{AreThreadsWith, is_hidden}
-use Rattle.index_tree.proofs.visibility.threads_with_hidden.Given as goal
-
-abbrev pub invariant-loop-place : goal.invariant-loop-place
-invariant-loop-place l = AreThreadsWith (is_hidden l.entries) l.entries l.place l.hidden.items

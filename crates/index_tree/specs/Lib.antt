@@ -1,3 +1,0 @@
-pub mod Entries
-pub mod Visibility
-pub mod Tree
