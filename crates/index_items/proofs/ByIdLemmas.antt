@@ -1,5 +1,6 @@
 -- How a table by numbers grows.
-use Rattle.std.proofs.Common.{◌≡◌, ◌∙◌, ◌+◌, ◌<◌, ℕ, suc, Bool, true, false, List, [], ◌∷◌, ◌++◌, length}
+use Rattle.std.proofs.Common.{◌≡◌, ◌∙◌, ◌+◌, ◌<◌, ℕ, suc, Bool, true, false, List, [], ◌∷◌, ◌++◌}
+use Rattle.std.proofs.Common.{length}
 use Rattle.std.proofs.Common.{Option, Some, None, option_map, refl, sym, ap, arith, nat_eq}
 use Rattle.std.proofs.Common.{slice_index_or, subst, take}
 use Rattle.std.specs.Prelude.{find, if◌then◌else◌}
@@ -34,12 +35,14 @@ module _ {X T : Type 0} (number : X → ℕ) (value : X → T) where
           (find (λ y. nat_eq n (number y)) (x ∷ [])))
       so = ap (option_map value) (find-append (λ y. nat_eq n (number y)) xs (x ∷ []))
 
-      by_test : (b : Bool) → nat_eq n (number x) ≡ b → wanted (first_of number value (xs ++ x ∷ []) n)
+      by_test : (b : Bool) → nat_eq n (number x) ≡ b
+          → wanted (first_of number value (xs ++ x ∷ []) n)
       by_test true is =
           let same : n ≡ number x = eqb-true n (number x) is in
           get_or-set_at table (number x) n (option_or (slice_index_or table (number x) None)
           (Some (value x))) None same low
-          ∙ ap (λ o. option_or o (Some (value x))) (ap (λ m. slice_index_or table m None) (sym same) ∙ has n)
+          ∙ ap (λ o. option_or o (Some (value x)))
+              (ap (λ m. slice_index_or table m None) (sym same) ∙ has n)
           ∙ map_more value (find (λ y. nat_eq n (number y)) xs) x
           ∙ ap (λ (b : Bool). option_map value (option_or (find (λ y. nat_eq n (number y)) xs)
           (if b then Some x else None))) (sym is)

@@ -43,3 +43,7 @@ shown_flags i = shown i.flags i.pending
 -- the numbers of the messages' ids
 abbrev pub numbers : List PlainItem → List ℕ
 numbers items = map (λ i. i.id.0) items
+
+-- their ids
+abbrev pub ids_of : List PlainItem → List Id
+ids_of items = map (λ i. i.id) items

@@ -1,6 +1,7 @@
 //! Tables by the numbers of ids.
 
-ghost use Rattle.std.specs.Prelude.{◌≡◌, ◌<◌, ℕ, length, replicate, slice_get, slice_index_or, slice_set, None, Some, IfOk};
+ghost use Rattle.std.specs.Prelude.{◌≡◌, ◌<◌, ℕ, length, replicate, slice_get, slice_index_or};
+ghost use Rattle.std.specs.Prelude.{slice_set, None, Some, IfOk};
 ghost use Rattle.index_items.specs.ById as spec;
 
 use mail_base::NoMemory;

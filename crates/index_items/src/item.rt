@@ -1,7 +1,11 @@
 //! A listed message.
 
+ghost use Rattle.std.specs.Prelude.{◌≡◌, IfOk};
+ghost use Rattle.index_items.specs.Items as spec;
+
 use crate::pending::Pending;
-use mail_base::{Flags, Id};
+use mail_base::{Flags, Id, NoMemory};
+use std::alloc::Global;
 
 /// A listed message, as the index keeps it.
 #[derive(Clone, Copy)]
@@ -38,4 +42,17 @@ impl Item {
     {
         self.flags.apply(self.pending.delta)
     }
+}
+
+/// The ids of messages.
+pub fn ids_of(alloc: Global, items: &[Item]) -> Result<Vec<Id>, NoMemory>
+    ensures { IfOk result (λ ids. ids.items ≡ spec.ids_of (spec.plain_items items.now)) }
+{
+    let mut ids = Vec::with_capacity(alloc, items.len())?;
+    let mut left = items;
+    while let [first, rest @ ..] = left {
+        ids.push(first.id)?;
+        left = rest;
+    }
+    Ok(ids)
 }

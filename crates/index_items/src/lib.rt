@@ -15,5 +15,5 @@ pub use alteration::{Alteration, altered};
 pub use by_id::ById;
 pub use change::{changes, settled};
 pub use found::joined;
-pub use item::Item;
+pub use item::{Item, ids_of};
 pub use pending::Pending;

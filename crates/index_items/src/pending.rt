@@ -83,7 +83,8 @@ fn delta_of(added: Flags, cleared: Flags) -> Delta
 
 impl Pending {
     ghost use Rattle.std.specs.Prelude.{◌≡◌};
-    ghost use Rattle.index_items.specs.Pending.{changed as changed_by, left_by, nothing, plain_pending};
+    ghost use Rattle.index_items.specs.Pending.{changed as changed_by, left_by, nothing};
+    ghost use Rattle.index_items.specs.Pending.{plain_pending};
 
     /// Nothing is changed.
     pub fn none() -> Pending

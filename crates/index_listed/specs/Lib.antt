@@ -1,6 +1,7 @@
 pub mod Listed
 pub mod Heads
 pub mod Places
+pub mod Page
 pub mod Known
 pub mod Threading
 pub mod Threaded

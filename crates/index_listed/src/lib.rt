@@ -11,6 +11,7 @@ mod known;
 mod links;
 mod listed;
 mod mark;
+mod page;
 mod places;
 mod sight;
 mod stance;

@@ -1,5 +1,9 @@
 -- What the calls of a view need of its messages.
-use Rattle.std.proofs.Common.{◌≡◌, ◌∙◌, ℕ, true, List, Some, length, nat_eq, refl}
+use Rattle.std.specs.Prelude.{if◌then◌else◌}
+use Rattle.std.proofs.Common.{Bool, false, true, ◌∷◌, []}
+use Rattle.index_items.specs.Alteration.{shut}
+use Rattle.index_view.specs.Shutting.{all_shut, is_root, shut_where}
+use Rattle.std.proofs.Common.{◌≡◌, ◌∙◌, ℕ, List, Some, length, nat_eq, refl}
 use Rattle.std.proofs.Common.{subst, sym}
 use Rattle.std.proofs.lemmas.Simd.{map-map}
 use Rattle.std.specs.List.{IsDistinct}
@@ -7,7 +11,7 @@ use Rattle.folder_core.specs.Letters.{Mail}
 use Rattle.mail_base.specs.declared.kind.Id.{Id}
 use Rattle.people.specs.People.{Alias}
 use Rattle.index_items.specs.Alteration.{alter_at, altered_by}
-use Rattle.index_items.specs.Items.{PlainItem, numbers}
+use Rattle.index_items.specs.Items.{PlainItem, ids_of, numbers}
 use Rattle.index_items.specs.declared.alteration.Alteration.TheVariants.{Pending, Tag, Shut}
 use Rattle.index_items.specs.declared.alteration.Alteration.{Alteration}
 use Rattle.index_listed.specs.Cursor.{is_seen, moved, moved_by_shutting}
@@ -16,7 +20,7 @@ use Rattle.index_listed.specs.Listed.{PlainListed, ids, listed_with}
 use Rattle.index_listed.specs.Seen.{visible_ids}
 use Rattle.index_listed.proofs.CursorLemmas.{stands_moved, stands_shut}
 use Rattle.index_view.specs.Answers.{PlainAnswers}
-use Rattle.index_view.specs.Listing.{all_listed, ids_of}
+use Rattle.index_view.specs.Listing.{all_listed}
 use Rattle.index_view.specs.View.{AreApart, Folded, IsOf, PlainView, Turned, answers_over}
 use Rattle.index_view.specs.View.{facts_of, folded, turned, visible_of}
 use Rattle.index_view.proofs.ItemLemmas.{altered_numbers}
@@ -44,6 +48,26 @@ module _ (alteration : Alteration) (id : Id) (items : List PlainItem) where
 
   pub altered_apart : AreApart items → AreApart (alter_at id (altered_by alteration) items)
   altered_apart apart = subst (IsDistinct nat_eq) (sym same_numbers) apart
+
+-- shutting threads leaves the ids as they are
+module _ (mark : Bool) (a : PlainAnswers) where
+  same_id : (i : PlainItem) → (shut_where mark a i).id.0 ≡ i.id.0
+  same_id i = by_root (is_root a i.id)
+    where
+      by_root : (b : Bool) → (if b then shut mark i else i).id.0 ≡ i.id.0
+      by_root true = refl
+      by_root false = refl
+
+  shut_numbers : (items : List PlainItem) → numbers (all_shut mark a items) ≡ numbers items
+  shut_numbers [] = refl
+  shut_numbers (i ∷ items) = λ k. same_id i k ∷ shut_numbers items k
+
+  pub shut_within : (count : ℕ) (items : List PlainItem) → AreWithin count (numbers items)
+      → AreWithin count (numbers (all_shut mark a items))
+  shut_within count items within = subst (AreWithin count) (sym (shut_numbers items)) within
+
+  pub shut_apart : (items : List PlainItem) → AreApart items → AreApart (all_shut mark a items)
+  shut_apart items apart = subst (IsDistinct nat_eq) (sym (shut_numbers items)) apart
 
 -- a view that was given others than another one, and answers what is worked out of them
 pub turned_over : (mails : List Mail) (old new : PlainView) (all : PlainAnswers)

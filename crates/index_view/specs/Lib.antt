@@ -4,6 +4,7 @@ pub mod Ordering
 pub mod Limit
 pub mod Marks
 pub mod Answers
+pub mod Shutting
 pub mod View
 pub mod Lines
 pub mod Laws

@@ -1,6 +1,6 @@
 -- The lines of the index: the page that holds the cursor, each message with its mark.
-use Rattle.std.specs.Prelude.{◌==◌, ◌-◌, ◌*◌, ◌/◌, ◌++◌, ℕ, ℤ, false, List, [], codes, drop}
-use Rattle.std.specs.Prelude.{length, map, replicate, slice_index_or, take}
+use Rattle.std.specs.Prelude.{◌==◌, ◌-◌, ◌++◌, ℕ, ℤ, false, List, [], codes}
+use Rattle.std.specs.Prelude.{length, map, replicate, slice_index_or}
 use Rattle.std.specs.Prelude.{Option, Some, None, option_and_then, option_map, unwrap_or}
 use Rattle.std.specs.Prelude.{if◌then◌else◌}
 use Rattle.std.specs.Option.{option_map_or}
@@ -10,6 +10,8 @@ use Rattle.folder_core.specs.Letters.{Mail}
 use Rattle.headers.specs.Header.{PlainHeader}
 use Rattle.patterns_match.specs.declared.row.Row.{Row}
 use Rattle.index_listed.specs.Listed.{header_of, mail_at, no_mail}
+use Rattle.index_listed.specs.Page.{cursor_place as place_of_cursor, page as page_of}
+use Rattle.index_listed.specs.Page.{page_start as start_of_page}
 use Rattle.index_listed.specs.Places.{place_in}
 use Rattle.index_listed.specs.Seen.{PlainSight, thread_has, tree_line}
 use Rattle.index_listed.specs.Visibility.{hides}
@@ -86,15 +88,15 @@ line mails v style cols id =
 
 -- where the cursor stands in what is seen
 abbrev pub cursor_place : PlainView → ℕ
-cursor_place v = unwrap_or (option_and_then (place_in (visible_of v)) v.cursor) 0
+cursor_place v = place_of_cursor (visible_of v) v.cursor
 
 -- where the page begins that holds the cursor
 abbrev pub page_start : ℕ → PlainView → ℕ
-page_start rows v = cursor_place v / rows * rows
+page_start rows v = start_of_page rows (visible_of v) v.cursor
 
--- the messages of the page
+-- the messages of that page
 abbrev pub page : ℕ → PlainView → List Id
-page rows v = take rows (drop (page_start rows v) (visible_of v))
+page rows v = page_of rows (visible_of v) v.cursor
 
 -- the mark of the cursor's message, and of all others
 abbrev pub mark : Option Id → Id → List ℕ

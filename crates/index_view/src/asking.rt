@@ -1,9 +1,9 @@
 //! What a view answers.
 
-use crate::listing::all_listed;
-use crate::view::View;
+use crate::view::{View, all_listed};
 use folder_core::{Archive, Changes};
 use index_items::changes;
+use index_order::ViewOptions;
 use mail_base::{Id, Ids, Kind, NoMemory};
 use patterns_match::{Pattern, Row};
 use std::alloc::Global;
@@ -43,6 +43,13 @@ impl View {
             × (spec.visible_of self.now ≡ [] → result ≡ None) }
     {
         self.cursor
+    }
+
+    /// How the index stands in threads and in order.
+    pub fn options(&self) -> ViewOptions
+        ensures { result ≡ self.now.options }
+    {
+        self.options
     }
 
     /// All ids in the order of the index.

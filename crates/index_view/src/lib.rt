@@ -10,10 +10,10 @@ mod judging;
 mod laws;
 mod limiting;
 mod lines;
-mod listing;
 mod marks;
 mod ordering;
 mod rows;
+mod shutting;
 mod tables;
 mod view;
 

@@ -160,33 +160,13 @@ impl View {
         Ok(line)
     }
 
-    // Where the cursor stands in what is seen.
-    fn cursor_place(&self) -> usize
-        ensures { result ≡ spec.cursor_place self.now }
-    {
-        match self.cursor {
-            Some(id) => self.answers.sight().visible_place(id).unwrap_or(0),
-            None => 0,
-        }
-    }
-
-    // Where the page begins that holds the cursor.
-    fn page_start(&self, rows: usize) -> usize
-        requires { 0 < rows }
-        ensures { result ≡ spec.page_start rows self.now }
-    {
-        self.cursor_place() / rows * rows
-    }
-
     // The messages of the page that holds the cursor.
     fn page(&self, rows: usize) -> &[Id]
         requires { 0 < rows }
         ensures page { result.now ≡ spec.page rows self.now }
         ensures fits { length result.now ≤ rows }
     {
-        let visible = self.answers.sight().visible().as_slice();
-        let rest = visible.get(self.page_start(rows)..).unwrap_or(&[]);
-        &rest[..rest.len().min(rows)]
+        self.answers.sight().page(rows, self.cursor)
     }
 
     /// The lines of the page that holds the cursor, exactly `rows` of them: each message with its

@@ -5,16 +5,18 @@ ghost use Rattle.folder_core.specs.Letters.{plain_letter};
 ghost use Rattle.headers.specs.Header.{plain_header};
 ghost use Rattle.index_items.specs.Items.{numbers, plain_items};
 ghost use Rattle.index_listed.specs.Heads.{AreHeads, AreWithin};
+ghost use Rattle.index_listed.specs.Listed.{plain_listed};
 ghost use Rattle.index_view.specs.Answers.{facts};
+ghost use Rattle.index_view.specs.Listing as listing;
 ghost use Rattle.index_view.specs.View as spec;
 
 use crate::answers::Answers;
-use crate::listing::all_listed;
+use crate::shutting::all_shut;
 use crate::tables::Tables;
-use folder_core::{Archive, Changes, Found};
+use folder_core::{Archive, Changes, Found, Letter};
 use headers::Header;
-use index_items::{Alteration, Item, altered, joined, settled};
-use index_listed::{moved, moved_by_shutting, read_heads};
+use index_items::{Alteration, Item, altered, ids_of, joined, settled};
+use index_listed::{Listed, all_listed as with_letters, moved, moved_by_shutting, read_heads};
 use index_order::ViewOptions;
 use mail_base::{Delta, Id, Kind, NoMemory};
 use patterns_match::{Pattern, Scores};
@@ -61,6 +63,22 @@ impl Model for View {
     } };
 }
 
+/// The messages with the letters of their ids.
+pub fn all_listed<'a>(
+    alloc: Global,
+    letters: &'a [Letter],
+    heads: &'a [Header],
+    items: &[Item],
+) -> Result<Vec<Listed<'a>>, NoMemory>
+    requires heads { AreHeads (map plain_header heads.now) (map plain_letter letters.now) }
+    requires within { AreWithin (length heads.now) (numbers (plain_items items.now)) }
+    ensures { IfOk result (λ all. map plain_listed all.items
+        ≡ listing.all_listed (map plain_letter letters.now) (plain_items items.now)) }
+{
+    let ids = ids_of(alloc, items)?;
+    with_letters(alloc, letters, heads, &ids)
+}
+
 /// What is answered of messages over the letters of an archive.
 pub fn answers_over(
     alloc: Global,
@@ -91,6 +109,7 @@ impl View {
     ghost use Rattle.index_items.specs.Items.{numbers, plain_items};
     ghost use Rattle.index_listed.specs.Heads.{AreHeads, AreWithin};
     ghost use Rattle.index_view.specs.Limit.{plain_limit};
+    ghost use Rattle.index_view.specs.Shutting.{all_shut as all_threads_shut};
     ghost use Rattle.index_view.specs.View as spec;
 
     /// A view of no messages yet.
@@ -203,6 +222,21 @@ impl View {
         self.answers = answers;
     }
 
+    // Puts in messages of which threads were shut or opened, with the same headers.
+    fn put_folded(&mut self, archive: &Archive, items: Vec<Item>) -> Result<(), NoMemory>
+        requires heads { AreHeads self.old.heads (map plain_letter archive.now.items) }
+        requires within { AreWithin (length self.old.heads) (numbers (plain_items items.items)) }
+        requires apart { spec.AreApart (plain_items items.items) }
+        ensures ok { OnOk result (spec.Folded (map plain_letter archive.now.items) self.old self.new
+            (record (spec.facts_of self.old) { items = plain_items items.items })) }
+        ensures err { OnErr result (self.new ≡ self.old) }
+    {
+        let answers = self.answers_for(archive, &items)?;
+        self.items = items;
+        self.fold(answers);
+        Ok(())
+    }
+
     /// Another limit, or none.
     pub fn set_limit(&mut self, archive: &Archive, limit: Option<Pattern>) -> Result<(), NoMemory>
         requires { spec.IsOf (map plain_letter archive.now.items) self.old }
@@ -237,8 +271,7 @@ impl View {
         requires { spec.IsOf (map plain_letter archive.now.items) self.old }
         ensures ok { OnOk result (spec.Turned (map plain_letter archive.now.items) self.old self.new
             (record (spec.facts_of self.old) {
-              items = alter_at id
-                  (changed_item delta.added delta.cleared deleted) self.old.items;
+              items = alter_at id (changed_item delta.added delta.cleared deleted) self.old.items;
             })) }
         ensures err { OnErr result (self.new ≡ self.old) }
     {
@@ -250,8 +283,7 @@ impl View {
         requires { spec.IsOf (map plain_letter archive.now.items) self.old }
         ensures ok { OnOk result (spec.Turned (map plain_letter archive.now.items) self.old self.new
             (record (spec.facts_of self.old) {
-              items = alter_at id (with_tag tagged)
-                  self.old.items;
+              items = alter_at id (with_tag tagged) self.old.items;
             })) }
         ensures err { OnErr result (self.new ≡ self.old) }
     {
@@ -263,16 +295,25 @@ impl View {
         requires { spec.IsOf (map plain_letter archive.now.items) self.old }
         ensures ok { OnOk result (spec.Folded (map plain_letter archive.now.items) self.old self.new
             (record (spec.facts_of self.old) {
-              items = alter_at root (with_shut shut)
-                  self.old.items;
+              items = alter_at root (with_shut shut) self.old.items;
             })) }
         ensures err { OnErr result (self.new ≡ self.old) }
     {
         let items = altered(self.alloc, &self.items, root, Alteration::Shut(shut))?;
-        let answers = self.answers_for(archive, &items)?;
-        self.items = items;
-        self.fold(answers);
-        Ok(())
+        self.put_folded(archive, items)
+    }
+
+    /// Shuts or opens all threads.
+    pub fn collapse_all(&mut self, archive: &Archive, shut: bool) -> Result<(), NoMemory>
+        requires { spec.IsOf (map plain_letter archive.now.items) self.old }
+        ensures ok { OnOk result (spec.Folded (map plain_letter archive.now.items) self.old self.new
+            (record (spec.facts_of self.old) {
+              items = all_threads_shut shut self.old.answers self.old.items;
+            })) }
+        ensures err { OnErr result (self.new ≡ self.old) }
+    {
+        let items = all_shut(self.alloc, &self.answers, shut, &self.items)?;
+        self.put_folded(archive, items)
     }
 
     // Takes in what a scan found; a refusal may leave the headers of more letters.
@@ -318,8 +359,7 @@ impl View {
         requires below { AreBelow (length archive.now.items) changes.now.items }
         ensures ok { OnOk result (spec.Turned (map plain_letter archive.now.items) self.old self.new
             (record (spec.facts_of self.old) {
-              items = left_by kind (plain_changes changes.now.items)
-                  self.old.items;
+              items = left_by kind (plain_changes changes.now.items) self.old.items;
             })) }
         ensures err { OnErr result (self.new ≡ self.old) }
     {

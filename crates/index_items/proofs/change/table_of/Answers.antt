@@ -12,7 +12,8 @@ loop-place-preserved c = (
       c.loop-place.place c.index-changes-place.result c.loop-place-test.true
       c.index-changes-place.is (rw c.loop-place.invariant.0
       (subst (λ x. x.id.0 < c.args.bound) (sym c.index-changes-place.is)
-      (c.requires c.loop-place.place c.index-changes-place.result c.loop-place-test.true))) c.put.ensures c.loop-place.invariant.1,
+      (c.requires c.loop-place.place c.index-changes-place.result c.loop-place-test.true)))
+      c.put.ensures c.loop-place.invariant.1,
 )
 
 pub returns : goal.returns

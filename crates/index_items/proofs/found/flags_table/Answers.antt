@@ -7,7 +7,8 @@ use Rattle.index_items.proofs.found.flags_table.Goals as goal
 pub loop-place-preserved : goal.loop-place-preserved
 loop-place-preserved c = (
   long_put c.loop-place.table c.put.new.self _ _ c.put.ensures ∙ c.loop-place.invariant.0,
-  next_at (λ l. l.id.0) (λ l. l.flags) c.loop-place.table c.put.new.self c.args.listed.now c.loop-place.place _
+  next_at (λ l. l.id.0) (λ l. l.flags) c.loop-place.table c.put.new.self c.args.listed.now
+      c.loop-place.place _
       c.loop-place-test.true
       (rw c.loop-place.invariant.0 (c.requires c.loop-place.place _ c.loop-place-test.true))
       c.put.ensures c.loop-place.invariant.1,

@@ -4,7 +4,7 @@ use Rattle.mail_base.specs.declared.kind.Id.{Id}
 use Rattle.index_items.specs.Items.{PlainItem, plain_items}
 use Rattle.index_listed.specs.Heads.{AreWithin}
 use Rattle.index_listed.specs.Places.{numbers}
-use Rattle.index_view.proofs.listing.all_listed.Goals as goal
+use Rattle.index_view.proofs.view.all_listed.Goals as goal
 
 pub all_listed-requires-clause-within : goal.all_listed-requires-clause-within
 all_listed-requires-clause-within c =

@@ -1,0 +1,16 @@
+-- The page of what is seen that holds the cursor.
+use Rattle.std.specs.Prelude.{◌*◌, ◌/◌, ℕ, List, Option, drop, option_and_then, take, unwrap_or}
+use Rattle.mail_base.specs.declared.kind.Id.{Id}
+use Rattle.index_listed.specs.Places.{place_in}
+
+-- where a cursor stands among what is seen; at its front where it stands nowhere
+abbrev pub cursor_place : List Id → Option Id → ℕ
+cursor_place ids cursor = unwrap_or (option_and_then (place_in ids) cursor) 0
+
+-- where the page of so many rows begins that holds the cursor
+abbrev pub page_start : ℕ → List Id → Option Id → ℕ
+page_start rows ids cursor = cursor_place ids cursor / rows * rows
+
+-- the messages of that page
+abbrev pub page : ℕ → List Id → Option Id → List Id
+page rows ids cursor = take rows (drop (page_start rows ids cursor) ids)

@@ -1,0 +1,10 @@
+use Rattle.std.proofs.Common.{◌≡◌, ◌++◌, length}
+use Rattle.std.specs.Str.{encode_utf8_all}
+use Rattle.prompts.proofs.prompt.append_chars.Given as goal
+
+abbrev pub invariant-loop-left : goal.invariant-loop-left
+invariant-loop-left l =
+    l.line.items ++ encode_utf8_all l.left ≡ l.initial.line.items ++ encode_utf8_all l.chars
+
+abbrev pub decreases-loop-left : goal.decreases-loop-left
+decreases-loop-left l = length l.left

@@ -1,0 +1,71 @@
+-- What answers to prompts do.
+use Rattle.std.specs.Prelude.{[], ◌∷◌, ℕ, List, Option, None, Some, if◌then◌else◌, ◌==◌}
+use Rattle.folder_core.specs.Letters.{Mail}
+use Rattle.mail_base.specs.declared.kind.Id.{Id}
+use Rattle.index_view.specs.Answers.{picked}
+use Rattle.index_view.specs.Limit.{PlainLimit}
+use Rattle.index_view.specs.View.{messages_over}
+use Rattle.session_index.specs.Desk.{PlainDesk}
+use Rattle.session_index.specs.Effects.{done_to, run_effects, search_way, went, with_index}
+use Rattle.session_index.specs.Index.{PlainIndex, answers_of, given}
+use Rattle.session_index.specs.declared.act.Act.{Act}
+use Rattle.session_index.specs.declared.act.Act.TheVariants.{Set, Clear}
+use Rattle.session_index.specs.declared.act.Mark.{Mark}
+use Rattle.session_index.specs.declared.act.Mark.TheVariants as mark
+use Rattle.prompts.specs.declared.asking.Asking.{Asking}
+use Rattle.prompts.specs.declared.asking.Asking.TheVariants as asking
+use Rattle.session_index.specs.declared.effect.Effect.{Effect}
+use Rattle.session_index.specs.declared.effect.Effect.TheVariants.{Do, Resolve, DropPrefix}
+use Rattle.session_index.specs.declared.effect.Scope.TheVariants.{Meant}
+use Rattle.session_index.specs.declared.rule.Rule.{Rule}
+
+-- the messages that are seen and satisfy a pattern
+abbrev pub matching : List Mail → PlainLimit → PlainIndex → List Id
+matching mails pattern i =
+    picked i.facts.people pattern (messages_over mails i.facts) (answers_of mails i)
+
+abbrev pub done_matching : List Mail → Act → PlainLimit → PlainDesk → PlainDesk
+done_matching mails act pattern d = done_to mails act (matching mails pattern d.index) d
+
+-- another limit, or none
+abbrev pub limited : List Mail → Option PlainLimit → PlainDesk → PlainDesk
+limited mails limit d =
+    with_index (given mails (record d.index.facts { limit = limit }) d.index) d
+
+-- a search is kept, and the cursor goes where it leads
+abbrev pub searched_for : List Mail → PlainLimit → PlainDesk → PlainDesk
+searched_for mails pattern d =
+    went mails (search_way mails pattern d) (record d { search = Some pattern })
+
+-- a pattern is answered to a prompt
+abbrev pub answered : List Mail → Asking → PlainLimit → PlainDesk → PlainDesk
+answered mails asking.Delete pattern d = done_matching mails (Set mark.Deleted) pattern d
+answered mails asking.Undelete pattern d = done_matching mails (Clear mark.Deleted) pattern d
+answered mails asking.Tag pattern d = done_matching mails (Set mark.Tagged) pattern d
+answered mails asking.Untag pattern d = done_matching mails (Clear mark.Tagged) pattern d
+answered mails asking.Limit pattern d = limited mails (Some pattern) d
+answered mails asking.Search pattern d = searched_for mails pattern d
+answered mails _ pattern d = d
+
+-- the mark that a key names (Mutt's manual, "set-flag")
+abbrev pub mark_of : ℕ → Option Mark
+mark_of key =
+    if key == 68 then Some mark.Deleted
+    else (if key == 78 then Some mark.New
+    else (if key == 79 then Some mark.Old
+    else (if key == 114 then Some mark.Replied
+    else (if key == 42 then Some mark.Tagged
+    else (if key == 33 then Some mark.Flagged else None)))))
+
+abbrev pub marking : Act → List Effect
+marking act = Do act Meant ∷ Resolve ∷ DropPrefix ∷ []
+
+abbrev pub chosen_effects : Asking → Option Mark → List Effect
+chosen_effects asking.SetFlag (Some m) = marking (Set m)
+chosen_effects asking.ClearFlag (Some m) = marking (Clear m)
+chosen_effects _ _ = []
+
+-- a key is answered to a prompt of flags
+abbrev pub chosen : Rule → List Mail → Asking → ℕ → PlainDesk → PlainDesk
+chosen rule mails asking key d =
+    run_effects rule mails (chosen_effects asking (mark_of key)) d

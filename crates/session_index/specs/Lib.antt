@@ -1,0 +1,16 @@
+pub mod Shown
+pub mod Neighbours
+pub mod Motions
+pub mod Index
+pub mod Folding
+pub mod Acts
+pub mod Meant
+pub mod Searching
+pub mod Counting
+pub mod Status
+pub mod Notices
+pub mod Functions
+pub mod Desk
+pub mod Effects
+pub mod Answering
+pub mod Typing

@@ -1,0 +1,24 @@
+-- What the message line says of the index.
+use Rattle.std.specs.Prelude.{ℕ, List, codes}
+use Rattle.session_index.specs.declared.notice.Notice.{Notice}
+use Rattle.session_index.specs.declared.notice.Notice.TheVariants.{NoMessages, NoUndeleted, OnLast}
+use Rattle.session_index.specs.declared.notice.Notice.TheVariants.{OnFirst, NoUnread, NoThread}
+use Rattle.session_index.specs.declared.notice.Notice.TheVariants.{NoParent, ParentHidden, NoTagged}
+use Rattle.session_index.specs.declared.notice.Notice.TheVariants.{NotFound, NotThreaded, ReadOnly}
+use Rattle.session_index.specs.declared.notice.Notice.TheVariants.{NotBound, MacroLoop}
+
+abbrev pub notice_text : Notice → List ℕ
+notice_text NoMessages = codes "There are no messages."
+notice_text NoUndeleted = codes "No undeleted messages."
+notice_text OnLast = codes "You are on the last message."
+notice_text OnFirst = codes "You are on the first message."
+notice_text NoUnread = codes "No unread messages."
+notice_text NoThread = codes "No more threads."
+notice_text NoParent = codes "Parent message is not available."
+notice_text ParentHidden = codes "Parent message is not visible."
+notice_text NoTagged = codes "No tagged messages."
+notice_text NotFound = codes "Not found."
+notice_text NotThreaded = codes "Threading is not enabled."
+notice_text ReadOnly = codes "Mailbox is read-only."
+notice_text NotBound = codes "Key is not bound."
+notice_text MacroLoop = codes "Macro loop."

@@ -1,0 +1,22 @@
+//! What keys act on.
+
+use crate::message::Message;
+use crate::wanted::Wanted;
+use index_view::View;
+use patterns_match::Pattern;
+use prompts::Prompt;
+use std::alloc::Global;
+
+/// What keys act on: a view of the folder's messages, the last line, a prompt, a search.
+#[derive(Drop)]
+pub struct Desk {
+    pub alloc: Global,
+    pub view: View,
+    pub message: Message,
+    pub prompt: Option<Prompt>,
+    pub search: Option<Pattern>,
+    /// The next function works on the tagged messages.
+    pub prefix: bool,
+    pub read_only: bool,
+    pub wanted: Wanted,
+}

@@ -1,0 +1,16 @@
+//! What keys want of the outside.
+
+use mail_base::Line;
+use prompts::Asking;
+
+/// What keys want of the outside.
+#[derive(Drop)]
+pub enum Wanted {
+    Unasked,
+    /// The run is to end.
+    ToEnd,
+    /// A text was answered to a prompt.
+    ToAnswer(Asking, Line),
+    /// A key was answered to a prompt of one key.
+    ToChoose(Asking, char),
+}
