@@ -42,7 +42,7 @@ module _ {X T : Type 0} (number : X → ℕ) (value : X → T) where
           get_or-set_at table (number x) n (option_or (slice_index_or table (number x) None)
           (Some (value x))) None same low
           ∙ ap (λ o. option_or o (Some (value x)))
-              (ap (λ m. slice_index_or table m None) (sym same) ∙ has n)
+          (ap (λ m. slice_index_or table m None) (sym same) ∙ has n)
           ∙ map_more value (find (λ y. nat_eq n (number y)) xs) x
           ∙ ap (λ (b : Bool). option_map value (option_or (find (λ y. nat_eq n (number y)) xs)
           (if b then Some x else None))) (sym is)
