@@ -1,7 +1,9 @@
 pub mod CandidatesLemmas
 pub mod CharsetLemmas
 pub mod DecodeLemmas
+pub mod FieldsSoFarLemmas
 pub mod IdsLemmas
+pub mod PeopleLemmas
 pub mod ReferencesLemmas
 pub mod SubjectLemmas
 pub mod ValuesLemmas

@@ -1,5 +1,5 @@
 -- What the bytes of an address list are: text, quotes, comments, brackets, separators (RFC 5322, sections 3.2, 3.4).
-use Rattle.std.specs.Prelude.{◌+◌, ◌-◌, ◌==◌, ◌||◌, ℕ, Bool, true, false, nat_le, List, [], ◌∷◌, if◌then◌else◌}
+use Rattle.std.specs.Prelude.{◌+◌, ◌-◌, ◌==◌, ◌||◌, ℕ, Bool, true, false, not, nat_le, List, [], ◌∷◌, if◌then◌else◌}
 use Rattle.std.specs.Str.{byte}
 use Rattle.headers.specs.declared.address_byte.AddressByte.{AddressByte}
 use Rattle.headers.specs.declared.address_byte.Role.{Role}
@@ -67,3 +67,10 @@ bytes_from s (b ∷ rest) = record { byte = b; role = (step s b).0 } ∷ bytes_f
 -- the bytes of an address list, each with what it is
 abbrev pub address_bytes : List ℕ → List AddressByte
 address_bytes value = bytes_from (state_in false Plain) value
+
+-- For the code alone.
+
+-- a byte that is text wherever it stands outside quotes and comments
+abbrev pub is_common : ℕ → Bool
+is_common b =
+    not (b == byte "\"" || b == byte "(" || b == byte "," || b == byte ":" || b == byte ";" || b == byte "<" || b == byte ">")

@@ -1,8 +1,9 @@
 -- The ids of the messages that a message may answer (RFC 5322, section 3.6.4).
-use Rattle.std.specs.Prelude.{◌++◌, ℕ, List, [], ◌∷◌, option_to_list, codes, if◌then◌else◌}
+use Rattle.std.specs.Prelude.{◌++◌, ℕ, List, [], ◌∷◌, map, option_to_list, codes, if◌then◌else◌}
 use Rattle.std.specs.List.{list_any}
 use Rattle.std.specs.Str.{bytes_eq}
 use Rattle.mail_base.specs.Lines.{PlainField}
+use Rattle.mail_base.specs.Series.{Held}
 use Rattle.headers.specs.References.{last_ids}
 use Rattle.headers.specs.Values.{id_in, references}
 
@@ -23,3 +24,9 @@ candidates_of replied references = new_ids [] (replied ++ last_ids references)
 -- the ids of the messages that this one may answer, the most likely first
 abbrev pub candidates : List PlainField → List (List ℕ)
 candidates fields = candidates_of (option_to_list (id_in (codes "in-reply-to") fields)) (references fields)
+
+-- For the code alone.
+
+-- the texts of ids, without their rooms
+abbrev pub texts : List (Held ℕ) → List (List ℕ)
+texts ids = map (λ id. id.items) ids

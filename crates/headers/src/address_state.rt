@@ -39,6 +39,7 @@ impl AddressState {
         ensures depth { spec.depth_at result.1.within ≤ spec.depth_at self.within + 1 }
     {
         let (role, within) = match self.within {
+            Within::Plain if is_common(byte) => (Role::Text, Within::Plain),
             Within::Plain => return plain_step(self.in_angle, byte),
             Within::Quotes => quotes_step(byte),
             Within::QuotedPair => (Role::Text, Within::Quotes),
@@ -47,6 +48,13 @@ impl AddressState {
         };
         (role, AddressState::new(self.in_angle, within))
     }
+}
+
+// Whether the byte is text wherever it stands outside quotes and comments, as most are.
+fn is_common(byte: u8) -> bool
+    ensures { result ≡ spec.is_common byte }
+{
+    !matches!(byte, b'"' | b'(' | b',' | b':' | b';' | b'<' | b'>')
 }
 
 fn plain_step(in_angle: bool, byte: u8) -> (Role, AddressState)
@@ -102,7 +110,7 @@ pub fn read_address_bytes(alloc: Global, value: &[u8]) -> Result<Vec<AddressByte
     let mut left = value;
     while let [first, rest @ ..] = left {
         let (role, next) = state.step(*first);
-        bytes.push(AddressByte { byte: *first, role })?;
+        bytes.push_reserved(AddressByte { byte: *first, role });
         state = next;
         left = rest;
     }

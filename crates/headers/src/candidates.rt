@@ -5,6 +5,7 @@ ghost use Rattle.std.specs.List.{list_any};
 ghost use Rattle.std.specs.Str.{bytes_eq};
 ghost use Rattle.mail_base.specs.Series.{plain_texts};
 ghost use Rattle.headers.specs.Candidates as spec;
+ghost use Rattle.headers.specs.Candidates.{texts};
 ghost use Rattle.headers.specs.Field.{plain_field};
 
 use crate::field::Field;
@@ -19,8 +20,8 @@ fn is_among(names: &[Bytes], id: &[u8]) -> bool
     names.iter().any(|name| id == name.as_slice())
 }
 
-fn add_new(alloc: Global, names: &mut Names, id: &[u8]) -> Result<(), NoMemory>
-    ensures { OnOk result (plain_texts names.new ≡ spec.with_id (plain_texts names.old) id.now) }
+fn add_new(alloc: Global, names: &mut Vec<Bytes>, id: &[u8]) -> Result<(), NoMemory>
+    ensures { OnOk result (texts names.new.items ≡ spec.with_id (texts names.old.items) id.now) }
 {
     if is_among(names.as_slice(), id) {
         return Ok(());
@@ -29,24 +30,24 @@ fn add_new(alloc: Global, names: &mut Names, id: &[u8]) -> Result<(), NoMemory>
     Ok(())
 }
 
-fn names_of(alloc: Global, id: Option<Bytes>) -> Result<Names, NoMemory>
-    ensures { IfOk result (λ n. plain_texts n ≡ option_to_list (option_map (λ i. i.items) id)) }
+// A list with room for the id, if there is one, and so many more.
+fn names_of(alloc: Global, id: Option<Bytes>, more: usize) -> Result<Vec<Bytes>, NoMemory>
+    ensures { IfOk result
+        (λ n. texts n.items ≡ option_to_list (option_map (λ i. i.items) id)) }
 {
-    let mut names = Names::new(alloc);
-    match id {
-        Some(id) => {
-            names.push(id)?;
-            Ok(names)
-        }
-        None => Ok(names),
-    }
+    let Some(id) = id else {
+        return Ok(Vec::with_capacity(alloc, more)?);
+    };
+    let mut names = Vec::with_capacity(alloc, more.saturating_add(1))?;
+    names.push(id)?;
+    Ok(names)
 }
 
 // Adds ids from last to first, each unless it is there already.
-fn add_backwards(alloc: Global, names: &mut Names, ids: &[Bytes]) -> Result<(), NoMemory>
-    ensures { OnOk result (plain_texts names.new
-        ≡ plain_texts names.old
-        ++ spec.new_ids (plain_texts names.old) (reverse (map (λ n. n.items) ids.now))) }
+fn add_backwards(alloc: Global, names: &mut Vec<Bytes>, ids: &[Bytes]) -> Result<(), NoMemory>
+    ensures { OnOk result (texts names.new.items
+        ≡ texts names.old.items
+        ++ spec.new_ids (texts names.old.items) (reverse (texts ids.now))) }
 {
     let mut left = ids;
     while let Some((last, rest)) = left.split_last() {
@@ -62,7 +63,9 @@ pub fn candidates_of(alloc: Global, fields: &[Field]) -> Result<Names, NoMemory>
     ensures { IfOk result (λ n. plain_texts n ≡ spec.candidates (map plain_field fields.now)) }
 {
     let references = last_references(alloc, fields)?;
-    let mut names = names_of(alloc, id_in(alloc, fields, b"in-reply-to")?)?;
+    let replied = id_in(alloc, fields, b"in-reply-to")?;
+    let mut names = names_of(alloc, replied, references.len())?;
     add_backwards(alloc, &mut names, references.as_slice())?;
-    Ok(names)
+    names.shrink_to_fit();
+    Ok(Names::from_vec(names))
 }

@@ -8,12 +8,12 @@ ghost use Rattle.headers.specs.Values as values;
 use crate::body_lines::body_lines;
 use crate::candidates::candidates_of;
 use crate::field::Fields;
-use crate::fields_so_far::read_fields;
+use crate::fields_so_far::{read_block, read_fields};
 use crate::person::Persons;
 use crate::sent_date::SentDate;
 use crate::subject::{base_of, has_prefix};
 use crate::values::{id_in, people_of, sent_in, subject_of};
-use mail_base::{Bytes, Line, Names, NoMemory, body_at};
+use mail_base::{Bytes, Line, Names, NoMemory};
 use std::alloc::Global;
 
 /// What the header block of a message says (RFC 5322, section 3.6).
@@ -48,7 +48,7 @@ pub fn read_header(alloc: Global, raw: &[u8]) -> Result<Header, NoMemory>
     ensures header { IfOk result (λ h. spec.plain_header h ≡ spec.header raw.now) }
     ensures within { IfOk result (λ h. h.body_at ≤ length raw.now) }
 {
-    let fields = read_fields(alloc, raw)?;
+    let (fields, body_at) = read_block(alloc, raw)?;
     let list = fields.as_slice();
     let subject = subject_of(alloc, list)?;
     let base_subject = base_of(alloc, &subject)?;
@@ -74,8 +74,8 @@ pub fn read_header(alloc: Global, raw: &[u8]) -> Result<Header, NoMemory>
         message_id,
         candidates,
         sent,
-        body_at: body_at(raw),
-        body_lines: body_lines(raw),
+        body_at,
+        body_lines: body_lines(raw, body_at),
     })
 }
 

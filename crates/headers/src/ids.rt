@@ -29,9 +29,9 @@ impl<'a> FoundId<'a> {
 pub fn bracketed(alloc: Global, inside: &[u8]) -> Result<Bytes, NoMemory>
     ensures { IfOk result (λ b. b.items ≡ spec.id_of inside.now) }
 {
-    let mut id = Bytes::new(alloc);
+    let mut id = Vec::with_capacity(alloc, inside.len() + 2)?;
     id.push(b'<')?;
-    id.append(inside)?;
+    id.extend_from_slice(inside)?;
     id.push(b'>')?;
-    Ok(id)
+    Ok(Bytes::from_vec(id))
 }

@@ -1,11 +1,12 @@
 //! The persons of address fields (RFC 5322, section 3.4).
 
 ghost use Rattle.std.specs.Prelude.{◌≡◌, ◌++◌, ◌∷◌, [], ◌<◌, not, filter, length, position, IfOk, OnOk, IfSome};
-ghost use Rattle.std.specs.Prelude.{IfNone, option_map, option_to_list};
+ghost use Rattle.std.specs.Prelude.{IfNone, false, map, option_map, option_to_list};
 ghost use Rattle.std.specs.List.{list_all, slice_split, before_first, after_first, after_last};
 ghost use Rattle.mail_base.specs.Blanks as blanks;
 ghost use Rattle.mail_base.specs.Places.{IsLastPlace};
 ghost use Rattle.headers.specs.AddressByte as address;
+ghost use Rattle.headers.specs.Decode.{decoded_words};
 ghost use Rattle.headers.specs.People as spec;
 ghost use Rattle.headers.specs.Person.{plain_person, plain_persons};
 
@@ -119,43 +120,74 @@ impl<'a> Brackets<'a> {
     }
 }
 
-fn shown_name(alloc: Global, bytes: &[AddressByte]) -> Result<Line, NoMemory>
-    ensures { IfOk result (λ l. l.items ≡ spec.shown_name bytes.now) }
+// The bytes without the blanks at their ends.
+fn trimmed_bytes(alloc: Global, mut bytes: Vec<u8>) -> Result<Bytes, NoMemory>
+    ensures { IfOk result (λ b. b.items ≡ blanks.trimmed bytes.items) }
 {
-    decode_words(alloc, trimmed(&bytes_of(alloc, bytes)?))
+    if has_blank_end(&bytes) {
+        return Bytes::copy_of(alloc, trimmed(&bytes));
+    }
+    bytes.shrink_to_fit();
+    Ok(Bytes::from_vec(bytes))
 }
 
-fn address_of(alloc: Global, bytes: &[AddressByte]) -> Result<Bytes, NoMemory>
-    ensures { IfOk result (λ b. b.items ≡ blanks.trimmed (address.bytes_of bytes.now)) }
+// Whether blanks stand at an end.
+fn has_blank_end(bytes: &[u8]) -> bool
+    ensures { result ≡ false → blanks.trimmed bytes.now ≡ bytes.now }
 {
-    Bytes::copy_of(alloc, trimmed(&bytes_of(alloc, bytes)?))
+    trimmed(bytes).len() < bytes.len()
 }
 
-fn without_comments(alloc: Global, bytes: &[AddressByte]) -> Result<Vec<AddressByte>, NoMemory>
-    ensures { IfOk result (λ v. v.items ≡ filter (λ b. not (address.is_comment b)) bytes.now) }
+fn shown_name(alloc: Global, bytes: &[u8]) -> Result<Line, NoMemory>
+    ensures { IfOk result (λ l. l.items ≡ decoded_words (blanks.trimmed bytes.now)) }
 {
-    let kept = bytes.iter().copied().filter(|b| !b.is_comment());
-    Ok(kept.collect(alloc)?)
+    decode_words(alloc, trimmed(bytes))
 }
 
-fn without_quotes(alloc: Global, bytes: &[AddressByte]) -> Result<Vec<AddressByte>, NoMemory>
-    ensures { IfOk result (λ v. v.items ≡ filter (λ b. not (address.has Role.Quote b)) bytes.now) }
+fn without_comments(alloc: Global, bytes: &[AddressByte]) -> Result<Vec<u8>, NoMemory>
+    ensures { IfOk result (λ v. v.items
+        ≡ address.bytes_of (filter (λ b. not (address.is_comment b)) bytes.now)) }
 {
-    let kept = bytes.iter().copied().filter(|b| !b.has(Role::Quote));
-    Ok(kept.collect(alloc)?)
+    let kept = bytes.iter().filter(|b| !b.is_comment());
+    Ok(kept.map(|b| b.byte).collect(alloc)?)
+}
+
+// Adds the bytes that are no quotes at the end.
+fn append_unquoted(name: &mut Vec<u8>, bytes: &[AddressByte]) -> Result<(), NoMemory>
+    ensures { OnOk result (name.new.items ≡ name.old.items
+        ++ address.bytes_of (filter (λ b. not (address.has Role.Quote b)) bytes.now)) }
+{
+    let mut left = bytes;
+    while let [first, rest @ ..] = left {
+        if !first.has(Role::Quote) {
+            name.push(first.byte)?;
+        }
+        left = rest;
+    }
+    Ok(())
 }
 
 impl Brackets<'_> {
+    // What stands round the brackets, without quotes.
+    fn name(&self, alloc: Global) -> Result<Vec<u8>, NoMemory>
+        ensures { IfOk result (λ v. v.items
+            ≡ address.bytes_of (filter (λ b. not (address.has Role.Quote b))
+            (self.now.before.now ++ self.now.behind.now))) }
+    {
+        let room = self.before.len().saturating_add(self.behind.len());
+        let mut name = Vec::with_capacity(alloc, room)?;
+        append_unquoted(&mut name, self.before)?;
+        append_unquoted(&mut name, self.behind)?;
+        Ok(name)
+    }
+
     fn to_person(self, alloc: Global) -> Result<Person, NoMemory>
         ensures { IfOk result
             (λ p. plain_person p ≡ spec.bracketed (spec.plain_brackets self.entry)) }
     {
-        let mut rest = self.before.to_vec(alloc)?;
-        rest.extend_from_slice(self.behind)?;
-        let rest = without_quotes(alloc, &rest)?;
         Ok(Person {
-            name: shown_name(alloc, &rest)?,
-            address: address_of(alloc, self.inside)?,
+            name: shown_name(alloc, &self.name(alloc)?)?,
+            address: trimmed_bytes(alloc, bytes_of(alloc, self.inside)?)?,
         })
     }
 }
@@ -163,10 +195,9 @@ impl Brackets<'_> {
 fn unbracketed(alloc: Global, bytes: &[AddressByte]) -> Result<Person, NoMemory>
     ensures { IfOk result (λ p. plain_person p ≡ spec.unbracketed bytes.now) }
 {
-    let rest = without_comments(alloc, bytes)?;
     Ok(Person {
-        name: shown_name(alloc, first_comment(bytes))?,
-        address: address_of(alloc, &rest)?,
+        name: shown_name(alloc, &bytes_of(alloc, first_comment(bytes))?)?,
+        address: trimmed_bytes(alloc, without_comments(alloc, bytes)?)?,
     })
 }
 
@@ -186,21 +217,30 @@ fn is_all_blank(bytes: &[AddressByte]) -> bool
     bytes.iter().all(|b| is_blank(b.byte))
 }
 
-fn add_person(alloc: Global, persons: &mut Persons, piece: &[AddressByte]) -> Result<(), NoMemory>
-    ensures { OnOk result (plain_persons persons.new
-        ≡ plain_persons persons.old ++ option_to_list (spec.person_in piece.now)) }
+fn add_person(
+    alloc: Global,
+    persons: &mut Vec<Person>,
+    piece: &[AddressByte],
+) -> Result<(), NoMemory>
+    ensures { OnOk result (map plain_person persons.new.items
+        ≡ map plain_person persons.old.items ++ option_to_list (spec.person_in piece.now)) }
 {
     let bytes = behind_group(piece);
     if is_all_blank(bytes) {
         return Ok(());
     }
-    persons.push(person_of(alloc, bytes)?)
+    // Most fields have one person.
+    if persons.is_empty() {
+        persons.reserve_exact(1)?;
+    }
+    persons.push(person_of(alloc, bytes)?)?;
+    Ok(())
 }
 
 /// Adds the persons of an address field at the end of the list.
-pub fn add_people(alloc: Global, persons: &mut Persons, value: &[u8]) -> Result<(), NoMemory>
-    ensures { OnOk result (plain_persons persons.new
-        ≡ plain_persons persons.old ++ spec.people value.now) }
+pub fn add_people(alloc: Global, persons: &mut Vec<Person>, value: &[u8]) -> Result<(), NoMemory>
+    ensures { OnOk result (map plain_person persons.new.items
+        ≡ map plain_person persons.old.items ++ spec.people value.now) }
 {
     let bytes = read_address_bytes(alloc, value)?;
     let mut left = bytes.as_slice();
@@ -211,11 +251,19 @@ pub fn add_people(alloc: Global, persons: &mut Persons, value: &[u8]) -> Result<
     add_person(alloc, persons, left)
 }
 
+/// A list with no more room than it needs.
+pub fn persons_of(mut persons: Vec<Person>) -> Persons
+    ensures { result.items ≡ persons.items }
+{
+    persons.shrink_to_fit();
+    Persons::from_vec(persons)
+}
+
 /// The persons of an address field (RFC 5322, section 3.4); no address is refused.
 pub fn read_people(alloc: Global, value: &[u8]) -> Result<Persons, NoMemory>
     ensures { IfOk result (λ p. plain_persons p ≡ spec.people value.now) }
 {
-    let mut persons = Persons::new(alloc);
+    let mut persons = Vec::new(alloc);
     add_people(alloc, &mut persons, value)?;
-    Ok(persons)
+    Ok(persons_of(persons))
 }

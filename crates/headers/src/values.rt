@@ -9,7 +9,7 @@ ghost use Rattle.headers.specs.Values as spec;
 use crate::decode::decode_words;
 use crate::field::Field;
 use crate::ids::{FoundId, bracketed};
-use crate::people::add_people;
+use crate::people::{add_people, persons_of};
 use crate::person::Persons;
 use crate::sent_date::SentDate;
 use mail_base::{Bytes, Line, NoMemory, is_same_name};
@@ -40,7 +40,7 @@ pub fn people_of(alloc: Global, fields: &[Field], name: &[u8]) -> Result<Persons
     ensures { IfOk result
         (λ p. plain_persons p ≡ spec.persons name.now (map plain_field fields.now)) }
 {
-    let mut persons = Persons::new(alloc);
+    let mut persons = Vec::new(alloc);
     let mut left = fields;
     while let [first, rest @ ..] = left {
         if is_same_name(first.name.as_slice(), name) {
@@ -48,7 +48,7 @@ pub fn people_of(alloc: Global, fields: &[Field], name: &[u8]) -> Result<Persons
         }
         left = rest;
     }
-    Ok(persons)
+    Ok(persons_of(persons))
 }
 
 /// The first id of the first field of the name.

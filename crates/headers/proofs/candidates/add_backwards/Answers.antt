@@ -1,13 +1,13 @@
 use Rattle.std.proofs.Common.{◌≡◌, List, ℕ, ◌++◌, ◌∷◌, [], map, reverse, sym, ap, ◌∙◌}
 use Rattle.std.proofs.lemmas.List.{map-append, reverse-append}
 use Rattle.headers.specs.Candidates.{new_ids, with_id}
-use Rattle.mail_base.specs.Series.{plain_texts}
+use Rattle.headers.specs.Candidates.{texts}
 use Rattle.headers.proofs.CandidatesLemmas.{new_ids-more}
 use Rattle.headers.proofs.candidates.add_backwards.Goals as goal
 
 pub loop-last-preserved : goal.loop-last-preserved
 loop-last-preserved c =
-    let names = plain_texts c.loop-last.names in
+    let names = texts c.loop-last.names.items in
     let last = c.in-Some.last.now in
     let rest = c.in-Some.rest.now in
     let left = c.loop-last.left.now in
@@ -18,7 +18,7 @@ loop-last-preserved c =
     ∙ ap reverse (map-append (λ n. n.items) rest (last ∷ []))
     ∙ reverse-append (map (λ n. n.items) rest) (last.items ∷ [])
     in
-    let added : plain_texts c.add_new.new.names ≡ with_id names last.items =
+    let added : texts c.add_new.new.names.items ≡ with_id names last.items =
     c.in_ok-add_new.ensures ∙ ap (with_id names) c.as_slice.ensures in
     ap (λ (ns : List (List ℕ)). ns ++ new_ids ns before) added
     ∙ new_ids-more names last.items before

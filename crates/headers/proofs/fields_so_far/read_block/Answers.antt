@@ -1,0 +1,14 @@
+use Rattle.std.proofs.Common.{length, ap, ◌∙◌, arith, zero-add}
+use Rattle.std.specs.List.{concat}
+use Rattle.bstr.proofs.lemmas.RestLemmas.{concat-lines_of}
+use Rattle.mail_base.specs.Lines.{fields_of, header_block}
+use Rattle.headers.proofs.fields_so_far.read_block.Goals as goal
+
+pub loop-line-init : goal.loop-line-init
+loop-line-init c =
+    let value = c.into_iter-line-iterator.ensures.into_iter_gives ∙ c.lines_with_terminator-line-items.ensures.value in
+    record {
+      fields = c.in_ok-so_far.ensures _ ∙ ap (λ lines. fields_of (header_block lines)) value;
+      within = omega (arith, ap length (ap concat value ∙ concat-lines_of c.args.raw.now));
+      block = zero-add _ ∙ ap (λ lines. length (concat (header_block lines))) value;
+    }
