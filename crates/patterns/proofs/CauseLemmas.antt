@@ -1,6 +1,6 @@
 -- Verdicts on the expressions of a pattern.
 use Rattle.std.proofs.Common.{◌≡◌, ◌∙◌, ◌++◌, ◌≤◌, ◌⊎◌, ◌&&◌, ℕ, Bool, true, false, List, [], ◌∷◌}
-use Rattle.std.proofs.Common.{Option, Some, None, Ok, Err, is_some, option_map, append_assoc, map, refl}
+use Rattle.std.proofs.Common.{Option, Some, None, Result, Ok, Err, is_some, option_map, append_assoc, map, refl}
 use Rattle.std.proofs.Common.{sym, ap, subst, arith, inl, inr}
 use Rattle.std.specs.Prelude.{if◌then◌else◌}
 use Rattle.std.specs.List.{list_all}
@@ -14,7 +14,8 @@ use Rattle.people.specs.Judged.{with_verdict}
 use Rattle.people.specs.declared.error.ExprError.{ExprError}
 use Rattle.people.specs.declared.error.ExprError.TheVariants as expr
 use Rattle.people.specs.declared.judged.Verdict.{Verdict}
-use Rattle.people.specs.declared.judged.Verdict.TheVariants.{Good, Size}
+use Rattle.people.specs.declared.judged.Verdict.TheVariants.{Good, Syntax, Size}
+use Rattle.std.proofs.Math.Bool.{and-false}
 use Rattle.std.proofs.lemmas.List.{map-append}
 use Rattle.patterns_match.specs.Asked.{asked_operations}
 use Rattle.patterns.specs.Exprs.{asked, expr_of, exprs_in, leaf_expr}
@@ -24,12 +25,12 @@ use Rattle.patterns_match.specs.Operations.{operation_map}
 use Rattle.patterns_match.specs.Trees.{Tells, Searches, Dated, Counts}
 use Rattle.patterns_match.specs.declared.asked.Asked.{Asked}
 use Rattle.patterns_match.specs.declared.operation.Operation.TheVariants as operation
-use Rattle.patterns.specs.Causes.{Halfway, Judges, SomeOf, is_good}
+use Rattle.patterns.specs.Causes.{Halfway, Judges, Keeps, SomeOf, is_found_good, is_good}
+use Rattle.patterns.specs.Causes.{is_good_on}
 use Rattle.patterns.specs.Errors.{is_fault, of_expr_error}
 use Rattle.patterns_match.specs.Trees.{Leaf}
 use Rattle.patterns_match.specs.declared.letter.Field.{Field}
 use Rattle.patterns_match.specs.declared.operation.Operation.{Operation}
-use Rattle.patterns.specs.declared.pattern_error.PatternError.{PatternError}
 use Rattle.patterns.specs.declared.pattern_error.PatternError.TheVariants as error
 
 -- what is judged stays so with a further text
@@ -118,6 +119,46 @@ size_stays list t text b a is =
     (judged_of (with_verdict list t (Some Good) b a) text) j refl
     (added_more (is_some (verdict_on list t)) list j text) is
 
+-- the lists that keep a further verdict
+keeps_more : (list : List PlainJudged) (t : List ℕ) (w : Option Verdict) (b a : ℕ)
+    → Keeps list (with_verdict list t w b a)
+keeps_more list t w b a = record { stays = λ text v is. verdict_stays list t text w b a v is }
+
+pub keeps_on : (old mid new : List PlainJudged) → Keeps old mid → Keeps mid new → Keeps old new
+keeps_on old mid new first next = record {
+  stays = λ text v is. next.stays text v (first.stays text v is);
+}
+
+-- what was found good stays so
+pub found_kept : (new list : List PlainJudged) (texts : List (List ℕ)) → Keeps new list
+    → list_all (is_good_on new) texts ≡ true → list_all (is_good_on list) texts ≡ true
+found_kept new list [] kept is = refl
+found_kept new list (t ∷ texts) kept is =
+    by_verdict (verdict_on new t) refl is (found_kept new list texts kept)
+  where
+    by_verdict : (v : Option Verdict) → verdict_on new t ≡ v
+        → (is_found_good v && list_all (is_good_on new) texts) ≡ true
+        → (list_all (is_good_on new) texts ≡ true → list_all (is_good_on list) texts ≡ true)
+        → (is_good_on list t && list_all (is_good_on list) texts) ≡ true
+    by_verdict None at so on = cc
+    by_verdict (Some Good) at so on =
+        ap (λ v. is_found_good v && list_all (is_good_on list) texts) (kept.stays t Good at)
+        ∙ on so
+    by_verdict (Some Syntax) at so on = cc
+    by_verdict (Some Size) at so on = cc
+
+-- where one was found bad, not all were found good
+pub lost_kept : (new list : List PlainJudged) (v : Verdict) (texts : List (List ℕ))
+    → Keeps new list → is_found_good (Some v) ≡ false → SomeOf (λ t. verdict_on new t ≡ Some v) texts
+    → list_all (is_good_on list) texts ≡ false
+lost_kept new list v [] kept bad is = absurd is
+lost_kept new list v (t ∷ texts) kept bad (inl is) =
+    ap (λ w. is_found_good w && list_all (is_good_on list) texts) (kept.stays t v is)
+    ∙ ap (λ b. b && list_all (is_good_on list) texts) bad
+lost_kept new list v (t ∷ texts) kept bad (inr is) =
+    ap (λ b. is_good_on list t && b) (lost_kept new list v texts kept bad is)
+    ∙ and-false (is_good_on list t)
+
 rose_from : (b m a : ℕ) → b ≤ m → Rose m a → Rose b a
 rose_from b m a le (inl up) = inl (omega arith)
 rose_from b m a le (inr last) = inr last
@@ -125,12 +166,13 @@ rose_from b m a le (inr last) = inr last
 pub halfway_start : (all : List (Operation Leaf)) (old : List PlainJudged) (b : ℕ)
     → Halfway all all old old b b
 halfway_start all old b = record {
-  stays = λ text v is. is;
+  keeps = record { stays = λ text v is. is };
   sizes = λ text is. is;
   later = omega arith;
   good = refl;
   syntax = λ s. s;
-  size = λ s. s;
+  found = λ list kept is. is;
+  lost = λ list v s. s;
 }
 
 module _ {all rest : List (Operation Leaf)} {o : Operation Leaf} {old mid : List PlainJudged}
@@ -140,12 +182,13 @@ module _ {all rest : List (Operation Leaf)} {o : Operation Leaf} {old mid : List
 
   pub halfway_skip : expr_of o ≡ None → Halfway all rest old mid b m
   halfway_skip is = record {
-    stays = so.stays;
+    keeps = so.keeps;
     sizes = so.sizes;
     later = so.later;
     good = ap (list_all is_good) (sym (with_none is)) ∙ so.good;
     syntax = λ s. so.syntax (subst (SomeOf (λ t. is_readable t ≡ false)) (sym (with_none is)) s);
-    size = λ s. so.size (subst (SomeOf (λ t. verdict_on old t ≡ Some Size))
+    found = λ list kept s. so.found list kept (ap (list_all (is_good_on list)) (with_none is) ∙ s);
+    lost = λ list v s. so.lost list v (subst (SomeOf (λ t. verdict_on list t ≡ Some v))
         (sym (with_none is)) s);
   }
 
@@ -153,12 +196,17 @@ module _ {all rest : List (Operation Leaf)} {o : Operation Leaf} {old mid : List
     with_text : exprs_in (o ∷ rest) ≡ utf8_text text ∷ exprs_in rest
     with_text = ap (λ e. with_expr e (exprs_in rest)) is
 
+    -- the verdicts before are kept
+    more : {T : Type 0} {r : Result T ExprError} {new : List PlainJudged} {a : ℕ}
+        → Reads (utf8_text text) r mid new m a → Keeps mid new
+    more {r = r} {a = a} reads =
+        subst (Keeps mid) (sym reads.judged) (keeps_more mid (utf8_text text) (verdict_of r) m a)
+
     pub halfway_on : {T : Type 0} {x : T} {new : List PlainJudged} {a : ℕ}
         → Reads (utf8_text text) (Ok x) mid new m a
         → Halfway all rest old new b a
     halfway_on {new = new} {a = a} reads = record {
-      stays = λ t v was. subst (λ l. verdict_on l t ≡ Some v) (sym reads.judged)
-          (verdict_stays mid (utf8_text text) t (Some Good) m a v (so.stays t v was));
+      keeps = keeps_on old mid new so.keeps (more reads);
       sizes = λ t was. so.sizes t (size_stays mid (utf8_text text) t m a
           (subst (λ l. verdict_on l t ≡ Some Size) reads.judged was));
       later = omega (arith, so.later, reads.later);
@@ -166,67 +214,91 @@ module _ {all rest : List (Operation Leaf)} {o : Operation Leaf} {old mid : List
           ∙ ap (list_all is_good) (sym with_text) ∙ so.good;
       syntax = λ s. so.syntax (subst (SomeOf (λ t. is_readable t ≡ false)) (sym with_text)
           (inr s));
-      size = λ s. so.size (subst (SomeOf (λ t. verdict_on old t ≡ Some Size)) (sym with_text)
-          (inr s));
+      found = λ list kept s. so.found list (keeps_on mid new list (more reads) kept)
+          (ap (list_all (is_good_on list)) with_text
+          ∙ ap (λ v. is_found_good v && list_all (is_good_on list) (exprs_in rest))
+          (kept.stays (utf8_text text) Good reads.verdict) ∙ s);
+      lost = λ list v s. so.lost list v (subst (SomeOf (λ t. verdict_on list t ≡ Some v))
+          (sym with_text) (inr s));
     }
 
-    stops : {T : Type 0} (e : ExprError) (r : PatternError) {new : List PlainJudged} {a : ℕ}
-        → new ≡ with_verdict mid (utf8_text text) (verdict_of {T = T} (Err e)) m a → m ≤ a
-        → (r ≡ error.RegexSyntax → is_readable (utf8_text text) ≡ false)
-        → (r ≡ error.RegexSize → (verdict_on mid (utf8_text text) ≡ Some Size) ⊎ Rose m a)
-        → Judges {T = T} (exprs_in all) (Err r) old new b a
-    stops {T = T} e r {new = new} {a = a} judged later syntax size = record {
-      stays = λ t v was. subst (λ l. verdict_on l t ≡ Some v) (sym judged)
-          (verdict_stays mid (utf8_text text) t (verdict_of {T = T} (Err e)) m a v (so.stays t v was));
-      sizes = tt;
-      later = omega arith;
-      good = tt;
-      syntax = λ s. so.syntax (subst (SomeOf (λ t. is_readable t ≡ false)) (sym with_text)
-          (inl (syntax (cc))));
-      size = λ s. by_cause (size (cc));
-    }
-      where
-        by_cause : (verdict_on mid (utf8_text text) ≡ Some Size) ⊎ Rose m a
-            → SomeOf (λ t. verdict_on old t ≡ Some Size) (exprs_in all) ⊎ Rose b a
-        by_cause (inl was) =
-            inl (so.size (subst (SomeOf (λ t. verdict_on old t ≡ Some Size)) (sym with_text)
-            (inl (so.sizes (utf8_text text) was))))
-        by_cause (inr rose) = inr (rose_from b m a so.later rose)
+    -- its verdict stands among those of all
+    among : (list : List PlainJudged) (v : Verdict) → verdict_on list (utf8_text text) ≡ Some v
+        → SomeOf (λ t. verdict_on list t ≡ Some v) (exprs_in all)
+    among list v at = so.lost list v
+        (subst (SomeOf (λ t. verdict_on list t ≡ Some v)) (sym with_text) (inl at))
+
+    by_cause : {a : ℕ} → (verdict_on mid (utf8_text text) ≡ Some Size) ⊎ Rose m a
+        → SomeOf (λ t. verdict_on old t ≡ Some Size) (exprs_in all) ⊎ Rose b a
+    by_cause (inl was) = inl (among old Size (so.sizes (utf8_text text) was))
+    by_cause {a = a} (inr rose) = inr (rose_from b m a so.later rose)
 
     pub halfway_stop : {S T : Type 0} (e : ExprError) {new : List PlainJudged} {a : ℕ}
         → Reads {T = S} (utf8_text text) (Err e) mid new m a
         → Judges {T = T} (exprs_in all) (Err (of_expr_error e)) old new b a
-    halfway_stop expr.Syntax reads =
-        stops expr.Syntax error.RegexSyntax reads.judged reads.later
-        (λ _. reads.syntax_cause refl) (λ is. cc)
-    halfway_stop expr.Size reads =
-        stops expr.Size error.RegexSize reads.judged reads.later (λ is. cc)
-        (λ _. reads.size_cause refl)
-    halfway_stop expr.NoMemory reads =
-        stops expr.NoMemory error.NoMemory reads.judged reads.later (λ is. cc) (λ is. cc)
+    halfway_stop expr.Syntax {new = new} reads = record {
+      keeps = keeps_on old mid new so.keeps (more reads);
+      sizes = tt;
+      later = omega (arith, so.later, reads.later);
+      good = tt;
+      syntax = λ s. so.syntax (subst (SomeOf (λ t. is_readable t ≡ false)) (sym with_text)
+          (inl (reads.syntax_cause refl)));
+      size = λ s. cc;
+      found = tt;
+      lost_syntax = λ s. among new Syntax reads.verdict;
+      lost_size = λ s. cc;
+    }
+    halfway_stop expr.Size {new = new} reads = record {
+      keeps = keeps_on old mid new so.keeps (more reads);
+      sizes = tt;
+      later = omega (arith, so.later, reads.later);
+      good = tt;
+      syntax = λ s. cc;
+      size = λ s. by_cause (reads.size_cause refl);
+      found = tt;
+      lost_syntax = λ s. cc;
+      lost_size = λ s. among new Size reads.verdict;
+    }
+    halfway_stop expr.NoMemory {new = new} reads = record {
+      keeps = keeps_on old mid new so.keeps (more reads);
+      sizes = tt;
+      later = omega (arith, so.later, reads.later);
+      good = tt;
+      syntax = λ s. cc;
+      size = λ s. cc;
+      found = tt;
+      lost_syntax = λ s. cc;
+      lost_size = λ s. cc;
+    }
 
 pub halfway_end : {T : Type 0} {x : T} {all : List (Operation Leaf)} {old new : List PlainJudged}
     {b a : ℕ} → Halfway all [] old new b a
     → Judges (exprs_in all) (Ok x) old new b a
-halfway_end so = record {
-  stays = so.stays;
+halfway_end {new = new} so = record {
+  keeps = so.keeps;
   sizes = so.sizes;
   later = so.later;
   good = sym so.good;
   syntax = λ s. cc;
   size = λ s. cc;
+  found = so.found new (record { stays = λ text v is. is }) refl;
+  lost_syntax = λ s. cc;
+  lost_size = λ s. cc;
 }
 
 pub no_memory : {T : Type 0} {all left : List (Operation Leaf)} {old new : List PlainJudged}
     {b a : ℕ} → Halfway all left old new b a
     → Judges {T = T} (exprs_in all) (Err error.NoMemory) old new b a
 no_memory so = record {
-  stays = so.stays;
+  keeps = so.keeps;
   sizes = tt;
   later = so.later;
   good = tt;
   syntax = λ s. cc;
   size = λ s. cc;
+  found = tt;
+  lost_syntax = λ s. cc;
+  lost_size = λ s. cc;
 }
 
 leaf_asked : (leaf : Leaf) (field : Field) (text : List ℕ) → leaf_expr leaf ≡ Some (field, text)

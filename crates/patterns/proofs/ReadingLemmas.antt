@@ -1,17 +1,23 @@
 -- Patterns with their expressions read.
-use Rattle.std.proofs.Common.{◌≡◌, ◌∙◌, ◌++◌, ℕ, false, List, [], ◌∷◌, Result, Ok, Err, IsOk, length}
+use Rattle.std.proofs.Common.{◌≡◌, ◌∙◌, ◌++◌, ℕ, Bool, true, false, List, [], ◌∷◌, Some, None}
+use Rattle.std.proofs.Common.{Result, Ok, Err, IsOk, length}
+use Rattle.std.specs.Prelude.{if◌then◌else◌}
+use Rattle.std.specs.List.{list_all}
 use Rattle.std.proofs.Common.{map, refl, sym, ap, subst, arith}
 use Rattle.std.proofs.lemmas.List.{length-map, map-append}
 use Rattle.people.specs.Judged.{PlainJudged}
 use Rattle.patterns_match.specs.Asked.{asked_operations, asked_tree}
-use Rattle.patterns.specs.Exprs.{asked, exprs_in, tree_map}
-use Rattle.patterns.specs.Causes.{Judges}
+use Rattle.patterns.specs.Exprs.{asked, exprs, exprs_in, tree_map}
+use Rattle.patterns.specs.Causes.{Judges, Keeps, is_good_on}
+use Rattle.people.specs.declared.judged.Verdict.TheVariants.{Syntax, Size}
+use Rattle.patterns.proofs.CauseLemmas.{found_kept, lost_kept}
 use Rattle.patterns.specs.Errors.{is_fault, of_read_error}
 use Rattle.patterns.specs.Faults.{Empty, UnknownLetter, Unbalanced, BadRange, BadDate, TooDeep}
 use Rattle.patterns.specs.Faults.{Reading, reading_map}
 use Rattle.patterns_match.specs.Operations.{IsCode, code, operation_map}
 use Rattle.patterns.specs.Needs.{made, plain_operations}
-use Rattle.patterns.specs.Readings.{IsErrorOf, IsRead, exprs_read}
+use Rattle.patterns.specs.Readings.{IsAnswer, IsErrorOf, IsRead, IsReading, exprs_read}
+use Rattle.patterns.specs.Readings.{reading_by}
 use Rattle.patterns.specs.States.{Fails}
 use Rattle.patterns_match.specs.Trees.{Leaf, Tree, Asks, Not, And, Or, Group, Related}
 use Rattle.patterns_match.specs.declared.asked.Asked.{Asked}
@@ -117,23 +123,79 @@ same_error : {T : Type 0} (r : Result T PatternError) (e f : PatternError) → r
     → r ≡ Err f → e ≡ f
 same_error r e f is was = cc
 
+-- one error of two results
+same_fault : {S T : Type 0} (r : Result S PatternError) (s : Result T PatternError)
+    (e f : PatternError) → r ≡ Err e → s ≡ Err e → r ≡ Err f → s ≡ Err f
+same_fault r s e f is too was = too ∙ ap Err (same_error r e f is was)
+
+where_all : (good : Bool) (x y : Tree) → good ≡ true → x ≡ y
+    → (if good then Some x else None) ≡ Some y
+where_all good x y is same = ap (λ b. if b then Some x else None) is ∙ ap Some same
+
+where_lost : (good : Bool) (x : Tree) → good ≡ false → (if good then Some x else None) ≡ None
+where_lost good x is = ap (λ b. if b then Some x else None) is
+
+tree_is : (x y : Tree) → reading_map (tree_map asked) (Ok x) ≡ Ok y → tree_map asked x ≡ y
+tree_is x y is = cc
+
+-- an answer is the reading by each list that keeps the verdicts
+answer_later : {T : Type 0} (view : T → Tree) (expected : Reading Tree)
+    (result : Result T PatternError) {old new : List PlainJudged} {b a : ℕ}
+    → IsAnswer view expected result
+    → Judges (exprs_read expected) result old new b a
+    → (list : List PlainJudged) → Keeps new list
+    → IsReading view (reading_by list expected) result
+answer_later view (Ok tree) (Ok pattern) {new = new} is j list kept =
+    where_all (list_all (is_good_on list) (exprs tree)) (tree_map asked tree) (view pattern)
+    (found_kept new list (exprs tree) kept j.found)
+    (tree_is tree (view pattern) is)
+answer_later view (Err fault) (Ok pattern) is j list kept = cc
+answer_later view expected (Err error.Empty) is j list kept = ap (reading_by list) is
+answer_later view expected (Err (error.UnknownLetter place)) is j list kept =
+    ap (reading_by list) is
+answer_later view expected (Err (error.Unbalanced place)) is j list kept = ap (reading_by list) is
+answer_later view expected (Err (error.BadRange place)) is j list kept = ap (reading_by list) is
+answer_later view expected (Err (error.BadDate place)) is j list kept = ap (reading_by list) is
+answer_later view expected (Err error.TooDeep) is j list kept = ap (reading_by list) is
+answer_later view (Ok tree) (Err error.RegexSyntax) {new = new} is j list kept =
+    where_lost (list_all (is_good_on list) (exprs tree)) (tree_map asked tree)
+    (lost_kept new list Syntax (exprs tree) kept refl (j.lost_syntax refl))
+answer_later view (Err fault) (Err error.RegexSyntax) is j list kept = refl
+answer_later view (Ok tree) (Err error.RegexSize) {new = new} is j list kept =
+    where_lost (list_all (is_good_on list) (exprs tree)) (tree_map asked tree)
+    (lost_kept new list Size (exprs tree) kept refl (j.lost_size refl))
+answer_later view (Err fault) (Err error.RegexSize) is j list kept = refl
+answer_later view expected (Err error.NoMemory) is j list kept = tt
+
+is_read : {T : Type 0} (view : T → Tree) (expected : Reading Tree)
+    (result : Result T PatternError) {old new : List PlainJudged} {b a : ℕ}
+    → IsAnswer view expected result
+    → Judges (exprs_read expected) result old new b a
+    → IsRead view expected result old new b a
+is_read view expected result is j = record {
+  answer = is;
+  judges = j;
+  later = answer_later view expected result is j;
+}
+
 -- a text whose form is at fault
 pub read_fails : {T : Type 0} (view : T → Tree) (e : ReadError) (expected : Reading Tree)
     (kept : List PlainJudged) (count : ℕ) → Fails e expected
     → IsRead view expected (Err (of_read_error e)) kept kept count count
-read_fails {T = T} view e expected kept count fails = record {
-  answer = form_error expected e fails;
-  judges = record {
-    stays = λ t v is. is;
-    sizes = tt;
-    later = omega arith;
-    good = tt;
-    syntax = λ is. absurd (no_syntax e (same_error {T = T} (Err (of_read_error e)) (of_read_error e) error.RegexSyntax
-        refl is));
-    size = λ is. absurd (no_size e (same_error {T = T} (Err (of_read_error e)) (of_read_error e) error.RegexSize
-        refl is));
-  };
-}
+read_fails {T = T} view e expected kept count fails =
+    let cause : PatternError = of_read_error e in
+    let result : Result T PatternError = Err cause in
+    is_read view expected result (form_error expected e fails) (record {
+      keeps = record { stays = λ t v is. is };
+      sizes = tt;
+      later = omega arith;
+      good = tt;
+      syntax = λ is. absurd (no_syntax e (same_error result cause error.RegexSyntax refl is));
+      size = λ is. absurd (no_size e (same_error result cause error.RegexSize refl is));
+      found = tt;
+      lost_syntax = λ is. absurd (no_syntax e (same_error result cause error.RegexSyntax refl is));
+      lost_size = λ is. absurd (no_size e (same_error result cause error.RegexSize refl is));
+    })
 
 expr_error : (expected : Reading Tree) (e : PatternError) → is_fault e ≡ false → IsOk expected
     → IsErrorOf expected e
@@ -160,30 +222,34 @@ module _ {S T : Type 0} (view : T → Tree) (needs : List (Operation Need))
       → Judges {T = S} (exprs_in (plain_operations needs)) (Err e) old new b a
       → IsRead view expected (Err e) old new b a
   exprs_fail e sound j =
-      let texts = exprs_are needs expected coded is in record {
-        answer = expr_error expected e sound (subst (λ r. IsOk r) (sym is) refl);
-        judges = subst (λ l. Judges {T = T} l (Err e) old new b a) texts (record {
-          stays = j.stays;
-          sizes = tt;
-          later = j.later;
-          good = tt;
-          syntax = λ was. j.syntax (ap Err (same_error {T = T} (Err e) e error.RegexSyntax refl was));
-          size = λ was. j.size (ap Err (same_error {T = T} (Err e) e error.RegexSize refl was));
-        });
-      }
+      let before : Result S PatternError = Err e in
+      let result : Result T PatternError = Err e in
+      is_read view expected result (expr_error expected e sound (subst (λ r. IsOk r) (sym is) refl))
+      (subst (λ l. Judges {T = T} l (Err e) old new b a) (exprs_are needs expected coded is) (record {
+        keeps = j.keeps;
+        sizes = tt;
+        later = j.later;
+        good = tt;
+        syntax = λ was. j.syntax (same_fault result before e error.RegexSyntax refl refl was);
+        size = λ was. j.size (same_fault result before e error.RegexSize refl refl was);
+        found = tt;
+        lost_syntax = λ was. j.lost_syntax (same_fault result before e error.RegexSyntax refl refl was);
+        lost_size = λ was. j.lost_size (same_fault result before e error.RegexSize refl refl was);
+      }))
 
   pub exprs_read_on : (x : S) (y : T) → view y ≡ tree_map asked (made needs)
       → Judges (exprs_in (plain_operations needs)) (Ok x) old new b a
       → IsRead view expected (Ok y) old new b a
   exprs_read_on x y tree j =
-      let texts = exprs_are needs expected coded is in record {
-        answer = ap (reading_map (tree_map asked)) is ∙ ap Ok (sym tree);
-        judges = subst (λ l. Judges {T = T} l (Ok y) old new b a) texts (record {
-          stays = j.stays;
-          sizes = j.sizes;
-          later = j.later;
-          good = j.good;
-          syntax = λ was. cc;
-          size = λ was. cc;
-        });
-      }
+      is_read view expected (Ok y) (ap (reading_map (tree_map asked)) is ∙ ap Ok (sym tree))
+      (subst (λ l. Judges {T = T} l (Ok y) old new b a) (exprs_are needs expected coded is) (record {
+        keeps = j.keeps;
+        sizes = j.sizes;
+        later = j.later;
+        good = j.good;
+        syntax = λ was. cc;
+        size = λ was. cc;
+        found = j.found;
+        lost_syntax = λ was. cc;
+        lost_size = λ was. cc;
+      }))

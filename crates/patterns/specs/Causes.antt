@@ -1,13 +1,13 @@
 -- What becomes of the expressions of a pattern, by the verdicts on them.
-use Rattle.std.specs.Prelude.{◌≡◌, ◌≤◌, ◌⊎◌, ◌||◌, ℕ, Bool, true, false, List, [], ◌∷◌, Some}
-use Rattle.std.specs.Prelude.{Result, OnOk, IsErrOf}
+use Rattle.std.specs.Prelude.{◌≡◌, ◌≤◌, ◌⊎◌, ◌||◌, ℕ, Bool, true, false, List, [], ◌∷◌, Option}
+use Rattle.std.specs.Prelude.{Some, Result, OnOk, IsErrOf}
 use Rattle.std.specs.List.{list_all}
 use Rattle.mail_base.specs.Faults.{Rose}
 use Rattle.people.specs.Cause.{is_readable}
 use Rattle.people.specs.Expr.{is_literal}
 use Rattle.people.specs.Judged.{PlainJudged, verdict_on}
 use Rattle.people.specs.declared.judged.Verdict.{Verdict}
-use Rattle.people.specs.declared.judged.Verdict.TheVariants.{Size}
+use Rattle.people.specs.declared.judged.Verdict.TheVariants.{Good, Syntax, Size}
 use Rattle.patterns.specs.Exprs.{exprs_in}
 use Rattle.patterns_match.specs.Trees.{Leaf}
 use Rattle.patterns_match.specs.declared.operation.Operation.{Operation}
@@ -23,14 +23,26 @@ SomeOf P (x ∷ xs) = P x ⊎ SomeOf P xs
 abbrev pub is_good : List ℕ → Bool
 is_good text = is_literal text || is_readable text
 
+-- the verdict is there, and is good
+abbrev pub is_found_good : Option Verdict → Bool
+is_found_good (Some Good) = true
+is_found_good _ = false
+
+-- a text was found good
+abbrev pub is_good_on : List PlainJudged → List ℕ → Bool
+is_good_on list text = is_found_good (verdict_on list text)
+
+-- each verdict of a list stays in a later one
+pub record Keeps (old new : List PlainJudged) : Type 0 where
+  pub stays : (text : List ℕ) (v : Verdict) → verdict_on old text ≡ Some v
+      → verdict_on new text ≡ Some v
+
 -- What reading expressions answers and leaves, by the verdicts before it and the counts of
 -- refusals round it.
 pub record Judges {T : Type 0} (texts : List (List ℕ)) (result : Result T PatternError)
     (old new : List PlainJudged) (before after : ℕ)
     : Type 0 where
-  -- a verdict that was given stays
-  pub stays : (text : List ℕ) (v : Verdict) → verdict_on old text ≡ Some v
-      → verdict_on new text ≡ Some v
+  pub keeps : Keeps old new
   pub sizes : OnOk result ((text : List ℕ) → verdict_on new text ≡ Some Size
       → verdict_on old text ≡ Some Size)
   pub later : before ≤ after
@@ -39,17 +51,26 @@ pub record Judges {T : Type 0} (texts : List (List ℕ)) (result : Result T Patt
   pub syntax : IsErrOf result error.RegexSyntax → SomeOf (λ t. is_readable t ≡ false) texts
   pub size : IsErrOf result error.RegexSize
       → SomeOf (λ t. verdict_on old t ≡ Some Size) texts ⊎ Rose before after
+  -- the verdicts that the answer tells
+  pub found : OnOk result (list_all (is_good_on new) texts ≡ true)
+  pub lost_syntax : IsErrOf result error.RegexSyntax
+      → SomeOf (λ t. verdict_on new t ≡ Some Syntax) texts
+  pub lost_size : IsErrOf result error.RegexSize
+      → SomeOf (λ t. verdict_on new t ≡ Some Size) texts
 
 -- For the code alone: the same where operations are left, so far without an error.
 pub record Halfway (all left : List (Operation Leaf)) (old new : List PlainJudged)
     (before after : ℕ)
     : Type 0 where
-  pub stays : (text : List ℕ) (v : Verdict) → verdict_on old text ≡ Some v
-      → verdict_on new text ≡ Some v
+  pub keeps : Keeps old new
   pub sizes : (text : List ℕ) → verdict_on new text ≡ Some Size → verdict_on old text ≡ Some Size
   pub later : before ≤ after
   pub good : list_all is_good (exprs_in left) ≡ list_all is_good (exprs_in all)
   pub syntax : SomeOf (λ t. is_readable t ≡ false) (exprs_in left)
       → SomeOf (λ t. is_readable t ≡ false) (exprs_in all)
-  pub size : SomeOf (λ t. verdict_on old t ≡ Some Size) (exprs_in left)
-      → SomeOf (λ t. verdict_on old t ≡ Some Size) (exprs_in all)
+  pub found : (list : List PlainJudged) → Keeps new list
+      → list_all (is_good_on list) (exprs_in left) ≡ true
+      → list_all (is_good_on list) (exprs_in all) ≡ true
+  pub lost : (list : List PlainJudged) (v : Verdict)
+      → SomeOf (λ t. verdict_on list t ≡ Some v) (exprs_in left)
+      → SomeOf (λ t. verdict_on list t ≡ Some v) (exprs_in all)

@@ -1,10 +1,12 @@
 -- What reading the text of a pattern answers, and what it leaves of the verdicts.
-use Rattle.std.specs.Prelude.{◌≡◌, ℕ, ℤ, List, [], Result, Ok, Err, IsOk}
+use Rattle.std.specs.Prelude.{◌≡◌, ℕ, ℤ, List, [], Option, Some, None, Result, Ok, Err, IsOk}
+use Rattle.std.specs.Prelude.{if◌then◌else◌}
+use Rattle.std.specs.List.{list_all}
 use Rattle.jiff_core.specs.Date.{epoch_day}
 use Rattle.jiff_core.specs.declared.civil.date.Date.{Date}
 use Rattle.people.specs.Judged.{PlainJudged}
 use Rattle.patterns.specs.Exprs.{asked, exprs, tree_map}
-use Rattle.patterns.specs.Causes.{Judges}
+use Rattle.patterns.specs.Causes.{Judges, Keeps, is_good_on}
 use Rattle.patterns.specs.Dates.{days_of}
 use Rattle.patterns_match.specs.Days.{day_number}
 use Rattle.patterns.specs.Faults.{Reading, Empty, UnknownLetter, Unbalanced, BadRange, BadDate}
@@ -36,12 +38,34 @@ abbrev pub IsAnswer : {T : Type 0} → (T → Tree) → Reading Tree → Result 
 IsAnswer view expected (Ok pattern) = reading_map (tree_map asked) expected ≡ Ok (view pattern)
 IsAnswer view expected (Err error) = IsErrorOf expected error
 
+-- the pattern that a text is, where each of its expressions was found good
+abbrev pub reading_by : List PlainJudged → Reading Tree → Option Tree
+reading_by list (Ok tree) =
+    if list_all (is_good_on list) (exprs tree) then Some (tree_map asked tree) else None
+reading_by list (Err fault) = None
+
+-- what is answered is that pattern, or that there is none; want of memory tells neither
+abbrev pub IsReading : {T : Type 0} → (T → Tree) → Option Tree → Result T PatternError → Type 0
+IsReading view reading (Ok pattern) = reading ≡ Some (view pattern)
+IsReading view reading (Err error.Empty) = reading ≡ None
+IsReading view reading (Err (error.UnknownLetter place)) = reading ≡ None
+IsReading view reading (Err (error.Unbalanced place)) = reading ≡ None
+IsReading view reading (Err (error.BadRange place)) = reading ≡ None
+IsReading view reading (Err (error.BadDate place)) = reading ≡ None
+IsReading view reading (Err error.RegexSyntax) = reading ≡ None
+IsReading view reading (Err error.RegexSize) = reading ≡ None
+IsReading view reading (Err error.TooDeep) = reading ≡ None
+IsReading view reading (Err error.NoMemory) = Unit {0}
+
 -- what is answered where this pattern or fault is expected
 pub record IsRead {T : Type 0} (view : T → Tree) (expected : Reading Tree)
     (result : Result T PatternError) (old new : List PlainJudged) (before after : ℕ)
     : Type 0 where
   pub answer : IsAnswer view expected result
   pub judges : Judges (exprs_read expected) result old new before after
+  -- so it is by each list that keeps the verdicts
+  pub later : (list : List PlainJudged) → Keeps new list
+      → IsReading view (reading_by list expected) result
 
 -- the text is read on the day of a moment
 pub record ReadsPattern {T : Type 0} (view : T → Tree) (text : List ℕ) (moment offset : ℤ)
