@@ -6,11 +6,12 @@ mod environment;
 use crate::environment::command_words;
 use disk_model::Device;
 use folder_core::{Archive, Drivers};
-use mail_base::{Lines, RealClock, StdSink, StdSource};
+use mail_base::{Lines, Names, RealClock, StdSink, StdSource};
 use maildir_folder::MaildirDriver;
 use mbox_folder::MboxDriver;
 use mh_folder::MhDriver;
 use mutt_run::{Status, run};
+use people::{RegexBuild, Verdicts};
 use real_disk::RealDisk;
 use session::{Events, Trace};
 use std::io;
@@ -41,10 +42,12 @@ fn started(rt: &HostRuntime) -> io::Result<Status> {
     if drivers.add(Box::new(alloc, MhDriver::new())?).is_err() {
         return Ok(Status::NoMemory);
     }
+    let builder = Box::new(alloc, RegexBuild::new(Names::new(alloc)))?;
     let mut trace = Trace {
         archive: Archive::new(alloc),
         events: Events::new(alloc),
         notes: Lines::new(alloc),
+        verdicts: Verdicts::new(alloc, builder),
     };
     Ok(run(
         alloc,

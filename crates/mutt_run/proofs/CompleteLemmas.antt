@@ -5,7 +5,6 @@ use Rattle.mail_base.specs.Faults.{Rose}
 use Rattle.mail_base.specs.declared.kind.Kind.{Kind}
 use Rattle.disk_model.specs.Journal.{Past}
 use Rattle.folder_core.specs.Kinds.{IsKindSeen}
-use Rattle.folder_core.specs.Letters.{Mail}
 use Rattle.folder_core.specs.declared.error.ScanError.{ScanError}
 use Rattle.folder_core.specs.declared.error.ScanError.TheVariants.{Missing, NotMailbox, TooMany}
 use Rattle.folder_core.specs.declared.error.ScanError.TheVariants.{TooLarge, Unfinished}
@@ -15,6 +14,7 @@ use Rattle.mutt_words.specs.Options.{PlainOptions}
 use Rattle.session.specs.Beginning.{IsStated}
 use Rattle.session.specs.Events.{AreFiles, Happening, FileRead, FileRefused, KeyPressed}
 use Rattle.session.specs.Events.{FolderOpened, FolderRefused}
+use Rattle.session.specs.Given.{Given}
 use Rattle.session.specs.Happened.{AllCounted, AllHappened, Counts, IsCause, WasNotListed}
 use Rattle.session.specs.Happened.{WasRefused, counts_after, counts_of, kind_in, past_at}
 use Rattle.session.specs.Runs.{State, after}
@@ -59,24 +59,24 @@ module _ (Has : Kind → Type 0) (empty : Kind) (path : List ℕ) (before after 
       refused_neither Unfinished stated was
 
 -- Behind files of commands no folder is refused that could be read.
-module _ (Has : Kind → Type 0) (archive : List Mail) (path : List ℕ) (why : OpenFault)
+module _ (Has : Kind → Type 0) (given : Given) (path : List ℕ) (why : OpenFault)
     (marks : Marks) (stated : IsStated why) where
   abbrev last : List Happening
   last = FolderRefused path why marks ∷ []
 
   none_refused : (s : State) (counts : Counts) (past : Past) (files : List Happening)
-      → AreFiles files → WereReadable Has s (files ++ last) (Some past)
-      → AllHappened Has archive s (files ++ last) past → AllCounted Has counts (files ++ last) → ⊥
+      → AreFiles files → WereReadable Has given s (files ++ last) (Some past)
+      → AllHappened Has given s (files ++ last) past → AllCounted Has counts (files ++ last) → ⊥
   none_refused s counts past [] are readable happened counted =
       not_refused Has (kind_in s) path (length (past_at past marks.mark_before).journal)
       (length (past_at past marks.mark_after).journal) (past_at past marks.mark_after) readable.0
       why marks.faults_before marks.faults_after stated happened.0 counted.0.cause
   none_refused s counts past (FileRead file text at ∷ files) are readable happened counted =
-      none_refused (after s (FileRead file text at)) (counts_after counts (Some at)) past files
-      are.1 readable happened.1 counted.1
+      none_refused (after given s (FileRead file text at)) (counts_after counts (Some at)) past
+      files are.1 readable happened.1 counted.1
   none_refused s counts past (FileRefused file cause at ∷ files) are readable happened counted =
-      none_refused (after s (FileRefused file cause at)) (counts_after counts (Some at)) past files
-      are.1 readable happened.1 counted.1
+      none_refused (after given s (FileRefused file cause at)) (counts_after counts (Some at)) past
+      files are.1 readable happened.1 counted.1
   none_refused s counts past (KeyPressed key moment ∷ files) are readable happened counted =
       absurd are.0
   none_refused s counts past (FolderOpened folder kind moment came at ∷ files) are readable
@@ -86,19 +86,19 @@ module _ (Has : Kind → Type 0) (archive : List Mail) (path : List ℕ) (why : 
 
   -- a disk that tells nothing at the end shows no folder that could be read
   none_told : (s : State) (files : List Happening) → AreFiles files
-      → WereReadable Has s (files ++ last) None → ⊥
+      → WereReadable Has given s (files ++ last) None → ⊥
   none_told s [] are readable = readable.0
   none_told s (FileRead file text at ∷ files) are readable =
-      none_told (after s (FileRead file text at)) files are.1 readable
+      none_told (after given s (FileRead file text at)) files are.1 readable
   none_told s (FileRefused file cause at ∷ files) are readable =
-      none_told (after s (FileRefused file cause at)) files are.1 readable
+      none_told (after given s (FileRefused file cause at)) files are.1 readable
   none_told s (KeyPressed key moment ∷ files) are readable = absurd are.0
   none_told s (FolderOpened folder kind moment came at ∷ files) are readable = absurd are.0
   none_told s (FolderRefused folder cause at ∷ files) are readable = absurd are.0
 
   refused_told : (s : State) (counts : Counts) (first now : Option Past) (files : List Happening)
-      → AreFiles files → WereReadable Has s (files ++ last) now
-      → IsTold Has archive s (files ++ last) first now → AllCounted Has counts (files ++ last) → ⊥
+      → AreFiles files → WereReadable Has given s (files ++ last) now
+      → IsTold Has given s (files ++ last) first now → AllCounted Has counts (files ++ last) → ⊥
   refused_told s counts None None files are readable told counted =
       none_told s files are readable
   refused_told s counts None (Some past) files are readable told counted = absurd (cc)
@@ -107,27 +107,27 @@ module _ (Has : Kind → Type 0) (archive : List Mail) (path : List ℕ) (why : 
       none_refused s counts past files are readable told.1 counted
 
 -- A run whose folders could be read, and in which no fault was counted.
-module _ {o : PlainOptions} {start : ℤ} {Has : Kind → Type 0} {letters : List Mail}
+module _ {o : PlainOptions} {start : ℤ} {Has : Kind → Type 0} {given : Given}
     {events : List Happening} {old new : Outside} (status : Status)
-    (reads : Reads (Ok o) start Has letters status events old new)
-    (readable : NamesReadable Has (Ok o) events new.disk.told)
+    (reads : Reads (Ok o) start Has given status events old new)
+    (readable : NamesReadable Has given (Ok o) events new.disk.told)
     (disk : Rose old.disk.faults new.disk.faults → ⊥) (keys : status ≡ KeysFault → ⊥)
     (out : status ≡ OutFault → ⊥) where
   not_opened : (why : OpenFault) → IsStated why → IsRefused why events → ⊥
   not_opened why stated refused =
       let all : List Happening =
       refused.files ++ FolderRefused refused.path why refused.marks ∷ [] in
-      refused_told Has letters refused.path why refused.marks stated (first_of o)
+      refused_told Has given refused.path why refused.marks stated (first_of o)
       (counts_of old.disk) old.disk.told new.disk.told refused.files refused.are_files
-      (subst (λ (l : List Happening). WereReadable Has (first_of o) l new.disk.told)
+      (subst (λ (l : List Happening). WereReadable Has given (first_of o) l new.disk.told)
       refused.events_are readable)
-      (subst (λ (l : List Happening). IsTold Has letters (first_of o) l old.disk.told new.disk.told)
+      (subst (λ (l : List Happening). IsTold Has given (first_of o) l old.disk.told new.disk.told)
       refused.events_are reads.told.told)
       (subst (λ (l : List Happening). AllCounted Has (counts_of old.disk) l) refused.events_are
       reads.told.counted)
 
-  plain_by : (given : Status) → status ≡ given → EndsAs o given events old.left new.left
-      → IsChosen (Ok o) given → IsPlainEnd given
+  plain_by : (end : Status) → status ≡ end → EndsAs given o end events old.left new.left
+      → IsChosen (Ok o) end → IsPlainEnd end
   plain_by Done is ends chosen = tt
   plain_by Empty is ends chosen = tt
   plain_by TooManyKeys is ends chosen = tt
@@ -155,11 +155,11 @@ neither a b c low high no_out no_errs (inl out) = no_out out
 neither a b c low high no_out no_errs (inr rose) = no_errs (rose_sooner a b c low high rose)
 
 pub completes : (choice : Result PlainOptions (List ℕ)) {start : ℤ} {Has : Kind → Type 0}
-    {letters : List Mail} {events : List Happening} {old new : Outside} {status result : Status}
-    {keys keys' out out' : ℕ} {errs : ℕ} → Reads choice start Has letters status events old new
+    {given : Given} {events : List Happening} {old new : Outside} {status result : Status}
+    {keys keys' out out' : ℕ} {errs : ℕ} → Reads choice start Has given status events old new
     → CountsStreams status keys keys' out out' old.faults new.faults
     → IsToldAs (Rose new.faults errs) status result → new.faults ≤ errs
-    → NamesReadable Has choice events new.disk.told
+    → NamesReadable Has given choice events new.disk.told
     → (Rose old.disk.faults new.disk.faults → ⊥) → (Rose keys keys' → ⊥) → (Rose out out' → ⊥)
     → (Rose old.faults errs → ⊥) → IsPlainEnd result
 completes (Err word) reads counts told high readable disk keys out none = absurd readable

@@ -9,9 +9,9 @@ use Rattle.mail_base.proofs.Sending.{appends_then}
 use Rattle.mail_base.specs.declared.kind.Kind.{Kind}
 use Rattle.disk_model.specs.Journal.{Past}
 use Rattle.disk_model.specs.Looking.{LooksOnly}
-use Rattle.folder_core.specs.Letters.{Mail}
 use Rattle.mutt_words.specs.Options.{PlainOptions}
 use Rattle.session.specs.Events.{Happening}
+use Rattle.session.specs.Given.{Given}
 use Rattle.session.specs.Telling.{IsTold}
 use Rattle.mutt_run.specs.Choice.{acted_on, first_by}
 use Rattle.mutt_run.specs.Ending.{EndsAs, IsChosen}
@@ -51,17 +51,19 @@ prints_told {texts = texts} {a = a} {b = b} (inr (inr is)) prints but =
 
 -- What was read before the line of the end.
 module _ {choice : Result PlainOptions (List ℕ)} {start : ℤ} {Has : Kind → Type 0}
-    {letters : List Mail} {status : Status} {events : List Happening} {old new : Outside}
-    (reads : Reads choice start Has letters status events old new) where
+    {given : Given} {status : Status} {events : List Happening} {old new : Outside}
+    (reads : Reads choice start Has given status events old new) where
   pub ends_told : {Rises : Type 0} {result : Status} → IsToldAs Rises status result
-      → EndsAs (acted_on choice) result events old.left new.left
+      → EndsAs given (acted_on choice) result events old.left new.left
   ends_told (inl is) =
-      subst (λ (st : Status). EndsAs (acted_on choice) st events old.left new.left) (sym is)
+      subst (λ (st : Status). EndsAs given (acted_on choice) st events old.left new.left) (sym is)
       reads.ends
   ends_told (inr (inl is)) =
-      subst (λ (st : Status). EndsAs (acted_on choice) st events old.left new.left) (sym is) tt
+      subst (λ (st : Status). EndsAs given (acted_on choice) st events old.left new.left)
+      (sym is) tt
   ends_told (inr (inr is)) =
-      subst (λ (st : Status). EndsAs (acted_on choice) st events old.left new.left) (sym is.0) tt
+      subst (λ (st : Status). EndsAs given (acted_on choice) st events old.left new.left)
+      (sym is.0) tt
 
   pub chosen_told : {Rises : Type 0} {result : Status} → IsToldAs Rises status result
       → IsChosen choice result
@@ -78,10 +80,10 @@ module _ {choice : Result PlainOptions (List ℕ)} {start : ℤ} {Has : Kind →
     start = first;
     opened = subst (λ (s : ℤ). IsStart s events) same reads.start_is;
     given = gives_then before old.moments new.moments (first ∷ []) (pressed_moments events) tick
-        reads.given;
+        reads.clocked;
   }
 
-  only_looked : (first now : Option Past) → IsTold Has letters (first_by choice) events first now
+  only_looked : (first now : Option Past) → IsTold Has given (first_by choice) events first now
       → LooksOnly first now
   only_looked None now told = told
   only_looked (Some first) None told = told

@@ -13,7 +13,7 @@ use Rattle.session.specs.Events.{Happening, FileRead, FileRefused, KeyPressed, F
 use Rattle.session.specs.Events.{FolderRefused}
 use Rattle.mail_base.specs.declared.kind.Kind.{Kind}
 use Rattle.disk_model.specs.Seen.{Seen}
-use Rattle.folder_core.specs.Letters.{Mail}
+use Rattle.session.specs.Given.{Given}
 use Rattle.session.specs.Runs.{State}
 use Rattle.session.specs.Telling.{Witnessed}
 use Rattle.session_state.specs.declared.desk.Stage.{Stage}
@@ -323,8 +323,8 @@ pushed_on now mid later key moment given same is put =
     put ∙ ap (λ (l : List Happening). l ++ KeyPressed key given ∷ []) same
     ∙ ap (λ (m : ℤ). now ++ KeyPressed key m ∷ []) is
 
-pub told_same : {Has : Kind → Type 0} {archive : List Mail} {first : State}
+pub told_same : {Has : Kind → Type 0} {given : Given} {first : State}
     {events same : List Happening} {before seen : Seen} → same ≡ events
-    → Witnessed Has archive first events before seen → Witnessed Has archive first same before seen
-told_same {Has} {archive} {first} {events} {same} {before} {seen} is h =
-    subst (λ (l : List Happening). Witnessed Has archive first l before seen) (sym is) h
+    → Witnessed Has given first events before seen → Witnessed Has given first same before seen
+told_same {Has} {given} {first} {events} {same} {before} {seen} is h =
+    subst (λ (l : List Happening). Witnessed Has given first l before seen) (sym is) h

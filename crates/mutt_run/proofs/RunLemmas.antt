@@ -10,6 +10,7 @@ use Rattle.mutt_words.specs.Options.{PlainOptions}
 use Rattle.session.specs.Beginning.{AreOpening, BeginsRun}
 use Rattle.session.specs.Events.{AreFiles, Happening, FileRead, FileRefused, KeyPressed}
 use Rattle.session.specs.Events.{FolderOpened, FolderRefused}
+use Rattle.session.specs.Given.{Given}
 use Rattle.session.specs.Runs.{State, after, after_events, screens_from, shown}
 use Rattle.session.specs.Runs.{stage_screens, taken_at}
 use Rattle.session.specs.Steps.{Stands}
@@ -126,83 +127,84 @@ stage_notes Idle s = refl
 stage_notes Ready s = refl
 stage_notes Over s = refl
 
-keys_notes : (s : State) (keys : List Happening) → AreKeys keys
-    → (after_events s keys).notes ≡ s.notes
-keys_notes s [] are = refl
-keys_notes s (KeyPressed key moment ∷ keys) are =
-    keys_notes (after s (KeyPressed key moment)) keys are ∙ stage_notes s.turn.stage s
-keys_notes s (FileRead path text marks ∷ keys) are = absurd are
-keys_notes s (FileRefused path why marks ∷ keys) are = absurd are
-keys_notes s (FolderOpened path kind moment came marks ∷ keys) are = absurd are
-keys_notes s (FolderRefused path why marks ∷ keys) are = absurd are
+keys_notes : (given : Given) (s : State) (keys : List Happening) → AreKeys keys
+    → (after_events given s keys).notes ≡ s.notes
+keys_notes given s [] are = refl
+keys_notes given s (KeyPressed key moment ∷ keys) are =
+    keys_notes given (after given s (KeyPressed key moment)) keys are ∙ stage_notes s.turn.stage s
+keys_notes given s (FileRead path text marks ∷ keys) are = absurd are
+keys_notes given s (FileRefused path why marks ∷ keys) are = absurd are
+keys_notes given s (FolderOpened path kind moment came marks ∷ keys) are = absurd are
+keys_notes given s (FolderRefused path why marks ∷ keys) are = absurd are
 
-pub after-append : (s : State) (xs ys : List Happening)
-    → after_events s (xs ++ ys) ≡ after_events (after_events s xs) ys
-after-append s [] ys = refl
-after-append s (x ∷ xs) ys = after-append (after s x) xs ys
+pub after-append : (given : Given) (s : State) (xs ys : List Happening)
+    → after_events given s (xs ++ ys) ≡ after_events given (after_events given s xs) ys
+after-append given s [] ys = refl
+after-append given s (x ∷ xs) ys = after-append given (after given s x) xs ys
 
 -- files of commands show no screen
-pub files_stage : (s : State) (files : List Happening) → AreFiles files → s.turn.stage ≡ Unopened
-    → (after_events s files).turn.stage ≡ Unopened
-files_stage s [] are stage = stage
-files_stage s (FileRead path text marks ∷ files) are stage =
-    files_stage (after s (FileRead path text marks)) files are.1 stage
-files_stage s (FileRefused path why marks ∷ files) are stage =
-    files_stage (after s (FileRefused path why marks)) files are.1 stage
-files_stage s (KeyPressed key moment ∷ files) are stage = absurd are.0
-files_stage s (FolderOpened path kind moment came marks ∷ files) are stage = absurd are.0
-files_stage s (FolderRefused path why marks ∷ files) are stage = absurd are.0
-
-unshown : (letters : List Mail) (s : State) → s.turn.stage ≡ Unopened → shown letters s ≡ []
-unshown letters s stage = ap (λ (t : Stage). stage_screens letters t s) stage
-
-files_screens : (letters : List Mail) (s : State) (files rest : List Happening) → AreFiles files
+pub files_stage : (given : Given) (s : State) (files : List Happening) → AreFiles files
     → s.turn.stage ≡ Unopened
-    → screens_from letters s (files ++ rest) ≡ screens_from letters (after_events s files) rest
-files_screens letters s [] rest are stage = refl
-files_screens letters s (FileRead path text marks ∷ files) rest are stage =
-    let next : State = after s (FileRead path text marks) in
-    ap (λ (l : List (List (List ℕ))). l ++ screens_from letters next (files ++ rest))
-    (unshown letters next stage) ∙ files_screens letters next files rest are.1 stage
-files_screens letters s (FileRefused path why marks ∷ files) rest are stage =
-    let next : State = after s (FileRefused path why marks) in
-    ap (λ (l : List (List (List ℕ))). l ++ screens_from letters next (files ++ rest))
-    (unshown letters next stage) ∙ files_screens letters next files rest are.1 stage
-files_screens letters s (KeyPressed key moment ∷ files) rest are stage = absurd are.0
-files_screens letters s (FolderOpened path kind moment came marks ∷ files) rest are stage =
-    absurd are.0
-files_screens letters s (FolderRefused path why marks ∷ files) rest are stage = absurd are.0
+    → (after_events given s files).turn.stage ≡ Unopened
+files_stage given s [] are stage = stage
+files_stage given s (FileRead path text marks ∷ files) are stage =
+    files_stage given (after given s (FileRead path text marks)) files are.1 stage
+files_stage given s (FileRefused path why marks ∷ files) are stage =
+    files_stage given (after given s (FileRefused path why marks)) files are.1 stage
+files_stage given s (KeyPressed key moment ∷ files) are stage = absurd are.0
+files_stage given s (FolderOpened path kind moment came marks ∷ files) are stage = absurd are.0
+files_stage given s (FolderRefused path why marks ∷ files) are stage = absurd are.0
 
-opening_screens : (letters : List Mail) (s : State) (start : ℤ) (opening : List Happening)
-    → AreOpening start letters opening → s.turn.stage ≡ Unopened
-    → screens_from letters s opening ≡ shown letters (after_events s opening)
-opening_screens letters s start [] opens stage = sym (unshown letters s stage)
-opening_screens letters s start (event ∷ []) opens stage = append-nil (shown letters (after s
-    event))
-opening_screens letters s start (event ∷ next ∷ opening) opens stage = absurd opens
+unshown : (given : Given) (s : State) → s.turn.stage ≡ Unopened → shown given s ≡ []
+unshown given s stage = ap (λ (t : Stage). stage_screens given t s) stage
+
+files_screens : (given : Given) (s : State) (files rest : List Happening) → AreFiles files
+    → s.turn.stage ≡ Unopened
+    → screens_from given s (files ++ rest) ≡ screens_from given (after_events given s files) rest
+files_screens given s [] rest are stage = refl
+files_screens given s (FileRead path text marks ∷ files) rest are stage =
+    let next : State = after given s (FileRead path text marks) in
+    ap (λ (l : List (List (List ℕ))). l ++ screens_from given next (files ++ rest))
+    (unshown given next stage) ∙ files_screens given next files rest are.1 stage
+files_screens given s (FileRefused path why marks ∷ files) rest are stage =
+    let next : State = after given s (FileRefused path why marks) in
+    ap (λ (l : List (List (List ℕ))). l ++ screens_from given next (files ++ rest))
+    (unshown given next stage) ∙ files_screens given next files rest are.1 stage
+files_screens given s (KeyPressed key moment ∷ files) rest are stage = absurd are.0
+files_screens given s (FolderOpened path kind moment came marks ∷ files) rest are stage =
+    absurd are.0
+files_screens given s (FolderRefused path why marks ∷ files) rest are stage = absurd are.0
+
+opening_screens : (given : Given) (s : State) (start : ℤ) (opening : List Happening)
+    → AreOpening start given.mails opening → s.turn.stage ≡ Unopened
+    → screens_from given s opening ≡ shown given (after_events given s opening)
+opening_screens given s start [] opens stage = sym (unshown given s stage)
+opening_screens given s start (event ∷ []) opens stage =
+    append-nil (shown given (after given s event))
+opening_screens given s start (event ∷ next ∷ opening) opens stage = absurd opens
 
 -- What begins a run.
-module _ (Has : Kind → Type 0) (letters : List Mail) (o : PlainOptions) (start : ℤ)
+module _ (Has : Kind → Type 0) (given : Given) (o : PlainOptions) (start : ℤ)
     (opening events : List Happening) (old new : Seen)
-    (begins : BeginsRun Has letters (first_of o) start opening events old new) where
-  begun_stands : Stands letters (first_of o) events (after_events (first_of o) events)
-      ([] ++ shown letters (after_events (first_of o) events))
+    (begins : BeginsRun Has given (first_of o) start opening events old new) where
+  begun_stands : Stands given (first_of o) events (after_events given (first_of o) events)
+      ([] ++ shown given (after_events given (first_of o) events))
   begun_stands = record {
     run = begins.run;
     state_is = refl;
-    screens_are = subst (λ (l : List Happening). screens_from letters (first_of o) l
-        ≡ shown letters (after_events (first_of o) l)) (sym begins.events_are)
-        (files_screens letters (first_of o) begins.files opening begins.are_files refl
-        ∙ opening_screens letters (after_events (first_of o) begins.files) start opening
-        begins.opens (files_stage (first_of o) begins.files begins.are_files refl)
-        ∙ ap (shown letters) (sym (after-append (first_of o) begins.files opening)));
+    screens_are = subst (λ (l : List Happening). screens_from given (first_of o) l
+        ≡ shown given (after_events given (first_of o) l)) (sym begins.events_are)
+        (files_screens given (first_of o) begins.files opening begins.are_files refl
+        ∙ opening_screens given (after_events given (first_of o) begins.files) start opening
+        begins.opens (files_stage given (first_of o) begins.files begins.are_files refl)
+        ∙ ap (shown given) (sym (after-append given (first_of o) begins.files opening)));
   }
 
   -- nothing was printed yet
-  pub begun_breaks : (out : Option (List ℕ)) → Breaks letters (first_of o) events out out
+  pub begun_breaks : (out : Option (List ℕ)) → Breaks given (first_of o) events out out
   begun_breaks out =
-      breaks_unshown letters (first_of o) (after_events (first_of o) events) events [] begun_stands
-      out out (appends_none out)
+      breaks_unshown given (first_of o) (after_events given (first_of o) events) events []
+      begun_stands out out (appends_none out)
 
   module _ (more later : List Happening) (are_keys : AreKeys more) (is : later ≡ events ++ more)
     where
@@ -212,26 +214,27 @@ module _ (Has : Kind → Type 0) (letters : List Mail) (o : PlainOptions) (start
 
       pub all_keys : pressed_keys later ≡ pressed_keys more
       all_keys = ap pressed_keys all_is ∙ files_keys begins.files (opening ++ more) begins.are_files
-          ∙ opening_keys start letters opening more begins.opens
+          ∙ opening_keys start given.mails opening more begins.opens
 
       pub all_moments : pressed_moments later ≡ pressed_moments more
       all_moments = ap pressed_moments all_is
           ∙ files_moments begins.files (opening ++ more) begins.are_files
-          ∙ opening_moments start letters opening more begins.opens
+          ∙ opening_moments start given.mails opening more begins.opens
 
       pub all_start : IsStart start later
       all_start = subst (IsStart start) (sym all_is)
           (files_start start begins.files (opening ++ more) begins.are_files
-          (opening_start start letters opening more begins.opens (keys_start start more are_keys)))
+          (opening_start start given.mails opening more begins.opens
+          (keys_start start more are_keys)))
 
-      pub all_listed : AllListed letters later
-      all_listed = subst (AllListed letters) (sym all_is)
-          (files_listed letters begins.files (opening ++ more) begins.are_files
-          (opening_listed start letters opening more begins.opens
-          (keys_listed letters more are_keys)))
+      pub all_listed : AllListed given.mails later
+      all_listed = subst (AllListed given.mails) (sym all_is)
+          (files_listed given.mails begins.files (opening ++ more) begins.are_files
+          (opening_listed start given.mails opening more begins.opens
+          (keys_listed given.mails more are_keys)))
 
-      pub all_notes : (after_events (first_of o) later).notes
-          ≡ (after_events (first_of o) events).notes
-      all_notes = ap (λ (l : List Happening). (after_events (first_of o) l).notes) is
-          ∙ ap (λ (s : State). s.notes) (after-append (first_of o) events more)
-          ∙ keys_notes (after_events (first_of o) events) more are_keys
+      pub all_notes : (after_events given (first_of o) later).notes
+          ≡ (after_events given (first_of o) events).notes
+      all_notes = ap (λ (l : List Happening). (after_events given (first_of o) l).notes) is
+          ∙ ap (λ (s : State). s.notes) (after-append given (first_of o) events more)
+          ∙ keys_notes given (after_events given (first_of o) events) more are_keys

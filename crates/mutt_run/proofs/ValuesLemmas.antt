@@ -7,10 +7,10 @@ use Rattle.std.specs.List.{concat}
 use Rattle.mail_base.specs.Faults.{Rose}
 use Rattle.mail_base.specs.Streams.{Sent}
 use Rattle.mail_base.proofs.Sending.{sent_none}
-use Rattle.folder_core.specs.Letters.{Mail}
 use Rattle.mutt_words.specs.Options.{PlainOptions}
 use Rattle.session.specs.Beginning.{AnswersNames, BeginsRun}
 use Rattle.session.specs.Events.{Happening}
+use Rattle.session.specs.Given.{Given}
 use Rattle.session.specs.Runs.{after_events}
 use Rattle.session.specs.Starting.{PlainSetup, first_state}
 use Rattle.session.specs.Steps.{SourcesOff}
@@ -30,7 +30,8 @@ use Rattle.mutt_run.specs.declared.status.Status.TheVariants.{NoMemory}
 use Rattle.mutt_run.proofs.KeysLemmas.{gives_none}
 use Rattle.mutt_run.proofs.ReadsLemmas.{IsBroken, IsOtherThanDisk, cut_status, ends_free}
 use Rattle.mutt_run.proofs.ReadsLemmas.{no_fault}
-use Rattle.mutt_run.proofs.ReadsLemmas.{notes_cut, notes_whole, prints_all, reads_by, takes_none, usage_free}
+use Rattle.mutt_run.proofs.ReadsLemmas.{notes_cut, notes_whole, prints_all, reads_by, takes_none}
+use Rattle.mutt_run.proofs.ReadsLemmas.{usage_free}
 use Rattle.mutt_run.proofs.RunLemmas.{files_stage}
 
 abbrev IsUnopened : Stage → Type 0
@@ -40,60 +41,61 @@ IsUnopened Idle = ⊥
 IsUnopened Ready = ⊥
 IsUnopened Over = ⊥
 
-module _ (o : PlainOptions) (start : ℤ) (letters : List Mail) (setup : PlainSetup)
+module _ (o : PlainOptions) (start : ℤ) (given : Given) (setup : PlainSetup)
     (events : List Happening) (names : List (List ℕ)) (old new : Outside) (is : setup ≡ setup_of o)
-    (task : task_of o ≡ TellValues names) (none : letters ≡ [])
+    (task : task_of o ≡ TellValues names) (none : given.mails ≡ [])
     (sources : SourcesOff (first_state setup) events old.disk new.disk)
     (same_left : new.left ≡ old.left) (same_clock : new.moments ≡ old.moments) where
   abbrev read : SourcesOff (first_of o) events old.disk new.disk
   read = subst (λ (p : PlainSetup). SourcesOff (first_state p) events old.disk new.disk) is sources
 
-  begins : BeginsRun Driverless letters (first_of o) start [] events old.disk new.disk
+  begins : BeginsRun Driverless given (first_of o) start [] events old.disk new.disk
   begins = record {
     files = events;
     are_files = read.are;
     opens = none;
     events_are = sym (append-nil events);
-    run = read.run;
-    told = read.told letters;
+    run = read.run given;
+    told = read.told given;
   }
 
-  not_over : (Rises : Type 0) → (after_events (first_of o) events).turn.stage ≡ Over → Rises
+  not_over : (Rises : Type 0) → (after_events given (first_of o) events).turn.stage ≡ Over → Rises
   not_over Rises over =
-      absurd (subst IsUnopened (sym (files_stage (first_of o) events read.are refl) ∙ over) tt)
+      absurd (subst IsUnopened
+      (sym (files_stage given (first_of o) events read.are refl) ∙ over) tt)
 
-  reads_values : (status : Status) → EndsAs o status events old.left new.left
-      → Prints status (pieces (task_of o) letters (first_of o) events) old.written new.written
-      → PrintsBut (pieces (task_of o) letters (first_of o) events) old.written new.written
-      → TellsNotes status (printed_lines (after_events (first_of o) events).notes) old new
+  reads_values : (status : Status) → EndsAs given o status events old.left new.left
+      → Prints status (pieces given (task_of o) (first_of o) events) old.written new.written
+      → PrintsBut (pieces given (task_of o) (first_of o) events) old.written new.written
+      → TellsNotes status (printed_lines (after_events given (first_of o) events).notes) old new
       → (status ≡ DiskFault → Rose old.disk.faults new.disk.faults) → IsNoUsage status
-      → Reads (Ok o) start Driverless letters status events old new
+      → Reads (Ok o) start Driverless given status events old new
   reads_values status ends printed but noted fault no_usage =
-      reads_by o start Driverless letters status [] events [] events old new begins tt
-      (sym (append-nil events)) read.run ends (record { pending = []; taken = 0 })
+      reads_by o start Driverless given status [] events [] events old new begins tt
+      (sym (append-nil events)) (read.run given) ends (record { pending = []; taken = 0 })
       (subst (λ (l : Option (List ℕ)). TakesKeys [] (record { pending = []; taken = 0 }) old.left l)
       (sym same_left) (takes_none old.left))
       (subst (λ (l : Option (List ℤ)). Gives old.moments l []) (sym same_clock)
       (gives_none old.moments))
       printed but (not_over (Appends old.written new.written
-      (concat (pieces (task_of o) letters (first_of o) events)))) noted (read.told letters) fault
+      (concat (pieces given (task_of o) (first_of o) events)))) noted (read.told given) fault
       no_usage
 
   abbrev text : List ℕ
-  text = values_text names (after_events (first_of o) events)
+  text = values_text names (after_events given (first_of o) events)
 
   -- a front of the lines was printed
   pub values_cut : (status : Status) → IsBroken status
       → (rest : List ℕ) × Sent old.written new.written text rest
-      → TellsNotes status (printed_lines (after_events (first_of o) events).notes) old new
-      → Reads (Ok o) start Driverless letters status events old new
+      → TellsNotes status (printed_lines (after_events given (first_of o) events).notes) old new
+      → Reads (Ok o) start Driverless given status events old new
   values_cut status broken sent noted =
-      reads_values status (ends_free o events old.left new.left status broken)
+      reads_values status (ends_free given o events old.left new.left status broken)
       (printed status broken) but noted
       (no_fault (Rose old.disk.faults new.disk.faults) status broken) (usage_free status broken)
     where
-      but : PrintsBut (pieces (task_of o) letters (first_of o) events) old.written new.written
-      but = subst (λ (t : Task). PrintsBut (pieces t letters (first_of o) events) old.written
+      but : PrintsBut (pieces given (task_of o) (first_of o) events) old.written new.written
+      but = subst (λ (t : Task). PrintsBut (pieces given t (first_of o) events) old.written
           new.written) (sym task) (record {
             rest = sent.0;
             sent = (sent.1.0, append-nil text ∙ sent.1.1, sent.1.2);
@@ -101,17 +103,17 @@ module _ (o : PlainOptions) (start : ℤ) (letters : List Mail) (setup : PlainSe
           })
 
       printed : (status : Status) → IsBroken status
-          → Prints status (pieces (task_of o) letters (first_of o) events) old.written
+          → Prints status (pieces given (task_of o) (first_of o) events) old.written
           new.written
-      printed status (inl is) = subst (λ (st : Status). Prints st (pieces (task_of o) letters
+      printed status (inl is) = subst (λ (st : Status). Prints st (pieces given (task_of o)
           (first_of o) events) old.written new.written) (sym is) but
-      printed status (inr is) = subst (λ (st : Status). Prints st (pieces (task_of o) letters
+      printed status (inr is) = subst (λ (st : Status). Prints st (pieces given (task_of o)
           (first_of o) events) old.written new.written) (sym is) but
 
   -- nothing was printed
   pub values_none : new.written ≡ old.written → (status : Status) → IsBroken status
-      → TellsNotes status (printed_lines (after_events (first_of o) events).notes) old new
-      → Reads (Ok o) start Driverless letters status events old new
+      → TellsNotes status (printed_lines (after_events given (first_of o) events).notes) old new
+      → Reads (Ok o) start Driverless given status events old new
   values_none same status broken noted =
       values_cut status broken (
         text,
@@ -121,9 +123,9 @@ module _ (o : PlainOptions) (start : ℤ) (letters : List Mail) (setup : PlainSe
 
   -- memory ran out before the files were read
   pub values_early : new.written ≡ old.written → new.told ≡ old.told
-      → Reads (Ok o) start Driverless letters NoMemory events old new
+      → Reads (Ok o) start Driverless given NoMemory events old new
   values_early same same_told =
-      let notes : List ℕ = printed_lines (after_events (first_of o) events).notes in
+      let notes : List ℕ = printed_lines (after_events given (first_of o) events).notes in
       values_none same NoMemory (inr refl) (
         notes,
         subst (λ (t : Option (List ℕ)). Sent old.told t notes notes) (sym same_told)
@@ -132,13 +134,13 @@ module _ (o : PlainOptions) (start : ℤ) (letters : List Mail) (setup : PlainSe
 
   -- the files were read
   module _ (lines notes : List (List ℕ))
-      (answers : AnswersNames (first_state setup) events names lines notes) where
-    abbrev here : AnswersNames (first_of o) events names lines notes
-    here = subst (λ (p : PlainSetup). AnswersNames (first_state p) events names lines notes) is
-        answers
+      (answers : AnswersNames given (first_state setup) events names lines notes) where
+    abbrev here : AnswersNames given (first_of o) events names lines notes
+    here = subst (λ (p : PlainSetup). AnswersNames given (first_state p) events names lines notes)
+        is answers
 
     noted_as : (status : Status) → TellsNotes status (printed_lines notes) old new
-        → TellsNotes status (printed_lines (after_events (first_of o) events).notes) old new
+        → TellsNotes status (printed_lines (after_events given (first_of o) events).notes) old new
     noted_as status told = subst (λ (l : List (List ℕ)). TellsNotes status (printed_lines l) old
         new)
         (sym here.noted) told
@@ -146,21 +148,21 @@ module _ (o : PlainOptions) (start : ℤ) (letters : List Mail) (setup : PlainSe
     pub values_untold : new.written ≡ old.written → (status : Status)
         → ((status ≡ OutFault) × Rose old.faults new.faults) ⊎ (status ≡ NoMemory)
         → (rest : List ℕ) × Sent old.told new.told (printed_lines notes) rest
-        → Reads (Ok o) start Driverless letters status events old new
+        → Reads (Ok o) start Driverless given status events old new
     values_untold same status which sent =
         values_none same status (cut_status status which)
         (noted_as status (notes_cut status (printed_lines notes) old new which sent))
 
     module _ (told : Appends old.told new.told (printed_lines notes)) where
       pub values_off : new.written ≡ old.written → (status : Status) → IsBroken status
-          → Reads (Ok o) start Driverless letters status events old new
+          → Reads (Ok o) start Driverless given status events old new
       values_off same status broken =
           values_none same status broken
           (noted_as status (notes_whole status (printed_lines notes) old new told))
 
       pub values_part : (status : Status) → status ≡ OutFault
           → (rest : List ℕ) × Sent old.written new.written (printed_lines lines) rest
-          → Reads (Ok o) start Driverless letters status events old new
+          → Reads (Ok o) start Driverless given status events old new
       values_part status fault sent =
           values_cut status (inl fault)
           (subst (λ (l : List (List ℕ)). (rest : List ℕ)
@@ -168,19 +170,19 @@ module _ (o : PlainOptions) (start : ℤ) (letters : List Mail) (setup : PlainSe
           (noted_as status (notes_whole status (printed_lines notes) old new told))
 
       pub values_done : Appends old.written new.written (printed_lines lines)
-          → Reads (Ok o) start Driverless letters Done events old new
+          → Reads (Ok o) start Driverless given Done events old new
       values_done sent =
           reads_values Done
-          (subst (λ (t : Task). EndsDone t o events old.left new.left) (sym task)
+          (subst (λ (t : Task). EndsDone given t o events old.left new.left) (sym task)
           (read.are, here.read))
           all
-          (prints_all (pieces (task_of o) letters (first_of o) events) old.written new.written all)
+          (prints_all (pieces given (task_of o) (first_of o) events) old.written new.written all)
           (noted_as Done told) (λ fault. absurd (subst IsOtherThanDisk fault tt)) tt
         where
           all : Appends old.written new.written
-              (concat (pieces (task_of o) letters (first_of o) events))
+              (concat (pieces given (task_of o) (first_of o) events))
           all = subst (λ (t : Task). Appends old.written new.written
-              (concat (pieces t letters (first_of o) events))) (sym task)
+              (concat (pieces given t (first_of o) events))) (sym task)
               (subst (λ (l : List ℕ). Appends old.written new.written l) (sym (append-nil text))
               (subst (λ (l : List (List ℕ)). Appends old.written new.written (printed_lines l))
               here.lines_are sent))

@@ -9,10 +9,10 @@ use Rattle.mail_base.specs.Series.{Held, plain_texts}
 use Rattle.mail_base.specs.declared.kind.Kind.{Kind}
 use Rattle.mail_base.proofs.Sending.{appends_none, sent_none}
 use Rattle.disk_model.specs.Seen.{Seen}
-use Rattle.folder_core.specs.Letters.{Mail}
 use Rattle.mutt_words.specs.Options.{PlainOptions, plain_options, plain_text}
 use Rattle.mutt_words.specs.declared.options.Options.{Options}
 use Rattle.session.specs.Events.{AreFiles, Happening}
+use Rattle.session.specs.Given.{Given}
 use Rattle.session.specs.Runs.{State}
 use Rattle.session.specs.Starting.{PlainSetup}
 use Rattle.session.specs.Telling.{Driverless, Witnessed}
@@ -114,26 +114,27 @@ but_one text w = record {
   short = omega (arith, ap length (append-nil text));
 }
 
-but_none : (task : Task) (s : State) (w : Option (List ℕ)) → PrintsBut (pieces task [] s []) w w
-but_none TellVersion s w = but_one version_line w
-but_none (TellValues names) s w = but_one (values_text names s) w
-but_none ReadFolder s w = prints_all [] w w (appends_none w)
+but_none : (given : Given) (task : Task) (s : State) (w : Option (List ℕ))
+    → PrintsBut (pieces given task s []) w w
+but_none given TellVersion s w = but_one version_line w
+but_none given (TellValues names) s w = but_one (values_text names s) w
+but_none given ReadFolder s w = prints_all [] w w (appends_none w)
 
 -- Nothing happened: only what stands outside of events was done.
 module _ (choice : Result PlainOptions (List ℕ)) (start : ℤ) (Has : Kind → Type 0)
-    (letters : List Mail) (events : List Happening) (old new : Outside) (none : letters ≡ [])
-    (begun : events ≡ []) (same_left : new.left ≡ old.left)
+    (given : Given) (events : List Happening) (old new : Outside) (begun : events ≡ [])
+    (same_left : new.left ≡ old.left)
     (same_clock : new.moments ≡ old.moments) (same_told : new.told ≡ old.told)
     (same_disk : new.disk ≡ old.disk) where
   untold : Appends old.told new.told []
   untold = subst (λ (t : Option (List ℕ)). Appends old.told t []) (sym same_told)
       (appends_none old.told)
 
-  reads_none : (status : Status) → EndsAs (acted_on choice) status [] old.left new.left
-      → Prints status (pieces_by choice [] []) old.written new.written
-      → PrintsBut (pieces_by choice [] []) old.written new.written
+  reads_none : (status : Status) → EndsAs given (acted_on choice) status [] old.left new.left
+      → Prints status (pieces_by given choice []) old.written new.written
+      → PrintsBut (pieces_by given choice []) old.written new.written
       → (status ≡ DiskFault → ⊥) → IsChosen choice status
-      → Reads choice start Has [] status [] old new
+      → Reads choice start Has given status [] old new
   reads_none status ends printed but fault chosen = record {
     run = tt;
     ends = ends;
@@ -142,49 +143,49 @@ module _ (choice : Result PlainOptions (List ℕ)) (start : ℤ) (Has : Kind →
         TakesKeys [] (record { pending = []; taken = 0 }) old.left l) (sym same_left)
         (takes_none old.left);
     start_is = tt;
-    given = subst (λ (l : Option (List ℤ)). Gives old.moments l []) (sym same_clock)
+    clocked = subst (λ (l : Option (List ℤ)). Gives old.moments l []) (sym same_clock)
         (gives_none old.moments);
     printed = printed;
     but = but;
     whole = λ over. absurd (subst IsUnopened over tt);
     noted = notes_whole status [] old new untold;
-    told = subst (λ (d : Seen). Witnessed Has [] (first_by choice) [] old.disk d) (sym same_disk)
-        (witnessed_none Has [] (first_by choice) old.disk);
+    told = subst (λ (d : Seen). Witnessed Has given (first_by choice) [] old.disk d) (sym same_disk)
+        (witnessed_none Has given (first_by choice) old.disk);
     listed = tt;
     fault = λ is. absurd (fault is);
     chosen = chosen;
   }
 
-  reads_so : (status : Status) → Reads choice start Has [] status [] old new
-      → Reads choice start Has letters status events old new
+  reads_so : (status : Status) → Reads choice start Has given status [] old new
+      → Reads choice start Has given status events old new
   reads_so status reads =
-      subst (λ (a : List Mail). Reads choice start Has a status events old new) (sym none)
-      (subst (λ (l : List Happening). Reads choice start Has [] status l old new) (sym begun)
-      reads)
+      subst (λ (l : List Happening). Reads choice start Has given status l old new) (sym begun)
+      reads
 
   -- memory ran out at the words
   pub memory_reads : new.written ≡ old.written
-      → Reads choice start Has letters NoMemory events old new
+      → Reads choice start Has given NoMemory events old new
   memory_reads same =
-      let but : PrintsBut (pieces_by choice [] []) old.written new.written =
-      subst (λ (w : Option (List ℕ)). PrintsBut (pieces_by choice [] []) old.written w) (sym same)
-      (but_none (task_by choice) (first_by choice) old.written) in
+      let but : PrintsBut (pieces_by given choice []) old.written new.written =
+      subst (λ (w : Option (List ℕ)). PrintsBut (pieces_by given choice []) old.written w)
+      (sym same)
+      (but_none given (task_by choice) (first_by choice) old.written) in
       reads_so NoMemory (reads_none NoMemory tt but but
       (λ is. subst IsOtherThanDisk is tt) (chosen_memory choice))
 
 -- the words are no command line
 pub usage_reads : (choice : Result PlainOptions (List ℕ)) (start : ℤ) (Has : Kind → Type 0)
-    (letters : List Mail) (events : List Happening) (old new : Outside) → letters ≡ []
+    (given : Given) (events : List Happening) (old new : Outside)
     → events ≡ [] → new.left ≡ old.left → new.moments ≡ old.moments → new.told ≡ old.told
     → new.disk ≡ old.disk → new.written ≡ old.written → (word : Held ℕ) → choice ≡ Err word.items
-    → Reads choice start Has letters (Usage word) events old new
-usage_reads choice start Has letters events old new none begun same_left same_clock same_told
+    → Reads choice start Has given (Usage word) events old new
+usage_reads choice start Has given events old new begun same_left same_clock same_told
     same_disk same word is =
     subst (λ (r : Result PlainOptions (List ℕ)).
-    Reads r start Has letters (Usage word) events old new) (sym is)
-    (reads_so (Err word.items) start Has letters events old new none begun same_left same_clock
+    Reads r start Has given (Usage word) events old new) (sym is)
+    (reads_so (Err word.items) start Has given events old new begun same_left same_clock
     same_told same_disk (Usage word)
-    (reads_none (Err word.items) start Has letters events old new none begun same_left same_clock
+    (reads_none (Err word.items) start Has given events old new begun same_left same_clock
     same_told same_disk (Usage word) refl printed
     (prints_all [] old.written new.written printed)
     (λ is. subst IsOtherThanDisk is tt) refl))
@@ -194,46 +195,47 @@ usage_reads choice start Has letters events old new none begun same_left same_cl
         (appends_none old.written)
 
 -- the version was told
-module _ (o : PlainOptions) (start : ℤ) (Has : Kind → Type 0) (letters : List Mail)
-    (events : List Happening) (old new : Outside) (none : letters ≡ []) (begun : events ≡ [])
+module _ (o : PlainOptions) (start : ℤ) (Has : Kind → Type 0) (given : Given)
+    (events : List Happening) (old new : Outside) (begun : events ≡ [])
     (same_left : new.left ≡ old.left) (same_clock : new.moments ≡ old.moments)
     (same_told : new.told ≡ old.told) (same_disk : new.disk ≡ old.disk)
     (version : o.version ≡ true) where
   is_task : task_of o ≡ TellVersion
   is_task = ap (λ (b : Bool). if b then TellVersion else query_task o.query) version
 
-  abbrev given : List (List ℕ)
-  given = pieces (task_of o) [] (first_by (Ok o)) []
+  abbrev texts : List (List ℕ)
+  texts = pieces given (task_of o) (first_by (Ok o)) []
 
-  given_is : given ≡ version_line ∷ []
-  given_is = ap (λ (t : Task). pieces t [] (first_by (Ok o)) []) is_task
+  texts_are : texts ≡ version_line ∷ []
+  texts_are = ap (λ (t : Task). pieces given t (first_by (Ok o)) []) is_task
 
-  ends_so : (status : Status) → EndsAs o status [] old.left new.left
-      → Prints status given old.written new.written → PrintsBut given old.written new.written
+  ends_so : (status : Status) → EndsAs given o status [] old.left new.left
+      → Prints status texts old.written new.written → PrintsBut texts old.written new.written
       → (status ≡ DiskFault → ⊥) → IsChosen (Ok o) status
-      → Reads (Ok o) start Has letters status events old new
+      → Reads (Ok o) start Has given status events old new
   ends_so status ends printed but fault chosen =
-      reads_so (Ok o) start Has letters events old new none begun same_left same_clock same_told
-      same_disk status (reads_none (Ok o) start Has letters events old new none begun same_left
+      reads_so (Ok o) start Has given events old new begun same_left same_clock same_told
+      same_disk status (reads_none (Ok o) start Has given events old new begun same_left
       same_clock same_told same_disk status ends printed but fault chosen)
 
   pub version_reads : (status : Status) (before after : ℕ)
       → TellsVersion status old.written new.written before after
-      → Reads (Ok o) start Has letters status events old new
+      → Reads (Ok o) start Has given status events old new
   version_reads Done before after told =
-      ends_so Done (subst (λ (t : Task). EndsDone t o [] old.left new.left) (sym is_task) refl)
-      all (prints_all given old.written new.written all)
+      ends_so Done
+      (subst (λ (t : Task). EndsDone given t o [] old.left new.left) (sym is_task) refl)
+      all (prints_all texts old.written new.written all)
       (λ is. subst IsOtherThanDisk is tt) tt
     where
-      all : Appends old.written new.written (concat given)
+      all : Appends old.written new.written (concat texts)
       all = subst (λ (l : List (List ℕ)). Appends old.written new.written (concat l))
-          (sym given_is) (subst (λ (l : List ℕ). Appends old.written new.written l)
+          (sym texts_are) (subst (λ (l : List ℕ). Appends old.written new.written l)
           (sym (append-nil version_line)) told)
   version_reads OutFault before after told =
       ends_so OutFault tt but but (λ is. subst IsOtherThanDisk is tt) tt
     where
-      but : PrintsBut given old.written new.written
-      but = subst (λ (l : List (List ℕ)). PrintsBut l old.written new.written) (sym given_is)
+      but : PrintsBut texts old.written new.written
+      but = subst (λ (l : List (List ℕ)). PrintsBut l old.written new.written) (sym texts_are)
           (record {
             rest = told.0.0;
             sent = (told.0.1.0, append-nil version_line ∙ told.0.1.1, told.0.1.2);
@@ -278,22 +280,22 @@ quiet_counts status keys out errs quiet = record {
 }
 
 -- files of commands alone need no driver
-pub reads_driven : {choice : Result PlainOptions (List ℕ)} {start : ℤ} {letters : List Mail}
+pub reads_driven : {choice : Result PlainOptions (List ℕ)} {start : ℤ} {given : Given}
     {status : Status} {events : List Happening} {old new : Outside} (Has : Kind → Type 0)
-    → AreFiles events → Reads choice start Driverless letters status events old new
-    → Reads choice start Has letters status events old new
-reads_driven {choice} {start} {letters} {status} {events} {old} {new} Has are reads = record {
+    → AreFiles events → Reads choice start Driverless given status events old new
+    → Reads choice start Has given status events old new
+reads_driven {choice} {start} {given} {status} {events} {old} {new} Has are reads = record {
   run = reads.run;
   ends = reads.ends;
   reader = reads.reader;
   takes = reads.takes;
   start_is = reads.start_is;
-  given = reads.given;
+  clocked = reads.clocked;
   printed = reads.printed;
   but = reads.but;
   whole = reads.whole;
   noted = reads.noted;
-  told = witnessed_files Driverless Has letters (first_by choice) events old.disk new.disk are
+  told = witnessed_files Driverless Has given (first_by choice) events old.disk new.disk are
       reads.told;
   listed = reads.listed;
   fault = reads.fault;
@@ -301,16 +303,16 @@ reads_driven {choice} {start} {letters} {status} {events} {old} {new} Has are re
 }
 
 -- words that are a command line choose its options
-pub reads_chosen : {choice : Result PlainOptions (List ℕ)} {o : PlainOptions} {given start : ℤ}
-    {Has : Kind → Type 0} {letters : List Mail} {status : Status} {events : List Happening}
-    {old new : Outside} → given ≡ start → choice ≡ Ok o
-    → Reads (Ok o) given Has letters status events old new
-    → Reads choice start Has letters status events old new
-reads_chosen {choice} {o} {given} {start} {Has} {letters} {status} {events} {old} {new} at is
+pub reads_chosen : {choice : Result PlainOptions (List ℕ)} {o : PlainOptions} {moment start : ℤ}
+    {Has : Kind → Type 0} {given : Given} {status : Status} {events : List Happening}
+    {old new : Outside} → moment ≡ start → choice ≡ Ok o
+    → Reads (Ok o) moment Has given status events old new
+    → Reads choice start Has given status events old new
+reads_chosen {choice} {o} {moment} {start} {Has} {given} {status} {events} {old} {new} at is
     reads =
-    subst (λ (r : Result PlainOptions (List ℕ)). Reads r start Has letters status events old new)
+    subst (λ (r : Result PlainOptions (List ℕ)). Reads r start Has given status events old new)
     (sym is)
-    (subst (λ (m : ℤ). Reads (Ok o) m Has letters status events old new) at reads)
+    (subst (λ (m : ℤ). Reads (Ok o) m Has given status events old new) at reads)
 
 -- and nothing is owed of faulty ones
 pub nothing_owed : {o : PlainOptions} (choice : Result PlainOptions (List ℕ)) (P : Type 0)

@@ -4,6 +4,7 @@ use Rattle.std.specs.Result.{result_unwrap_or}
 use Rattle.mutt_words.specs.Options.{PlainOptions, no_words}
 use Rattle.mutt_words.specs.Words.{options_of}
 use Rattle.session.specs.Events.{Happening}
+use Rattle.session.specs.Given.{Given}
 use Rattle.session.specs.Runs.{State, after_events}
 use Rattle.session.specs.Starting.{PlainSetup, first_state}
 
@@ -50,5 +51,5 @@ abbrev pub task_by : Result PlainOptions (List ℕ) → Task
 task_by choice = task_of (acted_on choice)
 
 -- the state after some events
-abbrev pub state_by : Result PlainOptions (List ℕ) → List Happening → State
-state_by choice events = after_events (first_by choice) events
+abbrev pub state_by : Given → Result PlainOptions (List ℕ) → List Happening → State
+state_by given choice events = after_events given (first_by choice) events

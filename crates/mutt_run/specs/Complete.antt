@@ -8,6 +8,7 @@ use Rattle.mutt_words.specs.Options.{PlainOptions}
 use Rattle.session.specs.Beginning.{IsStated}
 use Rattle.session.specs.Events.{Happening, FileRead, FileRefused, KeyPressed, FolderOpened}
 use Rattle.session.specs.Events.{FolderRefused}
+use Rattle.session.specs.Given.{Given}
 use Rattle.session.specs.Happened.{WasNotListed, kind_in, past_at}
 use Rattle.session.specs.Runs.{State, after}
 use Rattle.session.specs.declared.event.Marks.{Marks}
@@ -36,26 +37,26 @@ WasReadable Has empty path marks (Some past) =
     (length (past_at past marks.mark_after).journal) (past_at past marks.mark_after)
 
 -- each folder that was looked for could be read
-abbrev pub WereReadable : (Kind → Type 0) → State → List Happening → Option Past → Type 0
-WereReadable Has s [] told = Unit {0}
-WereReadable Has s (FileRead path text marks ∷ events) told =
-    WereReadable Has (after s (FileRead path text marks)) events told
-WereReadable Has s (FileRefused path why marks ∷ events) told =
-    WereReadable Has (after s (FileRefused path why marks)) events told
-WereReadable Has s (KeyPressed key moment ∷ events) told =
-    WereReadable Has (after s (KeyPressed key moment)) events told
-WereReadable Has s (FolderOpened path kind moment came marks ∷ events) told =
-    WereReadable Has (after s (FolderOpened path kind moment came marks)) events told
-WereReadable Has s (FolderRefused path why marks ∷ events) told =
+abbrev pub WereReadable : (Kind → Type 0) → Given → State → List Happening → Option Past → Type 0
+WereReadable Has given s [] told = Unit {0}
+WereReadable Has given s (FileRead path text marks ∷ events) told =
+    WereReadable Has given (after given s (FileRead path text marks)) events told
+WereReadable Has given s (FileRefused path why marks ∷ events) told =
+    WereReadable Has given (after given s (FileRefused path why marks)) events told
+WereReadable Has given s (KeyPressed key moment ∷ events) told =
+    WereReadable Has given (after given s (KeyPressed key moment)) events told
+WereReadable Has given s (FolderOpened path kind moment came marks ∷ events) told =
+    WereReadable Has given (after given s (FolderOpened path kind moment came marks)) events told
+WereReadable Has given s (FolderRefused path why marks ∷ events) told =
     WasReadable Has (kind_in s) path marks told
-    × WereReadable Has (after s (FolderRefused path why marks)) events told
+    × WereReadable Has given (after given s (FolderRefused path why marks)) events told
 
 -- The words are a command line, and each folder that was looked for could be read, as the past
 -- tells that a disk has at the end.
-abbrev pub NamesReadable : (Kind → Type 0) → Result PlainOptions (List ℕ) → List Happening
-    → Option Past → Type 0
-NamesReadable Has (Err word) events told = ⊥
-NamesReadable Has (Ok o) events told = WereReadable Has (first_of o) events told
+abbrev pub NamesReadable : (Kind → Type 0) → Given → Result PlainOptions (List ℕ)
+    → List Happening → Option Past → Type 0
+NamesReadable Has given (Err word) events told = ⊥
+NamesReadable Has given (Ok o) events told = WereReadable Has given (first_of o) events told
 
 -- the run is done, or what is empty is not shown, or memory or the limit of keys stopped it
 abbrev pub IsPlainEnd : Status → Type 0

@@ -10,6 +10,7 @@ use Rattle.mutt_words.specs.Options.{PlainOptions}
 use Rattle.session.specs.Beginning.{IsStated}
 use Rattle.session.specs.Events.{AreFiles, Happening, FolderOpened}
 use Rattle.session.specs.Events.{FolderRefused}
+use Rattle.session.specs.Given.{Given}
 use Rattle.session.specs.Happened.{IsListed}
 use Rattle.session.specs.Runs.{after_events}
 use Rattle.session.specs.declared.event.Marks.{Marks}
@@ -45,40 +46,40 @@ pub record IsRefused (why : OpenFault) (events : List Happening) : Type 0 where
   pub events_are : events ≡ files ++ FolderRefused path why marks ∷ []
 
 -- The folder is shown: it was opened, and an empty one may be shown. Its keys end so.
-pub record EndsShown (o : PlainOptions) (status : Status) (events : List Happening)
-    (old new : Option (List ℕ)) : Type 0 where
+pub record EndsShown (given : Given) (o : PlainOptions) (status : Status)
+    (events : List Happening) (old new : Option (List ℕ)) : Type 0 where
   pub came : List Listed
   pub keys : List Happening
   pub opened : IsOpened came keys events
   pub full : o.skip_empty ≡ true → came ≡ [] → ⊥
   pub reader : PlainReader
   pub takes : TakesKeys (pressed_keys events) reader old new
-  pub ends : EndsKeys status (after_events (first_of o) events).turn.stage reader new
+  pub ends : EndsKeys status (after_events given (first_of o) events).turn.stage reader new
 
 -- how a run is done
-abbrev pub EndsDone : Task → PlainOptions → List Happening → Option (List ℕ) → Option (List ℕ)
-    → Type 0
-EndsDone TellVersion o events old new = events ≡ []
-EndsDone (TellValues names) o events old new =
-    AreFiles events × ((after_events (first_of o) events).frames ≡ [])
-EndsDone ReadFolder o events old new = EndsShown o Done events old new
+abbrev pub EndsDone : Given → Task → PlainOptions → List Happening → Option (List ℕ)
+    → Option (List ℕ) → Type 0
+EndsDone given TellVersion o events old new = events ≡ []
+EndsDone given (TellValues names) o events old new =
+    AreFiles events × ((after_events given (first_of o) events).frames ≡ [])
+EndsDone given ReadFolder o events old new = EndsShown given o Done events old new
 
 -- how the events of a run with this status end, and what is left of the keys
-abbrev pub EndsAs : PlainOptions → Status → List Happening → Option (List ℕ) → Option (List ℕ)
-    → Type 0
-EndsAs o Done events old new = EndsDone (task_of o) o events old new
-EndsAs o (Usage word) events old new = events ≡ []
-EndsAs o (NotOpened why) events old new =
+abbrev pub EndsAs : Given → PlainOptions → Status → List Happening → Option (List ℕ)
+    → Option (List ℕ) → Type 0
+EndsAs given o Done events old new = EndsDone given (task_of o) o events old new
+EndsAs given o (Usage word) events old new = events ≡ []
+EndsAs given o (NotOpened why) events old new =
     (task_of o ≡ ReadFolder) × IsStated why × IsRefused why events
-EndsAs o DiskFault events old new = (task_of o ≡ ReadFolder) × IsRefused (Folder Fault) events
-EndsAs o KeysFault events old new =
-    (task_of o ≡ ReadFolder) × EndsShown o KeysFault events old new
-EndsAs o OutFault events old new = Unit {0}
-EndsAs o NoMemory events old new = Unit {0}
-EndsAs o Empty events old new =
+EndsAs given o DiskFault events old new = (task_of o ≡ ReadFolder) × IsRefused (Folder Fault) events
+EndsAs given o KeysFault events old new =
+    (task_of o ≡ ReadFolder) × EndsShown given o KeysFault events old new
+EndsAs given o OutFault events old new = Unit {0}
+EndsAs given o NoMemory events old new = Unit {0}
+EndsAs given o Empty events old new =
     (task_of o ≡ ReadFolder) × (o.skip_empty ≡ true) × IsOpened [] [] events
-EndsAs o TooManyKeys events old new =
-    (task_of o ≡ ReadFolder) × EndsShown o TooManyKeys events old new
+EndsAs given o TooManyKeys events old new =
+    (task_of o ≡ ReadFolder) × EndsShown given o TooManyKeys events old new
 
 -- the status of words that are no command line
 abbrev pub IsUsage : List ℕ → Status → Type 0

@@ -5,11 +5,11 @@ use Rattle.std.specs.Io.KnownBytes.{Appends, IsAtEnd}
 use Rattle.std.specs.List.{concat}
 use Rattle.mail_base.specs.Faults.{Rose}
 use Rattle.mail_base.specs.Streams.{Sent}
-use Rattle.folder_core.specs.Letters.{Mail}
 use Rattle.keymap.specs.Reader.{PlainReader, most_bytes}
 use Rattle.keymap.specs.Stream.{is_open}
 use Rattle.session.specs.Events.{Happening, FileRead, FileRefused, KeyPressed, FolderOpened}
 use Rattle.session.specs.Events.{FolderRefused}
+use Rattle.session.specs.Given.{Given}
 use Rattle.session.specs.Runs.{IsRunFrom, State, after_events, screens_from}
 use Rattle.session.specs.Steps.{Stands}
 use Rattle.session.specs.declared.setup.Next.{Next}
@@ -43,26 +43,26 @@ pub record CountsFaults (status : Status) (keys_before keys_after out_before out
   pub later : out_before ≤ out_after
 
 -- the events are a run to this state, and its screens were printed
-pub record Goes (archive : List Mail) (first : State) (events : List Happening) (state : State)
+pub record Goes (given : Given) (first : State) (events : List Happening) (state : State)
     (old new : Option (List ℕ)) : Type 0 where
   pub screens : List (List (List ℕ))
-  pub stands : Stands archive first events state screens
+  pub stands : Stands given first events state screens
   pub sent : Appends old new (concat (map screen_text screens))
 
 -- The events are a run, whose screens were printed but for a rest of the last; where it is over,
 -- nothing is missing.
-pub record Breaks (archive : List Mail) (first : State) (events : List Happening)
+pub record Breaks (given : Given) (first : State) (events : List Happening)
     (old new : Option (List ℕ)) : Type 0 where
-  pub run : IsRunFrom first events
-  pub prints : PrintsBut (map screen_text (screens_from archive first events)) old new
-  pub whole : (after_events first events).turn.stage ≡ Over
-      → Appends old new (concat (map screen_text (screens_from archive first events)))
+  pub run : IsRunFrom given first events
+  pub prints : PrintsBut (map screen_text (screens_from given first events)) old new
+  pub whole : (after_events given first events).turn.stage ≡ Over
+      → Appends old new (concat (map screen_text (screens_from given first events)))
 
 -- a key was taken, and the next screen was printed or the run is over; or it broke off
-abbrev pub Turned : Result Next Status → List Mail → State → List Happening → State
+abbrev pub Turned : Given → Result Next Status → State → List Happening → State
     → Option (List ℕ) → Option (List ℕ) → Type 0
-Turned (Ok next) archive first events state old new = Goes archive first events state old new
-Turned (Err status) archive first events state old new = Breaks archive first events old new
+Turned given (Ok next) first events state old new = Goes given first events state old new
+Turned given (Err status) first events state old new = Breaks given first events old new
 
 abbrev pub IsTurnedTo : Result Next Status → Stage → Type 0
 IsTurnedTo (Ok Go) stage = stage ≡ Idle
@@ -105,11 +105,11 @@ EndsKeys DiskFault stage reader left = ⊥
 EndsKeys Empty stage reader left = ⊥
 
 -- the run goes on up to its end, or breaks off
-abbrev pub Ended : Status → List Mail → State → List Happening → State → Option (List ℕ)
+abbrev pub Ended : Given → Status → State → List Happening → State → Option (List ℕ)
     → Option (List ℕ) → Type 0
-Ended OutFault archive first events state old new = Breaks archive first events old new
-Ended NoMemory archive first events state old new = Breaks archive first events old new
-Ended status archive first events state old new = Goes archive first events state old new
+Ended given OutFault first events state old new = Breaks given first events old new
+Ended given NoMemory first events state old new = Breaks given first events old new
+Ended given status first events state old new = Goes given first events state old new
 
 -- keys were pressed up to this end
 pub record GoesToEnd (status : Status) (events events' : List Happening) (stage : Stage)

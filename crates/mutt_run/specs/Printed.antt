@@ -4,9 +4,9 @@ use Rattle.std.specs.Io.KnownBytes.{Appends}
 use Rattle.std.specs.List.{concat}
 use Rattle.mail_base.specs.Faults.{Rose}
 use Rattle.mail_base.specs.Streams.{Sent}
-use Rattle.folder_core.specs.Letters.{Mail}
 use Rattle.mutt_words.specs.Options.{PlainOptions}
 use Rattle.session.specs.Events.{Happening}
+use Rattle.session.specs.Given.{Given}
 use Rattle.session.specs.Runs.{State, after_events, screens_from}
 use Rattle.session_state.specs.Rules.{answer_line}
 use Rattle.mutt_run.specs.Choice.{Task, TellVersion, TellValues, ReadFolder}
@@ -26,15 +26,15 @@ values_text names s = printed_lines (map (answer_line s.turn.core.rules.settings
 -- The pieces that are printed, each in one write: the version; the lines of the variables, with the
 -- values that the commands gave them; or one screen after the opening and after each key that does
 -- not end the run.
-abbrev pub pieces : Task → List Mail → State → List Happening → List (List ℕ)
-pieces TellVersion archive first events = version_line ∷ []
-pieces (TellValues names) archive first events =
-    values_text names (after_events first events) ∷ []
-pieces ReadFolder archive first events = map screen_text (screens_from archive first events)
+abbrev pub pieces : Given → Task → State → List Happening → List (List ℕ)
+pieces given TellVersion first events = version_line ∷ []
+pieces given (TellValues names) first events =
+    values_text names (after_events given first events) ∷ []
+pieces given ReadFolder first events = map screen_text (screens_from given first events)
 
 -- the pieces of what the words choose
-abbrev pub pieces_by : Result PlainOptions (List ℕ) → List Mail → List Happening → List (List ℕ)
-pieces_by choice archive events = pieces (task_by choice) archive (first_by choice) events
+abbrev pub pieces_by : Given → Result PlainOptions (List ℕ) → List Happening → List (List ℕ)
+pieces_by given choice events = pieces given (task_by choice) (first_by choice) events
 
 -- how long the last of some pieces is
 abbrev pub last_length : List (List ℕ) → ℕ

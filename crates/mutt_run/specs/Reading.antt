@@ -6,10 +6,10 @@ use Rattle.mail_base.specs.Faults.{Rose}
 use Rattle.mail_base.specs.Streams.{Sent}
 use Rattle.mail_base.specs.declared.kind.Kind.{Kind}
 use Rattle.disk_model.specs.Seen.{Seen}
-use Rattle.folder_core.specs.Letters.{Mail}
 use Rattle.keymap.specs.Reader.{PlainReader}
 use Rattle.mutt_words.specs.Options.{PlainOptions}
 use Rattle.session.specs.Events.{Happening}
+use Rattle.session.specs.Given.{Given}
 use Rattle.session.specs.Runs.{IsRunFrom}
 use Rattle.session.specs.Telling.{Witnessed}
 use Rattle.session_state.specs.declared.desk.Stage.TheVariants.{Over}
@@ -54,21 +54,21 @@ TellsNotes status text old new = Appends old.told new.told text
 -- for was printed and told, and what they say is true. Whatever the status, no more than a rest of
 -- the last piece is missing.
 pub record Reads (choice : Result PlainOptions (List ℕ)) (start : ℤ) (Has : Kind → Type 0)
-    (archive : List Mail) (status : Status) (events : List Happening) (old new : Outside)
+    (given : Given) (status : Status) (events : List Happening) (old new : Outside)
     : Type 0 where
-  pub run : IsRunFrom (first_by choice) events
-  pub ends : EndsAs (acted_on choice) status events old.left new.left
+  pub run : IsRunFrom given (first_by choice) events
+  pub ends : EndsAs given (acted_on choice) status events old.left new.left
   pub reader : PlainReader
   pub takes : TakesKeys (pressed_keys events) reader old.left new.left
   pub start_is : IsStart start events
-  pub given : Gives old.moments new.moments (pressed_moments events)
-  pub printed : Prints status (pieces_by choice archive events) old.written new.written
-  pub but : PrintsBut (pieces_by choice archive events) old.written new.written
-  pub whole : (state_by choice events).turn.stage ≡ Over
-      → Appends old.written new.written (concat (pieces_by choice archive events))
-  pub noted : TellsNotes status (printed_lines (state_by choice events).notes) old new
-  pub told : Witnessed Has archive (first_by choice) events old.disk new.disk
-  pub listed : AllListed archive events
+  pub clocked : Gives old.moments new.moments (pressed_moments events)
+  pub printed : Prints status (pieces_by given choice events) old.written new.written
+  pub but : PrintsBut (pieces_by given choice events) old.written new.written
+  pub whole : (state_by given choice events).turn.stage ≡ Over
+      → Appends old.written new.written (concat (pieces_by given choice events))
+  pub noted : TellsNotes status (printed_lines (state_by given choice events).notes) old new
+  pub told : Witnessed Has given (first_by choice) events old.disk new.disk
+  pub listed : AllListed given.mails events
   pub fault : status ≡ DiskFault → Rose old.disk.faults new.disk.faults
   pub chosen : IsChosen choice status
 

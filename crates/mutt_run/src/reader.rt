@@ -10,6 +10,7 @@ ghost use Rattle.folder_core.specs.Letters.{plain_letter};
 ghost use Rattle.mutt_words.specs.Options.{IsUsable, plain_options};
 ghost use Rattle.mutt_words.specs.Words.{options_of};
 ghost use Rattle.session.specs.Events.{plain_events};
+ghost use Rattle.session.specs.Given.{given_of};
 ghost use Rattle.session.specs.Runs.{IsRunFrom};
 ghost use Rattle.session.specs.Telling.{Witnessed};
 ghost use Rattle.session_state.specs.declared.desk.Stage.TheVariants.{Over};
@@ -49,6 +50,7 @@ pub fn run<K: Source, O: Sink, E: Sink, C: Clock>(
     requires archive { trace.old.archive.items ≡ [] }
     requires events { trace.old.events.items ≡ [] }
     requires notes { trace.old.notes.items ≡ [] }
+    requires verdicts { trace.old.verdicts.kept ≡ [] }
 
     // What the words decide.
     ensures words { IsChosen (options_of (plain_texts words.now)) result }
@@ -57,9 +59,12 @@ pub fn run<K: Source, O: Sink, E: Sink, C: Clock>(
         (λ word. plain_events trace.new.events.items ≡ []) }
 
     // The events are a run, and it ends as the status says.
-    ensures run { IsRunFrom (first_by (options_of (plain_texts words.now)))
-        (plain_events trace.new.events.items) }
-    ensures ends { EndsAs (chosen (plain_texts words.now)) result
+    ensures run { IsRunFrom
+        (given_of (map plain_letter trace.new.archive.items) trace.new.verdicts.kept)
+        (first_by (options_of (plain_texts words.now))) (plain_events trace.new.events.items) }
+    ensures ends { EndsAs
+        (given_of (map plain_letter trace.new.archive.items) trace.new.verdicts.kept)
+        (chosen (plain_texts words.now)) result
         (plain_events trace.new.events.items) (K.left keys.old) (K.left keys.new) }
     ensures keys { TakesSome (plain_events trace.new.events.items) (K.left keys.old)
         (K.left keys.new) }
@@ -67,26 +72,34 @@ pub fn run<K: Source, O: Sink, E: Sink, C: Clock>(
         (plain_events trace.new.events.items) }
 
     // What is printed and told.
-    ensures out { Prints result (pieces_by (options_of (plain_texts words.now))
-        (map plain_letter trace.new.archive.items) (plain_events trace.new.events.items))
+    ensures out { Prints result (pieces_by
+        (given_of (map plain_letter trace.new.archive.items) trace.new.verdicts.kept)
+        (options_of (plain_texts words.now)) (plain_events trace.new.events.items))
         (O.written out.old) (O.written out.new) }
-    ensures errs { Tells (λ status. EndsAs (chosen (plain_texts words.now)) status
-        (plain_events trace.new.events.items) (K.left keys.old) (K.left keys.new)
+    ensures errs { Tells (λ status. EndsAs
+        (given_of (map plain_letter trace.new.archive.items) trace.new.verdicts.kept)
+        (chosen (plain_texts words.now)) status (plain_events trace.new.events.items)
+        (K.left keys.old) (K.left keys.new)
         × IsChosen (options_of (plain_texts words.now)) status)
         (Rose (E.faults errs.old) (E.faults errs.new))
-        (state_by (options_of (plain_texts words.now)) (plain_events trace.new.events.items)).notes
+        (state_by (given_of (map plain_letter trace.new.archive.items) trace.new.verdicts.kept)
+        (options_of (plain_texts words.now)) (plain_events trace.new.events.items)).notes
         (folder_in (plain_events trace.new.events.items)) result
         (E.written errs.old) (E.written errs.new) }
     // Behind the event that ends a run nothing is missing of its screens.
-    ensures whole { (state_by (options_of (plain_texts words.now))
-        (plain_events trace.new.events.items)).turn.stage ≡ Over
+    ensures whole { (state_by
+        (given_of (map plain_letter trace.new.archive.items) trace.new.verdicts.kept)
+        (options_of (plain_texts words.now)) (plain_events trace.new.events.items)).turn.stage
+        ≡ Over
         → Appends (O.written out.old) (O.written out.new)
-        (concat (pieces_by (options_of (plain_texts words.now))
-        (map plain_letter trace.new.archive.items) (plain_events trace.new.events.items))) }
+        (concat (pieces_by
+        (given_of (map plain_letter trace.new.archive.items) trace.new.verdicts.kept)
+        (options_of (plain_texts words.now)) (plain_events trace.new.events.items))) }
 
     // What the events say of the disk is true, and nothing is changed there.
     ensures told { Witnessed (λ kind. Any (λ d. sort (d.vtable, d.value) ≡ kind)
-        drivers.old.list.items) (map plain_letter trace.new.archive.items)
+        drivers.old.list.items)
+        (given_of (map plain_letter trace.new.archive.items) trace.new.verdicts.kept)
         (first_by (options_of (plain_texts words.now))) (plain_events trace.new.events.items)
         (seen (dev.old.disk.vtable, dev.old.disk.value))
         (seen (dev.new.disk.vtable, dev.new.disk.value)) }
@@ -109,6 +122,7 @@ pub fn run<K: Source, O: Sink, E: Sink, C: Clock>(
     // keys.
     ensures complete { NamesReadable (λ kind. Any (λ d. sort (d.vtable, d.value) ≡ kind)
         drivers.old.list.items)
+        (given_of (map plain_letter trace.new.archive.items) trace.new.verdicts.kept)
         (options_of (plain_texts words.now)) (plain_events trace.new.events.items)
         (seen (dev.new.disk.vtable, dev.new.disk.value)).told
         → ¬ (Rose (seen (dev.old.disk.vtable, dev.old.disk.value)).faults
@@ -142,7 +156,8 @@ fn obey_words<K: Source, O: Sink, E: Sink, C: Clock>(
     requires notes { trace.old.notes.items ≡ [] }
     ensures reads { Reads (options_of (plain_texts words.now)) moment
         (λ kind. Any (λ d. sort (d.vtable, d.value) ≡ kind) drivers.now.list.items)
-        (map plain_letter trace.new.archive.items) result (plain_events trace.new.events.items)
+        (given_of (map plain_letter trace.new.archive.items) trace.new.verdicts.kept)
+        result (plain_events trace.new.events.items)
         (outside (O.written out.old) (E.written errs.old) (E.faults errs.old) (K.left keys.old)
         (C.moments clock.old) (seen (dev.old.disk.vtable, dev.old.disk.value)))
         (outside (O.written out.new) (E.written errs.new) (E.faults errs.new) (K.left keys.new)
@@ -180,7 +195,8 @@ fn obey<K: Source, O: Sink, E: Sink, C: Clock>(
     requires usable { IsUsable options }
     ensures reads { Reads (Ok (plain_options options)) moment
         (λ kind. Any (λ d. sort (d.vtable, d.value) ≡ kind) drivers.now.list.items)
-        (map plain_letter trace.new.archive.items) result (plain_events trace.new.events.items)
+        (given_of (map plain_letter trace.new.archive.items) trace.new.verdicts.kept)
+        result (plain_events trace.new.events.items)
         (outside (O.written out.old) (E.written errs.old) (E.faults errs.old) (K.left keys.old)
         (C.moments clock.old) (seen (dev.old.disk.vtable, dev.old.disk.value)))
         (outside (O.written out.new) (E.written errs.new) (E.faults errs.new) (K.left keys.new)

@@ -7,6 +7,7 @@ ghost use Rattle.folder_core.specs.Letters.{plain_letter};
 ghost use Rattle.mutt_words.specs.Options.{PlainOptions};
 ghost use Rattle.session.specs.Beginning.{Starts};
 ghost use Rattle.session.specs.Events.{AreFiles, plain_events};
+ghost use Rattle.session.specs.Given.{Given, IsGiven, given_of};
 ghost use Rattle.session.specs.Runs.{plain_session};
 ghost use Rattle.session.specs.Starting.{plain_setup};
 ghost use Rattle.session.specs.Telling.{Driverless};
@@ -46,7 +47,8 @@ pub fn read<K: Source, O: Sink, E: Sink, C: Clock>(
     ensures reads { (o : PlainOptions) → plain_setup setup ≡ setup_of o
         → o.skip_empty ≡ skip_empty → task_of o ≡ ReadFolder → Reads (Ok o) moment
         (λ kind. Any (λ d. sort (d.vtable, d.value) ≡ kind) drivers.now.list.items)
-        (map plain_letter trace.new.archive.items) result (plain_events trace.new.events.items)
+        (given_of (map plain_letter trace.new.archive.items) trace.new.verdicts.kept)
+        result (plain_events trace.new.events.items)
         (outside (O.written out.old) (E.written errs.old) (E.faults errs.old) (K.left keys.old)
         (C.moments clock.old) (seen (dev.old.disk.vtable, dev.old.disk.value)))
         (outside (O.written out.new) (E.written errs.new) (E.faults errs.new) (K.left keys.new)
@@ -88,13 +90,15 @@ fn read_on<K: Source, O: Sink, E: Sink, C: Clock>(
 ) -> Status
     requires tall { 6 ≤ session.old.core.desk.rows }
     ensures reads { (o : PlainOptions) → o.skip_empty ≡ skip_empty → task_of o ≡ ReadFolder
-        → (start : ℤ) → (before now : Seen) → Starts
+        → (start : ℤ) → (before now : Seen) → ((given : Given)
+        → IsGiven (map plain_letter trace.old.archive.items) trace.old.verdicts.kept given → Starts
         (λ kind. Any (λ d. sort (d.vtable, d.value) ≡ kind) drivers.now.list.items)
-        (map plain_letter trace.old.archive.items) (first_of o) start
-        (plain_events trace.old.events.items) (plain_session session.old trace.old.notes) before now
+        given (first_of o) start (plain_events trace.old.events.items)
+        (plain_session session.old trace.old.notes) before now)
         → Reads (Ok o) start
         (λ kind. Any (λ d. sort (d.vtable, d.value) ≡ kind) drivers.now.list.items)
-        (map plain_letter trace.new.archive.items) result (plain_events trace.new.events.items)
+        (given_of (map plain_letter trace.new.archive.items) trace.new.verdicts.kept)
+        result (plain_events trace.new.events.items)
         (outside (O.written out.old) (E.written errs.old) (E.faults errs.old) (K.left keys.old)
         (C.moments clock.old) before)
         (outside (O.written out.new) (E.written errs.new) (E.faults errs.new) (K.left keys.new)
@@ -147,7 +151,8 @@ pub fn answer<O: Sink, E: Sink>(
     ensures reads { (o : PlainOptions) → plain_setup setup ≡ setup_of o
         → task_of o ≡ TellValues (plain_texts names.now) → (moment : ℤ)
         → (left : Option (List ℕ)) → (moments : Option (List ℤ)) → Reads (Ok o) moment Driverless
-        (map plain_letter trace.new.archive.items) result (plain_events trace.new.events.items)
+        (given_of (map plain_letter trace.new.archive.items) trace.new.verdicts.kept)
+        result (plain_events trace.new.events.items)
         (outside (O.written out.old) (E.written errs.old) (E.faults errs.old) left moments
         (seen (dev.old.disk.vtable, dev.old.disk.value)))
         (outside (O.written out.new) (E.written errs.new) (E.faults errs.new) left moments

@@ -4,8 +4,9 @@ ghost use Rattle.std.specs.Prelude.{◌≡◌, ◌≤◌, ◌<◌, ◌++◌, ◌
 ghost use Rattle.std.specs.Prelude.{OnOk, IsErrOf, map, Option};
 ghost use Rattle.mail_base.specs.Faults.{Rose};
 ghost use Rattle.disk_model.specs.Seen.{Seen};
-ghost use Rattle.folder_core.specs.Letters.{Mail, plain_letter};
+ghost use Rattle.folder_core.specs.Letters.{plain_letter};
 ghost use Rattle.session.specs.Events.{KeyPressed, plain_events};
+ghost use Rattle.session.specs.Given.{Given, IsGiven, Keeps};
 ghost use Rattle.session.specs.Runs.{State, plain_session};
 ghost use Rattle.session.specs.Steps.{Waits};
 ghost use Rattle.session.specs.Telling.{Witnessed};
@@ -39,20 +40,22 @@ pub fn go<K: Source, O: Sink, C: Clock>(
     trace: &mut Trace,
 ) -> Status
     requires tall { 6 ≤ session.old.core.desk.rows }
-    ensures ended { (first : State) → Waits (map plain_letter trace.old.archive.items) first
-        (plain_events trace.old.events.items) (plain_session session.old trace.old.notes)
-        → Ended result (map plain_letter trace.new.archive.items) first
-        (plain_events trace.new.events.items) (plain_session session.new trace.new.notes)
-        (O.written out.old) (O.written out.new) }
+    ensures ended { (given : Given)
+        → IsGiven (map plain_letter trace.new.archive.items) trace.new.verdicts.kept given
+        → (first : State) → Waits given first (plain_events trace.old.events.items)
+        (plain_session session.old trace.old.notes)
+        → Ended given result first (plain_events trace.new.events.items)
+        (plain_session session.new trace.new.notes) (O.written out.old) (O.written out.new) }
     ensures pressed { GoesToEnd result (plain_events trace.old.events.items)
         (plain_events trace.new.events.items) session.new.stage (K.left keys.old)
         (K.left keys.new) (C.moments clock.old) (C.moments clock.new) }
-    ensures told { (archive : List Mail) → (first : State) → (before seen : Seen)
+    ensures told { (given : Given) → (first : State) → (before seen : Seen)
         → Witnessed (λ kind. Any (λ d. sort (d.vtable, d.value) ≡ kind) drivers.now.list.items)
-        archive first (plain_events trace.old.events.items) before seen
+        given first (plain_events trace.old.events.items) before seen
         → Witnessed (λ kind. Any (λ d. sort (d.vtable, d.value) ≡ kind) drivers.now.list.items)
-        archive first (plain_events trace.new.events.items) before seen }
+        given first (plain_events trace.new.events.items) before seen }
     ensures archive { trace.new.archive ≡ trace.old.archive }
+    ensures kept { Keeps trace.old.verdicts.kept trace.new.verdicts.kept }
     ensures faults { CountsFaults result (K.faults keys.old) (K.faults keys.new)
         (O.faults out.old) (O.faults out.new) }
 {
@@ -79,22 +82,23 @@ fn press_all<K: Source, O: Sink, C: Clock>(
 ) -> Status
     requires idle { session.old.stage ≡ Idle }
     requires tall { 6 ≤ session.old.core.desk.rows }
-    ensures ended { (first : State) → (start : Option (List ℕ))
-        → Goes (map plain_letter trace.old.archive.items) first
+    ensures ended { (given : Given)
+        → IsGiven (map plain_letter trace.new.archive.items) trace.new.verdicts.kept given
+        → (first : State) → (start : Option (List ℕ)) → Goes given first
         (plain_events trace.old.events.items) (plain_session session.old trace.old.notes)
         start (O.written out.old)
-        → Ended result (map plain_letter trace.new.archive.items) first
-        (plain_events trace.new.events.items) (plain_session session.new trace.new.notes)
-        start (O.written out.new) }
+        → Ended given result first (plain_events trace.new.events.items)
+        (plain_session session.new trace.new.notes) start (O.written out.new) }
     ensures pressed { GoesToEnd result (plain_events trace.old.events.items)
         (plain_events trace.new.events.items) session.new.stage (K.left keys.old)
         (K.left keys.new) (C.moments clock.old) (C.moments clock.new) }
-    ensures told { (archive : List Mail) → (first : State) → (before seen : Seen)
+    ensures told { (given : Given) → (first : State) → (before seen : Seen)
         → Witnessed (λ kind. Any (λ d. sort (d.vtable, d.value) ≡ kind) drivers.now.list.items)
-        archive first (plain_events trace.old.events.items) before seen
+        given first (plain_events trace.old.events.items) before seen
         → Witnessed (λ kind. Any (λ d. sort (d.vtable, d.value) ≡ kind) drivers.now.list.items)
-        archive first (plain_events trace.new.events.items) before seen }
+        given first (plain_events trace.new.events.items) before seen }
     ensures archive { trace.new.archive ≡ trace.old.archive }
+    ensures kept { Keeps trace.old.verdicts.kept trace.new.verdicts.kept }
     ensures faults { CountsFaults result (K.faults keys.old) (K.faults keys.new)
         (O.faults out.old) (O.faults out.new) }
 {
@@ -132,23 +136,24 @@ fn turn<O: Sink>(
     requires idle { session.old.stage ≡ Idle }
     requires tall { 6 ≤ session.old.core.desk.rows }
     requires room { 0 < trace.old.events.room }
-    ensures turned { (first : State) → (start : Option (List ℕ))
-        → Goes (map plain_letter trace.old.archive.items) first
+    ensures turned { (given : Given)
+        → IsGiven (map plain_letter trace.new.archive.items) trace.new.verdicts.kept given
+        → (first : State) → (start : Option (List ℕ)) → Goes given first
         (plain_events trace.old.events.items) (plain_session session.old trace.old.notes)
         start (O.written out.old)
-        → Turned result (map plain_letter trace.new.archive.items) first
-        (plain_events trace.new.events.items) (plain_session session.new trace.new.notes)
-        start (O.written out.new) }
+        → Turned given result first (plain_events trace.new.events.items)
+        (plain_session session.new trace.new.notes) start (O.written out.new) }
     ensures to { IsTurnedTo result session.new.stage }
     ensures tall { OnOk result (6 ≤ session.new.core.desk.rows) }
     ensures pressed { plain_events trace.new.events.items
         ≡ plain_events trace.old.events.items ++ KeyPressed key moment ∷ [] }
-    ensures told { (archive : List Mail) → (first : State) → (before seen : Seen)
+    ensures told { (given : Given) → (first : State) → (before seen : Seen)
         → Witnessed (λ kind. Any (λ d. sort (d.vtable, d.value) ≡ kind) drivers.now.list.items)
-        archive first (plain_events trace.old.events.items) before seen
+        given first (plain_events trace.old.events.items) before seen
         → Witnessed (λ kind. Any (λ d. sort (d.vtable, d.value) ≡ kind) drivers.now.list.items)
-        archive first (plain_events trace.new.events.items) before seen }
+        given first (plain_events trace.new.events.items) before seen }
     ensures archive { trace.new.archive ≡ trace.old.archive }
+    ensures kept { Keeps trace.old.verdicts.kept trace.new.verdicts.kept }
     ensures cause { IsErrOf result Status.OutFault → Rose (O.faults out.old) (O.faults out.new) }
     ensures later { O.faults out.old ≤ O.faults out.new }
 {

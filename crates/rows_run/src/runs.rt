@@ -6,11 +6,12 @@ use case_disks::{disk_of, numbers_of, text_of, words_of};
 use case_files::{Answer, Case, CaseFault, Subject};
 use disk_model::{Device, Disk};
 use folder_core::{Archive, Drivers};
-use mail_base::{Bytes, Lines, MemoryClock, MemorySink, MemorySource, Words};
+use mail_base::{Bytes, Lines, MemoryClock, MemorySink, MemorySource, Names, Words};
 use maildir_folder::MaildirDriver;
 use mbox_folder::MboxDriver;
 use mh_folder::MhDriver;
 use mutt_run::run;
+use people::{RegexBuild, Verdicts};
 use session::{Event, Events, Trace};
 use std::alloc::Global;
 
@@ -100,10 +101,12 @@ fn end_of_run(
     if drivers.add(Box::new(alloc, MhDriver::new())?).is_err() {
         return Err(CaseFault::NoMemory);
     }
+    let builder = Box::new(alloc, RegexBuild::new(Names::new(alloc)))?;
     let mut trace = Trace {
         archive: Archive::new(alloc),
         events: Events::new(alloc),
         notes: Lines::new(alloc),
+        verdicts: Verdicts::new(alloc, builder),
     };
     let status = run(
         alloc,

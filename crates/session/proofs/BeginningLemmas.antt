@@ -25,21 +25,22 @@ use Rattle.session.specs.Beginning.{AnswersNames, BeginsRun, EndsStart, Fails, I
 use Rattle.session.specs.Beginning.{Starts, start_error}
 use Rattle.session.specs.Events.{Happening, FileRead, FileRefused, KeyPressed, FolderOpened}
 use Rattle.session.specs.Events.{FolderRefused}
-use Rattle.session.specs.Happened.{Counts, HasCause, kind_in}
+use Rattle.session.specs.Given.{Given}
+use Rattle.session.specs.Happened.{Counts, HasCause, IsListed, kind_in}
 use Rattle.session.specs.Opening.{IsOpening, OpensPath, refusal_of}
 use Rattle.session.specs.Runs.{Answers, State, after, after_events, arrived, first_wish}
 use Rattle.session.specs.Runs.{moment_of, pushed, shown, wish_at}
 use Rattle.session.specs.Steps.{Sources, SourcesOff, Stands, Waits}
-use Rattle.session.specs.Telling.{Driverless, Witnessed}
+use Rattle.session.specs.Telling.{Driverless, Tells, Witnessed}
 use Rattle.session.proofs.SettlingLemmas.{opened_rows}
 use Rattle.session.proofs.StepsLemmas.{stands_push}
 use Rattle.session.proofs.TellingLemmas.{witnessed_files, witnessed_push}
 
 -- the keys that commands have put acted
-pub waits_then : (archive : List Mail) (first s t : State) (events : List Happening)
-    → t ≡ pushed s → Waits archive first events s → Stands archive first events t (shown archive t)
-waits_then archive first s t events is waits =
-    subst (λ (u : State). Stands archive first events u (shown archive u)) (sym is) (record {
+pub waits_then : (given : Given) (first s t : State) (events : List Happening)
+    → t ≡ pushed given s → Waits given first events s → Stands given first events t (shown given t)
+waits_then given first s t events is waits =
+    subst (λ (u : State). Stands given first events u (shown given u)) (sym is) (record {
       run = waits.run;
       state_is = waits.state_is;
       screens_are = waits.screens_are;
@@ -98,12 +99,13 @@ ok_at From Is (Ok value) was first before is = was first before is
 ok_at From Is (Err e) was first before is = tt
 
 -- the files were read to their ends, and names are asked for
-answers_names : (first s : State) (events : List Happening) (names lines : List (List ℕ))
-    (before now : Seen) → Sources first events s before now → s.frames ≡ []
+answers_names : (given : Given) (first s : State) (events : List Happening)
+    (names lines : List (List ℕ)) (before now : Seen) → Sources first events s before now
+    → s.frames ≡ []
     → lines ≡ map (answer_line s.turn.core.rules.settings) names
-    → AnswersNames first events names lines s.notes
-answers_names first s events names lines before now sources read are =
-    let at : after_events first events ≡ s = (sources.stands []).state_is in record {
+    → AnswersNames given first events names lines s.notes
+answers_names given first s events names lines before now sources read are =
+    let at : after_events given first events ≡ s = (sources.stands given).state_is in record {
       read = ap (λ (u : State). u.frames) at ∙ read;
       noted = ap (λ (u : State). u.notes) at;
       lines_are = are ∙ sym (ap (λ (u : State).
@@ -117,35 +119,36 @@ pub answers_from : (From : State → Seen → Type 0) (s : State) (events : List
     → IfOk result (λ lines. plain_texts lines
     ≡ map (answer_line s.turn.core.rules.settings) names)
     → IfOk result (λ lines. (first : State) → (before : Seen) → From first before
-    → AnswersNames first events names (plain_texts lines) s.notes)
+    → (given : Given) → AnswersNames given first events names (plain_texts lines) s.notes)
 answers_from From s events names now (Ok lines) goes read are =
-    λ first before is.
-    answers_names first s events names (plain_texts lines) before now (goes first before is) read
-    are
+    λ first before is given.
+    answers_names given first s events names (plain_texts lines) before now
+    (goes first before is) read are
 answers_from From s events names now (Err e) goes read are = tt
 
 -- no folder was looked for
-pub fails_early : (Has : Kind → Type 0) (letters : List Mail) (first : State) (moment : ℤ)
-    (notes : List (List ℕ)) (events : List Happening) (before now : Seen) → letters ≡ []
+pub fails_early : (Has : Kind → Type 0) (given : Given) (first : State) (moment : ℤ)
+    (notes : List (List ℕ)) (events : List Happening) (before now : Seen) → given.mails ≡ []
     → SourcesOff first events before now
-    → Fails Has letters first moment error.NoMemory notes events before now
-fails_early Has letters first moment notes events before now none off = record {
+    → Fails Has given first moment error.NoMemory notes events before now
+fails_early Has given first moment notes events before now none off = record {
   opening = [];
   begins = record {
     files = events;
     are_files = off.are;
     opens = none;
     events_are = sym (append-nil events);
-    run = off.run;
-    told = witnessed_files Driverless Has letters first events before now off.are
-        (off.told letters);
+    run = off.run given;
+    told = witnessed_files Driverless Has given first events before now off.are
+        (off.told given);
   };
   ends = tt;
   noted = tt;
 }
 
 -- A folder was looked for.
-module _ (Has : Kind → Type 0) (letters : List Mail) (first s : State) (moment : ℤ)
+module _ (Has : Kind → Type 0) (given : Given) (letters : List Mail)
+    (mails : given.mails ≡ letters) (first s : State) (moment : ℤ)
     (events mid events' : List Happening) (event : Happening) (before now next : Seen)
     (same : mid ≡ events) (puts : events' ≡ mid ++ event ∷ []) (stage : s.turn.stage ≡ Unopened)
     (read : s.frames ≡ [])
@@ -161,34 +164,37 @@ module _ (Has : Kind → Type 0) (letters : List Mail) (first s : State) (moment
       ∙ ap (λ (frames : List PlainFrame). first_wish frames s) read
       ∙ sym opens.answers
 
-  look_stands : (archive : List Mail)
-      → Stands archive first events' (after s event) (shown archive (after s event))
-  look_stands archive =
-      subst (λ (l : List Happening). Stands archive first l (after s event)
-      (shown archive (after s event))) (sym put)
-      (stands_push archive first s events event [] (sources.stands archive) look_answers)
+  look_stands : Stands given first events' (after given s event) (shown given (after given s event))
+  look_stands =
+      subst (λ (l : List Happening). Stands given first l (after given s event)
+      (shown given (after given s event))) (sym put)
+      (stands_push given first s events event [] (sources.stands given) look_answers)
 
-  look_told : Witnessed Has letters first events' before next
+  look_told : Witnessed Has given first events' before next
   look_told =
-      subst (λ (l : List Happening). Witnessed Has letters first l before next) (sym put)
-      (witnessed_push Has letters first s events event before now next
-      (sources.stands letters).state_is opens.tells
-      (witnessed_files Driverless Has letters first events before now sources.are
-      (sources.told letters)))
+      subst (λ (l : List Happening). Witnessed Has given first l before next) (sym put)
+      (witnessed_push Has given first s events event before now next
+      (sources.stands given).state_is
+      (subst (λ (l : List Mail). Tells Has (kind_in s) l event now next) (sym mails) opens.tells)
+      (witnessed_files Driverless Has given first events before now sources.are
+      (sources.told given)))
 
-  look_begins : BeginsRun Has letters first moment (event ∷ []) events' before next
+  look_begins : BeginsRun Has given first moment (event ∷ []) events' before next
   look_begins = record {
     files = events;
     are_files = sources.are;
-    opens = (opens.opening, opens.listed);
+    opens = (
+      opens.opening,
+      subst (λ (l : List Mail). IsListed l event) (sym mails) opens.listed,
+    );
     events_are = put;
-    run = (look_stands []).run;
+    run = look_stands.run;
     told = look_told;
   }
 
   -- memory ran out behind the look
   pub fails_late : (notes : List (List ℕ))
-      → Fails Has letters first moment error.NoMemory notes events' before next
+      → Fails Has given first moment error.NoMemory notes events' before next
   fails_late notes = record {
     opening = event ∷ [];
     begins = look_begins;
@@ -197,25 +203,26 @@ module _ (Has : Kind → Type 0) (letters : List Mail) (first s : State) (moment
   }
 
   starts_by : (t : State) (e : Happening) → e ≡ event → IsOpening moment e → refusal_of e ≡ None
-      → t ≡ arrived s e → Starts Has letters first moment events' t before next
+      → t ≡ arrived given s e → Starts Has given first moment events' t before next
   starts_by t (FolderOpened path kind late came marks) is at none arrives = record {
     path = path;
     kind = kind;
     came = came;
     marks = marks;
     begins =
-        subst (λ (e : Happening). BeginsRun Has letters first moment (e ∷ []) events' before next)
+        subst (λ (e : Happening). BeginsRun Has given first moment (e ∷ []) events' before next)
         (sym is ∙ ap (λ (m : ℤ). FolderOpened path kind m came marks) at) look_begins;
     stage = ap (λ (u : State). u.turn.stage) arrives;
     listing = ap (λ (u : State). u.listing) arrives;
     rows = ap (λ (u : State). u.turn.core.desk.rows) arrives ∙ opened_rows came s.turn.core
         ∙ sources.rows;
-    waits = λ archive. record {
-      run = (look_stands archive).run;
-      state_is = (look_stands archive).state_is ∙ ap (after s) (sym is) ∙ ap pushed (sym arrives);
-      screens_are = (look_stands archive).screens_are
-          ∙ ap (λ (e : Happening). shown archive (after s e)) (sym is)
-          ∙ ap (λ (u : State). shown archive (pushed u)) (sym arrives);
+    waits = record {
+      run = look_stands.run;
+      state_is = look_stands.state_is ∙ ap (after given s) (sym is)
+          ∙ ap (pushed given) (sym arrives);
+      screens_are = look_stands.screens_are
+          ∙ ap (λ (e : Happening). shown given (after given s e)) (sym is)
+          ∙ ap (λ (u : State). shown given (pushed given u)) (sym arrives);
     };
   }
   starts_by t (FolderRefused path why marks) is at none arrives = absurd (none-some why (sym none))
@@ -224,8 +231,8 @@ module _ (Has : Kind → Type 0) (letters : List Mail) (first s : State) (moment
   starts_by t (KeyPressed key late) is at none arrives = absurd at
 
   -- the folder was opened
-  pub starts : (t : State) → refusal_of event ≡ None → t ≡ arrived s event
-      → Starts Has letters first moment events' t before next
+  pub starts : (t : State) → refusal_of event ≡ None → t ≡ arrived given s event
+      → Starts Has given first moment events' t before next
   starts t none arrives = starts_by t event refl opens.opening none arrives
 
   rose : Rose opens.tells.marks.faults_before opens.tells.marks.faults_after
@@ -263,8 +270,8 @@ module _ (Has : Kind → Type 0) (letters : List Mail) (first s : State) (moment
     ends_by (Folder scan.Unfinished) is cause = (refused (Folder scan.Unfinished) is, tt)
 
   fails_by : (t : State) (why : OpenFault) (e : Happening) → e ≡ event → IsOpening moment e
-      → refusal_of e ≡ Some why → t ≡ arrived s e
-      → Fails Has letters first moment (start_error why) t.notes events' before next
+      → refusal_of e ≡ Some why → t ≡ arrived given s e
+      → Fails Has given first moment (start_error why) t.notes events' before next
   fails_by t why (FolderRefused path cause marks) is at some arrives =
       let event_is : FolderRefused path why marks ≡ event =
       ap (λ (w : OpenFault). FolderRefused path w marks) (sym (ap (cause_in cause) some)) ∙ is in
@@ -274,8 +281,8 @@ module _ (Has : Kind → Type 0) (letters : List Mail) (first s : State) (moment
         ends = ends_by path marks why event_is
             (subst (λ (e : Happening). HasCause Has e opens.tells.marks) (sym event_is)
             opens.tells.cause);
-        noted = noted_by (start_error why) (after_events first events').notes t.notes
-            (ap (λ (u : State). u.notes) ((look_stands []).state_is ∙ ap (after s) (sym is)
+        noted = noted_by (start_error why) (after_events given first events').notes t.notes
+            (ap (λ (u : State). u.notes) (look_stands.state_is ∙ ap (after given s) (sym is)
             ∙ sym arrives));
       }
   fails_by t why (FolderOpened path kind late came marks) is at some arrives =
@@ -285,6 +292,7 @@ module _ (Has : Kind → Type 0) (letters : List Mail) (first s : State) (moment
   fails_by t why (KeyPressed key late) is at some arrives = absurd at
 
   -- the folder was not opened
-  pub fails : (t : State) (why : OpenFault) → refusal_of event ≡ Some why → t ≡ arrived s event
-      → Fails Has letters first moment (start_error why) t.notes events' before next
+  pub fails : (t : State) (why : OpenFault) → refusal_of event ≡ Some why
+      → t ≡ arrived given s event
+      → Fails Has given first moment (start_error why) t.notes events' before next
   fails t why some arrives = fails_by t why event refl opens.opening some arrives

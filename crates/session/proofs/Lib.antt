@@ -1,4 +1,5 @@
 mod Looked
+pub mod GivenLemmas
 pub mod TellingLemmas
 mod SettlingLemmas
 pub mod StepsLemmas

@@ -12,6 +12,9 @@ use Rattle.session_state.specs.declared.desk.Stage.TheVariants.{Unopened}
 use Rattle.session.specs.Events.{AreFiles, Happening, FileRead, FileRefused, KeyPressed}
 use Rattle.session.specs.Events.{FolderOpened, FolderRefused, plain_event, plain_events}
 use Rattle.session.specs.declared.event.Event.{Event}
+use Rattle.session.specs.declared.event.Marks.{Marks}
+use Rattle.people.specs.Judged.{PlainJudged}
+use Rattle.session.specs.Given.{Given, IsGiven, given_of}
 use Rattle.session.specs.Runs.{Answers, IsRunFrom, State, after, after_events, screens_from}
 use Rattle.session.specs.Runs.{answered, arrived, first_wish, moment_of, read_in, shown, skipped}
 use Rattle.session.specs.Runs.{pushed, stage_screens, taken, taken_at, typed, wish_at}
@@ -21,61 +24,63 @@ use Rattle.session.specs.Happened.{kind_in}
 use Rattle.session.specs.Steps.{IsNext, IsTaken, PressesKey, Sources, SourcesOff, Stands}
 use Rattle.session.specs.Steps.{StaysRun, next_of}
 use Rattle.session.specs.Telling.{Driverless, HasFileCause, TellsFile, Witnessed}
+use Rattle.session.proofs.GivenLemmas.{given_here}
 use Rattle.session.proofs.SettlingLemmas.{keys_next, keys_rows, said_rows}
 use Rattle.session.proofs.TellingLemmas.{file_is, files_append, tells_file, witnessed_key}
 use Rattle.session.proofs.TellingLemmas.{witnessed_none, witnessed_push}
 
-after-append : (s : State) (xs ys : List Happening)
-    → after_events s (xs ++ ys) ≡ after_events (after_events s xs) ys
-after-append s [] ys = refl
-after-append s (x ∷ xs) ys = after-append (after s x) xs ys
+after-append : (given : Given) (s : State) (xs ys : List Happening)
+    → after_events given s (xs ++ ys) ≡ after_events given (after_events given s xs) ys
+after-append given s [] ys = refl
+after-append given s (x ∷ xs) ys = after-append given (after given s x) xs ys
 
-run-append : (s : State) (xs ys : List Happening) → IsRunFrom s xs
-    → IsRunFrom (after_events s xs) ys → IsRunFrom s (xs ++ ys)
-run-append s [] ys front rest = rest
-run-append s (x ∷ xs) ys front rest = (front.0, run-append (after s x) xs ys front.1 rest)
+run-append : (given : Given) (s : State) (xs ys : List Happening) → IsRunFrom given s xs
+    → IsRunFrom given (after_events given s xs) ys → IsRunFrom given s (xs ++ ys)
+run-append given s [] ys front rest = rest
+run-append given s (x ∷ xs) ys front rest =
+    (front.0, run-append given (after given s x) xs ys front.1 rest)
 
-screens-append : (archive : List Mail) (s : State) (xs ys : List Happening)
-    → screens_from archive s (xs ++ ys)
-    ≡ screens_from archive s xs ++ screens_from archive (after_events s xs) ys
-screens-append archive s [] ys = refl
-screens-append archive s (x ∷ xs) ys =
-    ap (λ (l : List (List (List ℕ))). shown archive (after s x) ++ l)
-    (screens-append archive (after s x) xs ys)
-    ∙ sym (append_assoc (shown archive (after s x)) (screens_from archive (after s x) xs)
-    (screens_from archive (after_events (after s x) xs) ys))
+screens-append : (given : Given) (s : State) (xs ys : List Happening)
+    → screens_from given s (xs ++ ys)
+    ≡ screens_from given s xs ++ screens_from given (after_events given s xs) ys
+screens-append given s [] ys = refl
+screens-append given s (x ∷ xs) ys =
+    ap (λ (l : List (List (List ℕ))). shown given (after given s x) ++ l)
+    (screens-append given (after given s x) xs ys)
+    ∙ sym (append_assoc (shown given (after given s x)) (screens_from given (after given s x) xs)
+    (screens_from given (after_events given (after given s x) xs) ys))
 
-module _ (archive : List Mail) (first s : State) (events : List Happening)
+module _ (given : Given) (first s : State) (events : List Happening)
     (event : Happening) where
   -- an event that answers the wish
-  pub stands_push : (screens : List (List (List ℕ))) → Stands archive first events s screens
+  pub stands_push : (screens : List (List (List ℕ))) → Stands given first events s screens
       → Answers s event
-      → Stands archive first (events ++ event ∷ []) (after s event)
-      (screens ++ shown archive (after s event))
+      → Stands given first (events ++ event ∷ []) (after given s event)
+      (screens ++ shown given (after given s event))
   stands_push screens stands answers = record {
-    run = run-append first events (event ∷ []) stands.run
-        (subst (λ (t : State). IsRunFrom t (event ∷ [])) (sym stands.state_is) (answers, tt));
-    state_is = after-append first events (event ∷ [])
-        ∙ ap (λ (t : State). after t event) stands.state_is;
-    screens_are = screens-append archive first events (event ∷ [])
+    run = run-append given first events (event ∷ []) stands.run
+        (subst (λ (t : State). IsRunFrom given t (event ∷ [])) (sym stands.state_is) (answers, tt));
+    state_is = after-append given first events (event ∷ [])
+        ∙ ap (λ (t : State). after given t event) stands.state_is;
+    screens_are = screens-append given first events (event ∷ [])
         ∙ ap (λ (l : List (List (List ℕ))).
-        l ++ screens_from archive (after_events first events) (event ∷ [])) stands.screens_are
-        ∙ ap (λ (t : State). screens ++ screens_from archive t (event ∷ [])) stands.state_is
+        l ++ screens_from given (after_events given first events) (event ∷ [])) stands.screens_are
+        ∙ ap (λ (t : State). screens ++ screens_from given t (event ∷ [])) stands.state_is
         ∙ ap (λ (l : List (List (List ℕ))). screens ++ l)
-        (append-nil (shown archive (after s event)));
+        (append-nil (shown given (after given s event)));
   }
 
 -- a key that was taken is pressed
-pub stands_pressed : (archive : List Mail) (first s : State) (events : List Happening) (key : Key)
-    (moment : ℤ) (screens : List (List (List ℕ))) → IsTaken archive first events s screens
-    → Stands archive first (events ++ KeyPressed key moment ∷ []) (typed key s)
-    (screens ++ shown archive (typed key s))
-stands_pressed archive first s events key moment screens is =
+pub stands_pressed : (given : Given) (first s : State) (events : List Happening) (key : Key)
+    (moment : ℤ) (screens : List (List (List ℕ))) → IsTaken given first events s screens
+    → Stands given first (events ++ KeyPressed key moment ∷ []) (typed given key s)
+    (screens ++ shown given (typed given key s))
+stands_pressed given first s events key moment screens is =
     let wishes : Answers is.before (KeyPressed key moment) =
     ap (λ (stage : Stage). wish_at stage is.before moment) is.idle in
-    subst (λ (t : State). Stands archive first (events ++ KeyPressed key moment ∷ []) (typed key t)
-    (screens ++ shown archive (typed key t))) is.taken_is
-    (stands_push archive first is.before events (KeyPressed key moment) screens is.stands wishes)
+    subst (λ (t : State). Stands given first (events ++ KeyPressed key moment ∷ [])
+    (typed given key t) (screens ++ shown given (typed given key t))) is.taken_is
+    (stands_push given first is.before events (KeyPressed key moment) screens is.stands wishes)
 
 rows_at : (stage : Stage) (s : State)
     → (taken_at stage s).turn.core.desk.rows ≡ s.turn.core.desk.rows
@@ -95,33 +100,38 @@ module _ (key : Key) (moment : ℤ) (old : State) (events mid events' : List Hap
   put_is : events ++ KeyPressed key moment ∷ [] ≡ events'
   put_is = sym (put ∙ ap (λ (l : List Happening). l ++ KeyPressed key moment ∷ []) same)
 
-  pub key_presses : (new : State) → old.turn.stage ≡ Ready
-      → new ≡ arrived old (KeyPressed key moment) → PressesKey key moment old new events events'
-  key_presses new ready is =
-      let still : taken old ≡ old = ap (λ (stage : Stage). taken_at stage old) ready in
-      let at : typed key old ≡ new = sym (is ∙ ap (typed key) still) in
-      record {
-        pressed = sym put_is;
-        rows = ap (λ (t : State). t.turn.core.desk.rows) (is ∙ ap (typed key) still)
-            ∙ keys_rows old.listing most_replacements 0 (old.turn.queue ++ key ∷ []) old.turn.core;
-        stood = λ archive first screens taken_so.
-            subst (λ (l : List Happening). Stands archive first l new
-            (screens ++ shown archive new))
-            put_is (subst (λ (t : State). Stands archive first
-            (events ++ KeyPressed key moment ∷ []) t
-            (screens ++ shown archive t)) at
-            (stands_pressed archive first old events key moment screens taken_so));
-      }
+  module _ (mails : List Mail) (kept : List PlainJudged) where
+    pub key_presses : (new : State) → old.turn.stage ≡ Ready
+        → ((given : Given) → IsGiven mails kept given
+        → new ≡ arrived given old (KeyPressed key moment))
+        → PressesKey mails kept key moment old new events events'
+    key_presses new ready arrives =
+        let still : taken old ≡ old = ap (λ (stage : Stage). taken_at stage old) ready in
+        record {
+          pressed = sym put_is;
+          rows = ap (λ (t : State). t.turn.core.desk.rows)
+              (arrives (given_of mails kept) (given_here mails kept)
+              ∙ ap (typed (given_of mails kept) key) still)
+              ∙ keys_rows old.listing most_replacements 0 (old.turn.queue ++ key ∷ [])
+              old.turn.core;
+          stood = λ given is first screens taken_so.
+              subst (λ (l : List Happening). Stands given first l new
+              (screens ++ shown given new))
+              put_is (subst (λ (t : State). Stands given first
+              (events ++ KeyPressed key moment ∷ []) t
+              (screens ++ shown given t)) (sym (arrives given is ∙ ap (typed given key) still))
+              (stands_pressed given first old events key moment screens taken_so));
+        }
 
-  pub key_stays : (Has : Kind → Type 0) → StaysRun Has old events events'
-  key_stays Has = record {
-    run = λ archive first screens taken_so.
-        subst (λ (l : List Happening). IsRunFrom first l) put_is
-        (stands_pressed archive first old events key moment screens taken_so).run;
-    told = λ archive first before now h.
-        subst (λ (l : List Happening). Witnessed Has archive first l before now) put_is
-        (witnessed_key Has archive first events key moment before now h);
-  }
+    pub key_stays : (Has : Kind → Type 0) → StaysRun Has mails kept old events events'
+    key_stays Has = record {
+      run = λ given is first screens taken_so.
+          subst (λ (l : List Happening). IsRunFrom given first l) put_is
+          (stands_pressed given first old events key moment screens taken_so).run;
+      told = λ given first before now h.
+          subst (λ (l : List Happening). Witnessed Has given first l before now) put_is
+          (witnessed_key Has given first events key moment before now h);
+    }
 
 -- an event that was put
 pub put_plain : (old new : List Event) (event : Event) (is : Happening)
@@ -132,41 +142,46 @@ put_plain old new event is put same =
     ∙ ap (λ (e : Happening). plain_events old ++ e ∷ []) same
 
 -- a typed key ends the run, or a key is wanted behind it
-pub typed_next : (key : Key) (old new : State) → new ≡ typed key old
+pub typed_next : (given : Given) (key : Key) (old new : State) → new ≡ typed given key old
     → IsNext (next_of new.turn.stage) new.turn.stage
-typed_next key old new is =
+typed_next given key old new is =
     keys_next old.listing most_replacements 0 (old.turn.queue ++ key ∷ []) old.turn.core
     new.turn.stage (ap (λ (s : State). s.turn.stage) is)
 
-pub key_next : (key : Key) (moment : ℤ) (old new : State) (event : Happening)
-    → event ≡ KeyPressed key moment → new ≡ arrived old event
-    → IsNext (next_of new.turn.stage) new.turn.stage
-key_next key moment old new event is arrives =
-    typed_next key (taken old) new (arrives ∙ ap (arrived old) is)
+module _ {mails : List Mail} {kept : List PlainJudged} (old new : State) where
+  pub key_next : (key : Key) (moment : ℤ) (event : Happening) → event ≡ KeyPressed key moment
+      → ((given : Given) → IsGiven mails kept given → new ≡ arrived given old event)
+      → IsNext (next_of new.turn.stage) new.turn.stage
+  key_next key moment event is arrives =
+      typed_next (given_of mails kept) key (taken old) new
+      (arrives (given_of mails kept) (given_here mails kept)
+      ∙ ap (arrived (given_of mails kept) old) is)
 
--- the keys that commands have put end the run, or a key is wanted behind them
-pub pushed_next : (old new : State) → new ≡ pushed old
-    → IsNext (next_of new.turn.stage) new.turn.stage
-pushed_next old new is =
-    keys_next old.listing most_replacements 0 old.turn.core.rules.put
-    (record old.turn.core { rules = record old.turn.core.rules { put = [] } })
-    new.turn.stage (ap (λ (s : State). s.turn.stage) is)
+  -- the keys that commands have put end the run, or a key is wanted behind them
+  pub pushed_next : ((given : Given) → IsGiven mails kept given → new ≡ pushed given old)
+      → IsNext (next_of new.turn.stage) new.turn.stage
+  pushed_next goes =
+      keys_next old.listing most_replacements 0 old.turn.core.rules.put
+      (record old.turn.core { rules = record old.turn.core.rules { put = [] } })
+      new.turn.stage (ap (λ (s : State). s.turn.stage)
+      (goes (given_of mails kept) (given_here mails kept)))
 
-pub pushed_rows : (old new : State) → new ≡ pushed old
-    → new.turn.core.desk.rows ≡ old.turn.core.desk.rows
-pushed_rows old new is =
-    ap (λ (s : State). s.turn.core.desk.rows) is
-    ∙ keys_rows old.listing most_replacements 0 old.turn.core.rules.put
-    (record old.turn.core { rules = record old.turn.core.rules { put = [] } })
+  pub pushed_rows : ((given : Given) → IsGiven mails kept given → new ≡ pushed given old)
+      → new.turn.core.desk.rows ≡ old.turn.core.desk.rows
+  pushed_rows goes =
+      ap (λ (s : State). s.turn.core.desk.rows) (goes (given_of mails kept) (given_here mails kept))
+      ∙ keys_rows old.listing most_replacements 0 old.turn.core.rules.put
+      (record old.turn.core { rules = record old.turn.core.rules { put = [] } })
 
 -- no event came
-pub stays_same : (Has : Kind → Type 0) (old : State) (events events' : List Happening)
-    → events' ≡ events → StaysRun Has old events events'
-stays_same Has old events events' same = record {
-  run = λ archive first screens taken_so.
-      subst (λ (l : List Happening). IsRunFrom first l) (sym same) taken_so.stands.run;
-  told = λ archive first before now h.
-      subst (λ (l : List Happening). Witnessed Has archive first l before now) (sym same) h;
+pub stays_same : (Has : Kind → Type 0) (mails : List Mail) (kept : List PlainJudged) (old : State)
+    (events events' : List Happening) → events' ≡ events
+    → StaysRun Has mails kept old events events'
+stays_same Has mails kept old events events' same = record {
+  run = λ given is first screens taken_so.
+      subst (λ (l : List Happening). IsRunFrom given first l) (sym same) taken_so.stands.run;
+  told = λ given first before now h.
+      subst (λ (l : List Happening). Witnessed Has given first l before now) (sym same) h;
 }
 
 -- Files of commands.
@@ -177,9 +192,9 @@ pub sources_begun : (first s : State) (events : List Happening) (now : Seen) →
 sources_begun first s events now same none =
     subst (λ (l : List Happening). Sources first l s now now) (sym none) (record {
       are = tt;
-      stands = λ archive. record { run = tt; state_is = sym same; screens_are = refl };
+      stands = λ given. record { run = tt; state_is = sym same; screens_are = refl };
       rows = ap (λ (t : State). t.turn.core.desk.rows) same;
-      told = λ archive. witnessed_none Driverless archive first now;
+      told = λ given. witnessed_none Driverless given first now;
       faults = omega arith;
     })
 
@@ -191,11 +206,28 @@ sources_off first s events events' before now next same still sources =
     subst (λ (l : List Happening). SourcesOff first l before next) (sym same)
     (subst (λ (n : Seen). SourcesOff first events before n) (sym still) (record {
       are = sources.are;
-      run = (sources.stands []).run;
-      screens_are = λ archive. (sources.stands archive).screens_are;
+      run = λ given. (sources.stands given).run;
+      screens_are = λ given. (sources.stands given).screens_are;
       told = sources.told;
       faults = sources.faults;
     }))
+
+-- a file leaves the stage
+file_stage : (given : Given) (s : State) (event : Happening) (marks : Marks)
+    → HasFileCause event marks → (arrived given s event).turn.stage ≡ s.turn.stage
+file_stage given s (FileRead path text kept) marks cause = refl
+file_stage given s (FileRefused path why kept) marks cause = refl
+file_stage given s (KeyPressed key moment) marks cause = absurd cause
+file_stage given s (FolderOpened path kind moment came kept) marks cause = absurd cause
+file_stage given s (FolderRefused path why kept) marks cause = absurd cause
+
+pub file_unopened : {mails : List Mail} {kept : List PlainJudged} (s t : State)
+    (event : Happening) (now next : Seen) → TellsFile event now next → s.turn.stage ≡ Unopened
+    → ((given : Given) → IsGiven mails kept given → t ≡ arrived given s event)
+    → t.turn.stage ≡ Unopened
+file_unopened {mails} {kept} s t event now next tells stage arrives =
+    ap (λ (u : State). u.turn.stage) (arrives (given_of mails kept) (given_here mails kept))
+    ∙ file_stage (given_of mails kept) s event tells.marks tells.cause ∙ stage
 
 module _ (first s : State) (events mid events' : List Happening)
     (event : Happening) (before now next : Seen) (same : mid ≡ events)
@@ -208,32 +240,32 @@ module _ (first s : State) (events mid events' : List Happening)
   file_answers : Answers s event
   file_answers = ap (λ (x : Stage). wish_at x s (moment_of event)) stage ∙ wished
 
-  file_unshown : (archive : List Mail) (e : Happening) → e ≡ event → shown archive (after s e) ≡ []
-  file_unshown archive (FileRead path text marks) is = ap
-      (λ (x : Stage). stage_screens archive x (read_in text s)) stage
-  file_unshown archive (FileRefused path why marks) is = ap
-      (λ (x : Stage). stage_screens archive x (skipped why s)) stage
-  file_unshown archive (KeyPressed key moment) is = absurd
+  file_unshown : (given : Given) (e : Happening) → e ≡ event → shown given (after given s e) ≡ []
+  file_unshown given (FileRead path text marks) is = ap
+      (λ (x : Stage). stage_screens given x (read_in text s)) stage
+  file_unshown given (FileRefused path why marks) is = ap
+      (λ (x : Stage). stage_screens given x (skipped why s)) stage
+  file_unshown given (KeyPressed key moment) is = absurd
       (subst (λ (e : Happening). HasFileCause e tells.marks) (sym is) tells.cause)
-  file_unshown archive (FolderOpened path kind moment came marks) is = absurd
+  file_unshown given (FolderOpened path kind moment came marks) is = absurd
       (subst (λ (e : Happening). HasFileCause e tells.marks) (sym is) tells.cause)
-  file_unshown archive (FolderRefused path why marks) is = absurd
+  file_unshown given (FolderRefused path why marks) is = absurd
       (subst (λ (e : Happening). HasFileCause e tells.marks) (sym is) tells.cause)
 
-  pub file_stands : (archive : List Mail) → Stands archive first events' (after s event) []
-  file_stands archive =
-      subst (λ (l : List Happening). Stands archive first l (after s event) []) put_file
-      (subst (λ (l : List (List (List ℕ))). Stands archive first (events ++ event ∷ [])
-      (after s event) l)
-      (file_unshown archive event refl)
-      (stands_push archive first s events event [] (sources.stands archive) file_answers))
+  pub file_stands : (given : Given) → Stands given first events' (after given s event) []
+  file_stands given =
+      subst (λ (l : List Happening). Stands given first l (after given s event) []) put_file
+      (subst (λ (l : List (List (List ℕ))). Stands given first (events ++ event ∷ [])
+      (after given s event) l)
+      (file_unshown given event refl)
+      (stands_push given first s events event [] (sources.stands given) file_answers))
 
-  pub file_told : (archive : List Mail) → Witnessed Driverless archive first events' before next
-  file_told archive =
-      subst (λ (l : List Happening). Witnessed Driverless archive first l before next) put_file
-      (witnessed_push Driverless archive first s events event before now next
-      (sources.stands archive).state_is
-      (tells_file Driverless archive (kind_in s) event now next tells) (sources.told archive))
+  pub file_told : (given : Given) → Witnessed Driverless given first events' before next
+  file_told given =
+      subst (λ (l : List Happening). Witnessed Driverless given first l before next) put_file
+      (witnessed_push Driverless given first s events event before now next
+      (sources.stands given).state_is
+      (tells_file Driverless given (kind_in s) event now next tells) (sources.told given))
 
   file_are : AreFiles events'
   file_are =
@@ -243,31 +275,37 @@ module _ (first s : State) (events mid events' : List Happening)
   file_faults : before.faults ≤ next.faults
   file_faults = omega (arith, sources.faults, tells.faults)
 
-  file_rows : (e : Happening) → e ≡ event
-      → (arrived s e).turn.core.desk.rows ≡ s.turn.core.desk.rows
-  file_rows (FileRead path text marks) is = refl
-  file_rows (FileRefused path why marks) is = refl
-  file_rows (KeyPressed key moment) is = absurd
+  file_rows : (given : Given) (e : Happening) → e ≡ event
+      → (arrived given s e).turn.core.desk.rows ≡ s.turn.core.desk.rows
+  file_rows given (FileRead path text marks) is = refl
+  file_rows given (FileRefused path why marks) is = refl
+  file_rows given (KeyPressed key moment) is = absurd
       (subst (λ (e : Happening). HasFileCause e tells.marks) (sym is) tells.cause)
-  file_rows (FolderOpened path kind moment came marks) is = absurd
+  file_rows given (FolderOpened path kind moment came marks) is = absurd
       (subst (λ (e : Happening). HasFileCause e tells.marks) (sym is) tells.cause)
-  file_rows (FolderRefused path why marks) is = refl
+  file_rows given (FolderRefused path why marks) is = refl
 
-  same_after : (e : Happening) → e ≡ event → after s e ≡ arrived s e
-  same_after (FileRead path text marks) is = refl
-  same_after (FileRefused path why marks) is = refl
-  same_after (KeyPressed key moment) is = refl
-  same_after (FolderOpened path kind moment came marks) is = absurd
+  -- what is given has no say in a file
+  same_after : (given other : Given) (e : Happening) → e ≡ event
+      → after other s e ≡ arrived given s e
+  same_after given other (FileRead path text marks) is = refl
+  same_after given other (FileRefused path why marks) is = refl
+  same_after given other (KeyPressed key moment) is = refl
+  same_after given other (FolderOpened path kind moment came marks) is = absurd
       (subst (λ (e : Happening). HasFileCause e tells.marks) (sym is) tells.cause)
-  same_after (FolderRefused path why marks) is = refl
+  same_after given other (FolderRefused path why marks) is = refl
 
-  pub file_sources : (t : State) → t ≡ arrived s event → Sources first events' t before next
-  file_sources t is =
-      let at : after s event ≡ t = same_after event refl ∙ sym is in record {
+  pub file_sources : {mails : List Mail} {kept : List PlainJudged} (t : State)
+      → ((given : Given) → IsGiven mails kept given → t ≡ arrived given s event)
+      → Sources first events' t before next
+  file_sources {mails} {kept} t arrives =
+      let is : t ≡ arrived (given_of mails kept) s event =
+      arrives (given_of mails kept) (given_here mails kept) in record {
         are = file_are;
-        stands = λ archive. subst (λ (u : State). Stands archive first events' u []) at
-            (file_stands archive);
-        rows = ap (λ (u : State). u.turn.core.desk.rows) is ∙ file_rows event refl ∙ sources.rows;
+        stands = λ given. subst (λ (u : State). Stands given first events' u [])
+            (same_after (given_of mails kept) given event refl ∙ sym is) (file_stands given);
+        rows = ap (λ (u : State). u.turn.core.desk.rows) is
+            ∙ file_rows (given_of mails kept) event refl ∙ sources.rows;
         told = file_told;
         faults = file_faults;
       }
@@ -275,8 +313,8 @@ module _ (first s : State) (events mid events' : List Happening)
   pub file_off : SourcesOff first events' before next
   file_off = record {
     are = file_are;
-    run = (file_stands []).run;
-    screens_are = λ archive. (file_stands archive).screens_are;
+    run = λ given. (file_stands given).run;
+    screens_are = λ given. (file_stands given).screens_are;
     told = file_told;
     faults = file_faults;
   }

@@ -24,6 +24,7 @@ use Rattle.disk_model.specs.declared.answers.DiskError.{DiskError}
 use Rattle.disk_model.specs.declared.answers.DiskError.TheVariants as disk
 use Rattle.mail_base.specs.Faults.{Rose}
 use Rattle.folder_core.proofs.SeenLemmas.{goes_as}
+use Rattle.session.specs.Given.{Given}
 use Rattle.session.specs.Runs.{State, after, after_events}
 use Rattle.session.specs.Telling.{HasFileCause, IsTold, Tells, TellsFile, Witnessed}
 
@@ -81,68 +82,69 @@ module _ (Has : Kind → Type 0) where
   counted-append counts (e ∷ events) event h k =
       (h.0, counted-append (counts_after counts (marks_of e)) events event h.1 k)
 
-  module _ (archive : List Mail) where
+  module _ (given : Given) where
     -- What was true stays true.
 
     true_stays : (mid new : Past) (empty : Kind) (counts : Counts) (event : Happening)
         (marks : Option Marks) → IsCounted Has counts event marks
         → (counts_after counts marks).mark ≤ length mid.journal → HasLooked mid new
-        → IsTrueAt Has empty archive event marks mid → IsTrueAt Has empty archive event marks new
+        → IsTrueAt Has empty given.mails event marks mid
+        → IsTrueAt Has empty given.mails event marks new
     true_stays mid new empty counts event None counted low looked h = tt
     true_stays mid new empty counts event (Some marks) counted low looked h =
         let before : marks.mark_before ≤ length mid.journal = omega (arith, counted.on, low) in
-        subst (λ (p : Past). Happened Has empty archive event p (past_at new marks.mark_after))
+        subst (λ (p : Past). Happened Has empty given.mails event p (past_at new marks.mark_after))
         (sym (past_stays mid new marks.mark_before looked before))
         (subst (λ (p : Past).
-        Happened Has empty archive event (past_at mid marks.mark_before) p)
+        Happened Has empty given.mails event (past_at mid marks.mark_before) p)
         (sym (past_stays mid new marks.mark_after looked low)) h)
 
     all_stays : (mid new : Past) (s : State) (counts : Counts) (events : List Happening)
         → AllCounted Has counts events → (counts_at counts events).mark ≤ length mid.journal
-        → HasLooked mid new → AllHappened Has archive s events mid
-        → AllHappened Has archive s events new
+        → HasLooked mid new → AllHappened Has given s events mid
+        → AllHappened Has given s events new
     all_stays mid new s counts [] counted low looked h = tt
     all_stays mid new s counts (event ∷ events) counted low looked h =
         let next : Counts = counts_after counts (marks_of event) in
         let first : next.mark ≤ length mid.journal =
         omega (arith, rises_all (counts_after counts (marks_of event)) events counted.1, low) in (
           true_stays mid new (kind_in s) counts event (marks_of event) counted.0 first looked h.0,
-          all_stays mid new (after s event) (counts_after counts (marks_of event)) events
+          all_stays mid new (after given s event) (counts_after counts (marks_of event)) events
               counted.1 low looked h.1,
         )
 
     happened-append : (s t : State) (events : List Happening) (event : Happening) (new : Past)
-        → after_events s events ≡ t → AllHappened Has archive s events new
-        → IsTrueAt Has (kind_in t) archive event (marks_of event) new
-        → AllHappened Has archive s (events ++ event ∷ []) new
+        → after_events given s events ≡ t → AllHappened Has given s events new
+        → IsTrueAt Has (kind_in t) given.mails event (marks_of event) new
+        → AllHappened Has given s (events ++ event ∷ []) new
     happened-append s t [] event new at h k = (
-      subst (λ (u : State). IsTrueAt Has (kind_in u) archive event (marks_of event) new) (sym at)
-          k,
+      subst (λ (u : State). IsTrueAt Has (kind_in u) given.mails event (marks_of event) new)
+          (sym at) k,
       tt,
     )
     happened-append s t (e ∷ events) event new at h k =
-        (h.0, happened-append (after s e) t events event new at h.1 k)
+        (h.0, happened-append (after given s e) t events event new at h.1 k)
 
     true_now : (empty : Kind) (event : Happening) (mid new : Past) (marks : Marks)
         (at : Option Marks) → at ≡ Some marks → marks.mark_before ≡ length mid.journal
         → marks.mark_after ≡ length new.journal → HasLooked mid new
-        → Happened Has empty archive event mid new → IsTrueAt Has empty archive event at new
+        → Happened Has empty given.mails event mid new → IsTrueAt Has empty given.mails event at new
     true_now empty event mid new marks at is before after looked h =
-        subst (λ (o : Option Marks). IsTrueAt Has empty archive event o new) (sym is)
-        (subst (λ (p : Past). Happened Has empty archive event p (past_at new marks.mark_after))
+        subst (λ (o : Option Marks). IsTrueAt Has empty given.mails event o new) (sym is)
+        (subst (λ (p : Past). Happened Has empty given.mails event p (past_at new marks.mark_after))
         (sym (ap (past_at new) before ∙ past_seam mid new looked))
-        (subst (λ (p : Past). Happened Has empty archive event mid p)
+        (subst (λ (p : Past). Happened Has empty given.mails event mid p)
         (sym (ap (past_at new) after ∙ past_end new)) h))
 
     told_push : (s t : State) (events : List Happening) (event : Happening) (counts : Counts)
         (marks : Marks) (low high : ℕ) (first mid new : Option Past)
-        → after_events s events ≡ t
-        → IsTold Has archive s events first mid
+        → after_events given s events ≡ t
+        → IsTold Has given s events first mid
         → AllCounted Has counts events → (counts_at counts events).mark ≡ low
         → marks_of event ≡ Some marks → marks.mark_before ≡ low → marks.mark_after ≡ high
         → IfSome mid (λ p. low ≡ length p.journal) → IfSome new (λ p. high ≡ length p.journal)
-        → GoesOn (Happened Has (kind_in t) archive event) mid new → LooksOnly mid new
-        → IsTold Has archive s (events ++ event ∷ []) first new
+        → GoesOn (Happened Has (kind_in t) given.mails event) mid new → LooksOnly mid new
+        → IsTold Has given s (events ++ event ∷ []) first new
     told_push s t events event counts marks low high None mid new here told counted at is before
         after lows highs h looks = looks_then None mid new told looks
     told_push s t events event counts marks low high (Some f) None new here told counted at is
@@ -159,7 +161,7 @@ module _ (Has : Kind → Type 0) where
         )
 
     begins : (empty : Kind) (counts : Counts) (event : Happening) (mid new : Seen)
-        (tells : Tells Has empty archive event mid new) → counts ≡ counts_of mid
+        (tells : Tells Has empty given.mails event mid new) → counts ≡ counts_of mid
         → IsCounted Has counts event (marks_of event)
     begins empty counts event mid new tells at =
         subst (λ (o : Option Marks). IsCounted Has counts event o) (sym tells.marked) (record {
@@ -176,9 +178,9 @@ module _ (Has : Kind → Type 0) where
 
     -- an event that tells of the device
     pub witnessed_push : (s t : State) (events : List Happening) (event : Happening)
-        (first mid new : Seen) → after_events s events ≡ t
-        → Tells Has (kind_in t) archive event mid new → Witnessed Has archive s events first mid
-        → Witnessed Has archive s (events ++ event ∷ []) first new
+        (first mid new : Seen) → after_events given s events ≡ t
+        → Tells Has (kind_in t) given.mails event mid new → Witnessed Has given s events first mid
+        → Witnessed Has given s (events ++ event ∷ []) first new
     witnessed_push s t events event first mid new here tells h = record {
       told = told_push s t events event (counts_of first) tells.marks mid.marks new.marks
           first.told mid.told new.told here h.told h.counted (ap (λ (c : Counts). c.mark) h.at)
@@ -192,37 +194,37 @@ module _ (Has : Kind → Type 0) where
     }
 
     key_told : (s : State) (events : List Happening) (key : Key) (moment : ℤ)
-        (first now : Option Past) → IsTold Has archive s events first now
-        → IsTold Has archive s (events ++ KeyPressed key moment ∷ []) first now
+        (first now : Option Past) → IsTold Has given s events first now
+        → IsTold Has given s (events ++ KeyPressed key moment ∷ []) first now
     key_told s events key moment None now h = h
     key_told s events key moment (Some f) None h = absurd h
     key_told s events key moment (Some f) (Some n) h = (
       h.0,
-      happened-append s (after_events s events) events (KeyPressed key moment) n refl h.1
+      happened-append s (after_events given s events) events (KeyPressed key moment) n refl h.1
           tt,
     )
 
     -- a key
     pub witnessed_key : (s : State) (events : List Happening) (key : Key) (moment : ℤ)
-        (first now : Seen) → Witnessed Has archive s events first now
-        → Witnessed Has archive s (events ++ KeyPressed key moment ∷ []) first now
+        (first now : Seen) → Witnessed Has given s events first now
+        → Witnessed Has given s (events ++ KeyPressed key moment ∷ []) first now
     witnessed_key s events key moment first now h = record {
       told = key_told s events key moment first.told now.told h.told;
       counted = counted-append (counts_of first) events (KeyPressed key moment) h.counted tt;
       at = at-append (counts_of first) events (KeyPressed key moment) ∙ h.at;
     }
 
-    none_told : (s : State) (told : Option Past) → IsTold Has archive s [] told told
+    none_told : (s : State) (told : Option Past) → IsTold Has given s [] told told
     none_told s None = refl
     none_told s (Some past) = (looks_same (Some past), tt)
 
     -- no event
-    pub witnessed_none : (s : State) (now : Seen) → Witnessed Has archive s [] now now
+    pub witnessed_none : (s : State) (now : Seen) → Witnessed Has given s [] now now
     witnessed_none s now = record { told = none_told s now.told; counted = tt; at = refl }
 
     -- an event of a file tells of the device
     pub tells_file : (empty : Kind) (event : Happening) (old new : Seen) → TellsFile event old new
-        → Tells Has empty archive event old new
+        → Tells Has empty given.mails event old new
     tells_file empty (FileRead path text kept) old new h = record {
       marks = h.marks;
       marked = h.marked;
@@ -305,28 +307,28 @@ module _ (Has Other : Kind → Type 0) where
       absurd is
   file_true empty archive (FolderRefused path why kept) (Some marks) past is h = absurd is
 
-  files_true : (archive : List Mail) (s : State) (events : List Happening) (past : Past)
-      → AreFiles events → AllHappened Has archive s events past
-      → AllHappened Other archive s events past
-  files_true archive s [] past are h = tt
-  files_true archive s (event ∷ events) past are h = (
-    file_true (kind_in s) archive event (marks_of event) past are.0 h.0,
-    files_true archive (after s event) events past are.1 h.1,
+  files_true : (given : Given) (s : State) (events : List Happening) (past : Past)
+      → AreFiles events → AllHappened Has given s events past
+      → AllHappened Other given s events past
+  files_true given s [] past are h = tt
+  files_true given s (event ∷ events) past are h = (
+    file_true (kind_in s) given.mails event (marks_of event) past are.0 h.0,
+    files_true given (after given s event) events past are.1 h.1,
   )
 
-  files_told : (archive : List Mail) (s : State) (events : List Happening)
-      (first now : Option Past) → AreFiles events → IsTold Has archive s events first now
-      → IsTold Other archive s events first now
-  files_told archive s events None now are h = h
-  files_told archive s events (Some first) None are h = absurd h
-  files_told archive s events (Some first) (Some now) are h =
-      (h.0, files_true archive s events now are h.1)
+  files_told : (given : Given) (s : State) (events : List Happening)
+      (first now : Option Past) → AreFiles events → IsTold Has given s events first now
+      → IsTold Other given s events first now
+  files_told given s events None now are h = h
+  files_told given s events (Some first) None are h = absurd h
+  files_told given s events (Some first) (Some now) are h =
+      (h.0, files_true given s events now are h.1)
 
-  pub witnessed_files : (archive : List Mail) (s : State) (events : List Happening)
-      (first now : Seen) → AreFiles events → Witnessed Has archive s events first now
-      → Witnessed Other archive s events first now
-  witnessed_files archive s events first now are h = record {
-    told = files_told archive s events first.told now.told are h.told;
+  pub witnessed_files : (given : Given) (s : State) (events : List Happening)
+      (first now : Seen) → AreFiles events → Witnessed Has given s events first now
+      → Witnessed Other given s events first now
+  witnessed_files given s events first now are h = record {
+    told = files_told given s events first.told now.told are h.told;
     counted = files_counted (counts_of first) events are h.counted;
     at = h.at;
   }

@@ -15,6 +15,7 @@ use Rattle.session.specs.declared.event.OpenFault.TheVariants.{Taken, NoDriver, 
 use Rattle.session.specs.declared.setup.StartError.{StartError}
 use Rattle.session.specs.declared.setup.StartError.TheVariants as error
 use Rattle.session.specs.Events.{AreFiles, Happening, FolderOpened, FolderRefused}
+use Rattle.session.specs.Given.{Given}
 use Rattle.session.specs.Happened.{IsListed}
 use Rattle.session.specs.Opening.{IsOpening}
 use Rattle.session.specs.Runs.{IsRunFrom, State, after_events}
@@ -29,28 +30,28 @@ AreOpening moment letters (event ∷ next ∷ events) = ⊥
 
 -- Files of commands were read, and then perhaps a folder was looked for; what the events say is
 -- true.
-pub record BeginsRun (Has : Kind → Type 0) (letters : List Mail) (first : State) (moment : ℤ)
+pub record BeginsRun (Has : Kind → Type 0) (given : Given) (first : State) (moment : ℤ)
     (opening events : List Happening) (old new : Seen) : Type 0 where
   pub files : List Happening
   pub are_files : AreFiles files
-  pub opens : AreOpening moment letters opening
+  pub opens : AreOpening moment given.mails opening
   pub events_are : events ≡ files ++ opening
-  pub run : IsRunFrom first events
-  pub told : Witnessed Has letters first events old new
+  pub run : IsRunFrom given first events
+  pub told : Witnessed Has given first events old new
 
 -- The folder was opened, and the run waits for the keys that commands have put.
-pub record Starts (Has : Kind → Type 0) (letters : List Mail) (first : State) (moment : ℤ)
+pub record Starts (Has : Kind → Type 0) (given : Given) (first : State) (moment : ℤ)
     (events : List Happening) (state : State) (old new : Seen) : Type 0 where
   pub path : List ℕ
   pub kind : Kind
   pub came : List Listed
   pub marks : Marks
-  pub begins : BeginsRun Has letters first moment (FolderOpened path kind moment came marks ∷ [])
+  pub begins : BeginsRun Has given first moment (FolderOpened path kind moment came marks ∷ [])
       events old new
   pub stage : state.turn.stage ≡ Pushing
   pub listing : state.listing ≡ came
   pub rows : state.turn.core.desk.rows ≡ first.turn.core.desk.rows
-  pub waits : (archive : List Mail) → Waits archive first events state
+  pub waits : Waits given first events state
 
 -- a cause that is told: neither a fault, nor want of memory, nor a full archive, nor a folder that
 -- is there already
@@ -82,21 +83,21 @@ IsNoted error.DiskFault told notes = told ≡ notes
 IsNoted error.NoMemory told notes = Unit {0}
 
 -- The folder was not opened, or memory ran out.
-pub record Fails (Has : Kind → Type 0) (letters : List Mail) (first : State) (moment : ℤ)
+pub record Fails (Has : Kind → Type 0) (given : Given) (first : State) (moment : ℤ)
     (why : StartError) (notes : List (List ℕ)) (events : List Happening)
     (old new : Seen) : Type 0 where
   pub opening : List Happening
-  pub begins : BeginsRun Has letters first moment opening events old new
+  pub begins : BeginsRun Has given first moment opening events old new
   pub ends : EndsStart why opening old new
-  pub noted : IsNoted why (after_events first events).notes notes
+  pub noted : IsNoted why (after_events given first events).notes notes
 
 -- Files of commands were read to their ends, and each name has a line.
-pub record AnswersNames (first : State) (events : List Happening) (names lines : List (List ℕ))
-    (notes : List (List ℕ)) : Type 0 where
-  pub read : (after_events first events).frames ≡ []
-  pub noted : (after_events first events).notes ≡ notes
+pub record AnswersNames (given : Given) (first : State) (events : List Happening)
+    (names lines : List (List ℕ)) (notes : List (List ℕ)) : Type 0 where
+  pub read : (after_events given first events).frames ≡ []
+  pub noted : (after_events given first events).notes ≡ notes
   pub lines_are : lines
-      ≡ map (answer_line (after_events first events).turn.core.rules.settings) names
+      ≡ map (answer_line (after_events given first events).turn.core.rules.settings) names
 
 -- For the code alone.
 

@@ -20,6 +20,7 @@ use Rattle.folder_core.specs.declared.listing.Listed.{Listed}
 use Rattle.session_state.specs.Places.{new_kind}
 use Rattle.session.specs.Events.{Happening, FileRead, FileRefused, KeyPressed, FolderOpened}
 use Rattle.session.specs.Events.{FolderRefused}
+use Rattle.session.specs.Given.{Given}
 use Rattle.session.specs.Runs.{State, after}
 use Rattle.session.specs.declared.event.Marks.{Marks}
 use Rattle.session.specs.declared.event.OpenFault.{OpenFault}
@@ -125,11 +126,11 @@ abbrev pub kind_in : State → Kind
 kind_in s = new_kind s.turn.core.rules.settings
 
 -- each event from this state on is true
-abbrev pub AllHappened : (Kind → Type 0) → List Mail → State → List Happening → Past → Type 0
-AllHappened Has archive s [] past = Unit {0}
-AllHappened Has archive s (event ∷ events) past =
-    IsTrueAt Has (kind_in s) archive event (marks_of event) past
-    × AllHappened Has archive (after s event) events past
+abbrev pub AllHappened : (Kind → Type 0) → Given → State → List Happening → Past → Type 0
+AllHappened Has given s [] past = Unit {0}
+AllHappened Has given s (event ∷ events) past =
+    IsTrueAt Has (kind_in s) given.mails event (marks_of event) past
+    × AllHappened Has given (after given s event) events past
 
 -- Each event begins at the mark and with the faults with which the one before it ended.
 pub record Counts : Type 0 where

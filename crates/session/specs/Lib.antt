@@ -1,4 +1,5 @@
 pub mod Events
+pub mod Given
 pub mod Runs
 pub mod Happened
 pub mod Telling

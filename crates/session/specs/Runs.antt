@@ -4,7 +4,6 @@ use Rattle.std.specs.Prelude.{false}
 use Rattle.mail_base.specs.Series.{Held, plain_texts}
 use Rattle.disk_model.specs.declared.answers.DiskError.{DiskError}
 use Rattle.disk_model.specs.declared.answers.DiskError.TheVariants as disk
-use Rattle.folder_core.specs.Letters.{Mail}
 use Rattle.folder_core.specs.declared.listing.Listed.{Listed}
 use Rattle.keymap.specs.Queue.{most_replacements}
 use Rattle.keymap.specs.declared.key.Key.{Key}
@@ -22,6 +21,7 @@ use Rattle.session_state.specs.Places.{folder_path}
 use Rattle.session_state.specs.Screen.{screen}
 use Rattle.session.specs.Events.{Happening, FileRead, FileRefused, KeyPressed, FolderOpened}
 use Rattle.session.specs.Events.{FolderRefused}
+use Rattle.session.specs.Given.{Given}
 use Rattle.session.specs.declared.session_type.Session.{Session}
 
 -- what keys act on; the files of commands that are not at their ends, and what was told of them;
@@ -126,17 +126,17 @@ abbrev pub taken : State → State
 taken s = taken_at s.turn.stage s
 
 -- these keys act, of which none was replaced yet
-abbrev pub acting : List Key → Core → State → State
-acting keys c s = record s { turn = run_keys s.listing most_replacements 0 keys c }
+abbrev pub acting : Given → List Key → Core → State → State
+acting given keys c s = record s { turn = run_keys s.listing most_replacements 0 keys c }
 
 -- the keys that commands have put act
-abbrev pub pushed : State → State
-pushed s =
-    acting s.turn.core.rules.put
+abbrev pub pushed : Given → State → State
+pushed given s =
+    acting given s.turn.core.rules.put
     (record s.turn.core { rules = record s.turn.core.rules { put = [] } }) s
 
-abbrev pub opened_by : List Listed → State → State
-opened_by came s = record s {
+abbrev pub opened_by : Given → List Listed → State → State
+opened_by given came s = record s {
   turn = record s.turn { core = opened came s.turn.core; stage = Pushing };
   listing = came;
 }
@@ -151,48 +151,48 @@ skipped why s =
     with_script (skip_script (is_missing why) (read_fault why) s.frames s.turn.core.rules s.notes) s
 
 -- a key was typed
-abbrev pub typed : Key → State → State
-typed key s = acting (s.turn.queue ++ key ∷ []) s.turn.core s
+abbrev pub typed : Given → Key → State → State
+typed given key s = acting given (s.turn.queue ++ key ∷ []) s.turn.core s
 
 -- the state that an event leads to, in which keys may still wait behind an opening
-abbrev pub arrived : State → Happening → State
-arrived s (FileRead path text marks) = read_in text s
-arrived s (FileRefused path why marks) = skipped why s
-arrived s (KeyPressed key moment) = typed key (taken s)
-arrived s (FolderOpened path kind moment came marks) = opened_by came s
-arrived s (FolderRefused path why marks) = at_stage Over s
+abbrev pub arrived : Given → State → Happening → State
+arrived given s (FileRead path text marks) = read_in text s
+arrived given s (FileRefused path why marks) = skipped why s
+arrived given s (KeyPressed key moment) = typed given key (taken s)
+arrived given s (FolderOpened path kind moment came marks) = opened_by given came s
+arrived given s (FolderRefused path why marks) = at_stage Over s
 
 -- the state after an event
-abbrev pub after : State → Happening → State
-after s (FileRead path text marks) = arrived s (FileRead path text marks)
-after s (FileRefused path why marks) = arrived s (FileRefused path why marks)
-after s (KeyPressed key moment) = arrived s (KeyPressed key moment)
-after s (FolderOpened path kind moment came marks) =
-    pushed (arrived s (FolderOpened path kind moment came marks))
-after s (FolderRefused path why marks) = arrived s (FolderRefused path why marks)
+abbrev pub after : Given → State → Happening → State
+after given s (FileRead path text marks) = arrived given s (FileRead path text marks)
+after given s (FileRefused path why marks) = arrived given s (FileRefused path why marks)
+after given s (KeyPressed key moment) = arrived given s (KeyPressed key moment)
+after given s (FolderOpened path kind moment came marks) =
+    pushed given (arrived given s (FolderOpened path kind moment came marks))
+after given s (FolderRefused path why marks) = arrived given s (FolderRefused path why marks)
 
-abbrev pub after_events : State → List Happening → State
-after_events s [] = s
-after_events s (event ∷ events) = after_events (after s event) events
+abbrev pub after_events : Given → State → List Happening → State
+after_events given s [] = s
+after_events given s (event ∷ events) = after_events given (after given s event) events
 
 -- each event answers the wish of the state before it
-abbrev pub IsRunFrom : State → List Happening → Type 0
-IsRunFrom s [] = Unit {0}
-IsRunFrom s (event ∷ events) = Answers s event × IsRunFrom (after s event) events
+abbrev pub IsRunFrom : Given → State → List Happening → Type 0
+IsRunFrom given s [] = Unit {0}
+IsRunFrom given s (event ∷ events) = Answers s event × IsRunFrom given (after given s event) events
 
 -- a state that wants a key shows its screen
-abbrev pub stage_screens : List Mail → Stage → State → List (List (List ℕ))
-stage_screens archive Unopened s = []
-stage_screens archive Pushing s = []
-stage_screens archive Idle s = screen archive s.listing s.turn.core.desk ∷ []
-stage_screens archive Ready s = []
-stage_screens archive Over s = []
+abbrev pub stage_screens : Given → Stage → State → List (List (List ℕ))
+stage_screens given Unopened s = []
+stage_screens given Pushing s = []
+stage_screens given Idle s = screen given.mails s.listing s.turn.core.desk ∷ []
+stage_screens given Ready s = []
+stage_screens given Over s = []
 
-abbrev pub shown : List Mail → State → List (List (List ℕ))
-shown archive s = stage_screens archive s.turn.stage s
+abbrev pub shown : Given → State → List (List (List ℕ))
+shown given s = stage_screens given s.turn.stage s
 
 -- the screens, each by its lines: one after each event after which a key is wanted
-abbrev pub screens_from : List Mail → State → List Happening → List (List (List ℕ))
-screens_from archive s [] = []
-screens_from archive s (event ∷ events) =
-    shown archive (after s event) ++ screens_from archive (after s event) events
+abbrev pub screens_from : Given → State → List Happening → List (List (List ℕ))
+screens_from given s [] = []
+screens_from given s (event ∷ events) =
+    shown given (after given s event) ++ screens_from given (after given s event) events

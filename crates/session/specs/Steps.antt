@@ -4,36 +4,38 @@ use Rattle.mail_base.specs.declared.kind.Kind.{Kind}
 use Rattle.disk_model.specs.Seen.{Seen}
 use Rattle.folder_core.specs.Letters.{Mail}
 use Rattle.keymap.specs.declared.key.Key.{Key}
+use Rattle.people.specs.Judged.{PlainJudged}
 use Rattle.session_state.specs.declared.desk.Stage.{Stage}
 use Rattle.session_state.specs.declared.desk.Stage.TheVariants.{Unopened, Pushing, Idle, Ready}
 use Rattle.session_state.specs.declared.desk.Stage.TheVariants.{Over}
 use Rattle.session.specs.declared.setup.Next.{Next}
 use Rattle.session.specs.declared.setup.Next.TheVariants.{Go, Quit}
 use Rattle.session.specs.Events.{AreFiles, Happening, KeyPressed}
+use Rattle.session.specs.Given.{Given, IsGiven}
 use Rattle.session.specs.Runs.{IsRunFrom, State, after_events, pushed, screens_from, shown, taken}
 use Rattle.session.specs.Telling.{Driverless, Witnessed}
 
 -- The events are a run from the first state; they lead to this state and show these screens.
-pub record Stands (archive : List Mail) (first : State) (events : List Happening) (state : State)
+pub record Stands (given : Given) (first : State) (events : List Happening) (state : State)
     (screens : List (List (List ℕ))) : Type 0 where
-  pub run : IsRunFrom first events
-  pub state_is : after_events first events ≡ state
-  pub screens_are : screens_from archive first events ≡ screens
+  pub run : IsRunFrom given first events
+  pub state_is : after_events given first events ≡ state
+  pub screens_are : screens_from given first events ≡ screens
 
 -- The same, and then a key was taken.
-pub record IsTaken (archive : List Mail) (first : State) (events : List Happening) (state : State)
+pub record IsTaken (given : Given) (first : State) (events : List Happening) (state : State)
     (screens : List (List (List ℕ))) : Type 0 where
   pub before : State
-  pub stands : Stands archive first events before screens
+  pub stands : Stands given first events before screens
   pub idle : before.turn.stage ≡ Idle
   pub taken_is : taken before ≡ state
 
 -- A folder was opened, and the keys that commands have put wait in this state.
-pub record Waits (archive : List Mail) (first : State) (events : List Happening)
+pub record Waits (given : Given) (first : State) (events : List Happening)
     (state : State) : Type 0 where
-  pub run : IsRunFrom first events
-  pub state_is : after_events first events ≡ pushed state
-  pub screens_are : screens_from archive first events ≡ shown archive (pushed state)
+  pub run : IsRunFrom given first events
+  pub state_is : after_events given first events ≡ pushed given state
+  pub screens_are : screens_from given first events ≡ shown given (pushed given state)
 
 -- a key is wanted, or the run is over
 abbrev pub IsNext : Next → Stage → Type 0
@@ -41,41 +43,41 @@ IsNext Go stage = stage ≡ Idle
 IsNext Quit stage = stage ≡ Over
 
 -- What a key does to a run: its event is last, and the run stands so behind it.
-pub record PressesKey (key : Key) (moment : ℤ) (old new : State)
-    (events events' : List Happening) : Type 0 where
+pub record PressesKey (mails : List Mail) (kept : List PlainJudged) (key : Key) (moment : ℤ)
+    (old new : State) (events events' : List Happening) : Type 0 where
   pub pressed : events' ≡ events ++ KeyPressed key moment ∷ []
   pub rows : new.turn.core.desk.rows ≡ old.turn.core.desk.rows
-  pub stood : (archive : List Mail) → (first : State) → (screens : List (List (List ℕ)))
-      → IsTaken archive first events old screens
-      → Stands archive first events' new (screens ++ shown archive new)
+  pub stood : (given : Given) → IsGiven mails kept given → (first : State)
+      → (screens : List (List (List ℕ))) → IsTaken given first events old screens
+      → Stands given first events' new (screens ++ shown given new)
 
 -- What holds of a run also where a key is broken off: its events are a run, and what they say of
--- the
--- disk stays true.
-pub record StaysRun (Has : Kind → Type 0) (old : State) (events events' : List Happening) : Type 0
-  where
-    pub run : (archive : List Mail) → (first : State) → (screens : List (List (List ℕ)))
-        → IsTaken archive first events old screens → IsRunFrom first events'
-    pub told : (archive : List Mail) → (first : State) → (before now : Seen)
-        → Witnessed Has archive first events before now
-        → Witnessed Has archive first events' before now
+-- the disk stays true.
+pub record StaysRun (Has : Kind → Type 0) (mails : List Mail) (kept : List PlainJudged)
+    (old : State) (events events' : List Happening) : Type 0 where
+  pub run : (given : Given) → IsGiven mails kept given → (first : State)
+      → (screens : List (List (List ℕ))) → IsTaken given first events old screens
+      → IsRunFrom given first events'
+  pub told : (given : Given) → (first : State) → (before now : Seen)
+      → Witnessed Has given first events before now
+      → Witnessed Has given first events' before now
 
 -- Files of commands are read: the events are a run up to this state, no screen was shown, and what
 -- they say of the disk is true.
 pub record Sources (first : State) (events : List Happening) (state : State)
     (before now : Seen) : Type 0 where
   pub are : AreFiles events
-  pub stands : (archive : List Mail) → Stands archive first events state []
+  pub stands : (given : Given) → Stands given first events state []
   pub rows : state.turn.core.desk.rows ≡ first.turn.core.desk.rows
-  pub told : (archive : List Mail) → Witnessed Driverless archive first events before now
+  pub told : (given : Given) → Witnessed Driverless given first events before now
   pub faults : before.faults ≤ now.faults
 
 -- the same where a call was broken off
 pub record SourcesOff (first : State) (events : List Happening) (before now : Seen) : Type 0 where
   pub are : AreFiles events
-  pub run : IsRunFrom first events
-  pub screens_are : (archive : List Mail) → screens_from archive first events ≡ []
-  pub told : (archive : List Mail) → Witnessed Driverless archive first events before now
+  pub run : (given : Given) → IsRunFrom given first events
+  pub screens_are : (given : Given) → screens_from given first events ≡ []
+  pub told : (given : Given) → Witnessed Driverless given first events before now
   pub faults : before.faults ≤ now.faults
 
 -- For the code alone.

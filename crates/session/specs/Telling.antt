@@ -14,6 +14,7 @@ use Rattle.session.specs.Happened.{WasRead, counts_at, counts_of}
 use Rattle.session.specs.Happened.{marks_of}
 use Rattle.mail_base.specs.declared.series.NoMemory.{NoMemory}
 use Rattle.session.specs.declared.event.Event.{Event}
+use Rattle.session.specs.Given.{Given}
 use Rattle.session.specs.Runs.{State}
 use Rattle.session.specs.declared.event.Marks.{Marks}
 
@@ -37,17 +38,17 @@ pub record Tells (Has : Kind → Type 0) (empty : Kind) (archive : List Mail) (e
   pub last : IsMarked new
 
 -- where a past is told, it stays told; where it is not, it stays untold
-abbrev pub IsTold : (Kind → Type 0) → List Mail → State → List Happening → Option Past → Option Past
+abbrev pub IsTold : (Kind → Type 0) → Given → State → List Happening → Option Past → Option Past
     → Type 0
-IsTold Has archive s events None now = now ≡ None
-IsTold Has archive s events (Some first) None = ⊥
-IsTold Has archive s events (Some first) (Some now) =
-    HasLooked first now × AllHappened Has archive s events now
+IsTold Has given s events None now = now ≡ None
+IsTold Has given s events (Some first) None = ⊥
+IsTold Has given s events (Some first) (Some now) =
+    HasLooked first now × AllHappened Has given s events now
 
 -- What the events from a state on say of the disk is true, and they tile the journal.
-pub record Witnessed (Has : Kind → Type 0) (archive : List Mail) (s : State)
+pub record Witnessed (Has : Kind → Type 0) (given : Given) (s : State)
     (events : List Happening) (first now : Seen) : Type 0 where
-  pub told : IsTold Has archive s events first.told now.told
+  pub told : IsTold Has given s events first.told now.told
   pub counted : AllCounted Has (counts_of first) events
   pub at : counts_at (counts_of first) events ≡ counts_of now
 

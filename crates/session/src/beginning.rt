@@ -28,6 +28,7 @@ impl Session {
     ghost use Rattle.session_state.specs.declared.desk.Stage.TheVariants.{Unopened};
     ghost use Rattle.session.specs.Beginning.{AnswersNames, Fails, Starts};
     ghost use Rattle.session.specs.Events.{plain_event, plain_events};
+    ghost use Rattle.session.specs.Given.{Given, IsGiven};
     ghost use Rattle.session.specs.Opening.{OpensPath};
     ghost use Rattle.session.specs.Runs.{State, plain_session};
     ghost use Rattle.session.specs.Starting.{first_state, plain_setup};
@@ -46,15 +47,17 @@ impl Session {
         requires archive { trace.old.archive.items ≡ [] }
         requires events { trace.old.events.items ≡ [] }
         requires notes { trace.old.notes.items ≡ [] }
-        ensures ok { IfOk result (λ session. Starts
-            (λ kind. Any (λ d. sort (d.vtable, d.value) ≡ kind) drivers.now.list.items)
-            (map plain_letter trace.new.archive.items) (first_state (plain_setup setup)) moment
+        ensures ok { IfOk result (λ session. (given : Given)
+            → IsGiven (map plain_letter trace.new.archive.items) trace.new.verdicts.kept given
+            → Starts (λ kind. Any (λ d. sort (d.vtable, d.value) ≡ kind) drivers.now.list.items)
+            given (first_state (plain_setup setup)) moment
             (plain_events trace.new.events.items) (plain_session session trace.new.notes)
             (seen (dev.old.disk.vtable, dev.old.disk.value))
             (seen (dev.new.disk.vtable, dev.new.disk.value))) }
-        ensures err { IfErr result (λ why. Fails
-            (λ kind. Any (λ d. sort (d.vtable, d.value) ≡ kind) drivers.now.list.items)
-            (map plain_letter trace.new.archive.items) (first_state (plain_setup setup)) moment
+        ensures err { IfErr result (λ why. (given : Given)
+            → IsGiven (map plain_letter trace.new.archive.items) trace.new.verdicts.kept given
+            → Fails (λ kind. Any (λ d. sort (d.vtable, d.value) ≡ kind) drivers.now.list.items)
+            given (first_state (plain_setup setup)) moment
             why (plain_texts trace.new.notes) (plain_events trace.new.events.items)
             (seen (dev.old.disk.vtable, dev.old.disk.value))
             (seen (dev.new.disk.vtable, dev.new.disk.value))) }
@@ -75,7 +78,8 @@ impl Session {
     ) -> Result<Lines, NoMemory>
         requires events { trace.old.events.items ≡ [] }
         requires notes { trace.old.notes.items ≡ [] }
-        ensures ok { IfOk result (λ lines. AnswersNames (first_state (plain_setup setup))
+        ensures ok { IfOk result (λ lines. (given : Given)
+            → AnswersNames given (first_state (plain_setup setup))
             (plain_events trace.new.events.items) (plain_texts names.now) (plain_texts lines)
             (plain_texts trace.new.notes)) }
         ensures sources { SourcesOff (first_state (plain_setup setup))
@@ -102,16 +106,20 @@ impl Session {
             → Sources first (plain_events trace.old.events.items)
             (plain_session self.old trace.old.notes) before
             (seen (dev.old.disk.vtable, dev.old.disk.value))
+            → (given : Given)
+            → IsGiven (map plain_letter trace.new.archive.items) trace.new.verdicts.kept given
             → Starts (λ kind. Any (λ d. sort (d.vtable, d.value) ≡ kind) drivers.now.list.items)
-            (map plain_letter trace.new.archive.items) first moment
+            given first moment
             (plain_events trace.new.events.items) (plain_session self.new trace.new.notes) before
             (seen (dev.new.disk.vtable, dev.new.disk.value))) }
         ensures err { IfErr result (λ why. (first : State) → (before : Seen)
             → Sources first (plain_events trace.old.events.items)
             (plain_session self.old trace.old.notes) before
             (seen (dev.old.disk.vtable, dev.old.disk.value))
+            → (given : Given)
+            → IsGiven (map plain_letter trace.new.archive.items) trace.new.verdicts.kept given
             → Fails (λ kind. Any (λ d. sort (d.vtable, d.value) ≡ kind) drivers.now.list.items)
-            (map plain_letter trace.new.archive.items) first moment why
+            given first moment why
             (plain_texts trace.new.notes) (plain_events trace.new.events.items) before
             (seen (dev.new.disk.vtable, dev.new.disk.value))) }
     {
@@ -131,7 +139,8 @@ impl Session {
             → Sources first (plain_events trace.old.events.items)
             (plain_session self.old trace.old.notes) before
             (seen (dev.old.disk.vtable, dev.old.disk.value))
-            → AnswersNames first (plain_events trace.new.events.items) (plain_texts names.now)
+            → (given : Given) → AnswersNames given first
+            (plain_events trace.new.events.items) (plain_texts names.now)
             (plain_texts lines) (plain_texts trace.new.notes)) }
         ensures sources { (first : State) → (before : Seen)
             → Sources first (plain_events trace.old.events.items)
@@ -160,16 +169,20 @@ impl Session {
             → Sources first (plain_events trace.old.events.items)
             (plain_session self.old trace.old.notes) before
             (seen (dev.old.disk.vtable, dev.old.disk.value))
+            → (given : Given)
+            → IsGiven (map plain_letter trace.new.archive.items) trace.new.verdicts.kept given
             → Starts (λ kind. Any (λ d. sort (d.vtable, d.value) ≡ kind) drivers.now.list.items)
-            (map plain_letter trace.new.archive.items) first moment
+            given first moment
             (plain_events trace.new.events.items) (plain_session self.new trace.new.notes) before
             (seen (dev.new.disk.vtable, dev.new.disk.value))) }
         ensures err { IfErr result (λ why. (first : State) → (before : Seen)
             → Sources first (plain_events trace.old.events.items)
             (plain_session self.old trace.old.notes) before
             (seen (dev.old.disk.vtable, dev.old.disk.value))
+            → (given : Given)
+            → IsGiven (map plain_letter trace.new.archive.items) trace.new.verdicts.kept given
             → Fails (λ kind. Any (λ d. sort (d.vtable, d.value) ≡ kind) drivers.now.list.items)
-            (map plain_letter trace.new.archive.items) first moment why
+            given first moment why
             (plain_texts trace.new.notes) (plain_events trace.new.events.items) before
             (seen (dev.new.disk.vtable, dev.new.disk.value))) }
     {

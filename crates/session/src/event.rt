@@ -4,6 +4,7 @@ use disk_model::DiskError;
 use folder_core::{Archive, Listing, ScanError};
 use keymap::Key;
 use mail_base::{Bytes, Kind, Lines, Series};
+use people::Verdicts;
 
 /// The device's mark and faults before and after an event.
 #[derive(Clone, Copy, Debug, PartialEq, Eq)]
@@ -59,11 +60,12 @@ pub enum Event {
 /// Events in their order.
 pub type Events = Series<Event>;
 
-/// All letters that were met, all that happened, and the lines that commands gave for the fault
-/// stream.
+/// All letters that were met, all that happened, the lines that commands gave for the fault stream,
+/// and the verdicts on expressions.
 #[derive(Drop)]
 pub struct Trace {
     pub archive: Archive,
     pub events: Events,
     pub notes: Lines,
+    pub verdicts: Verdicts,
 }

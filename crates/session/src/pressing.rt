@@ -15,9 +15,10 @@ use std::alloc::Global;
 impl Session {
     ghost use Rattle.std.specs.Prelude.{◌≡◌, ◌<◌, ◌≤◌, ◌++◌, ◌∷◌, [], ℕ, Any, List};
     ghost use Rattle.std.specs.Prelude.{IfOk, OnOk, map};
-    ghost use Rattle.folder_core.specs.Letters.{Mail, plain_letter};
+    ghost use Rattle.folder_core.specs.Letters.{plain_letter};
     ghost use Rattle.mail_base.specs.Series.{plain_texts};
     ghost use Rattle.session.specs.Events.{KeyPressed, plain_events};
+    ghost use Rattle.session.specs.Given.{Given, IsGiven, Keeps};
     ghost use Rattle.session.specs.Runs.{State, plain_session, pushed as pushed_on, shown};
     ghost use Rattle.session.specs.Steps.{IsNext, IsTaken, PressesKey, Stands, StaysRun, Waits};
     ghost use Rattle.session.specs.Steps.{next_of};
@@ -25,19 +26,26 @@ impl Session {
     ghost use Rattle.session_state.specs.declared.desk.Stage.TheVariants.{Idle, Ready};
 
     /// Lets the keys act that commands have put before the first screen.
-    pub fn pushed(&mut self, trace: &Trace) -> Result<Next, NoMemory>
-        ensures pushed { OnOk result (plain_session self.new trace.now.notes
-            ≡ pushed_on (plain_session self.old trace.now.notes)) }
+    pub fn pushed(&mut self, trace: &mut Trace) -> Result<Next, NoMemory>
+        ensures pushed { OnOk result ((given : Given)
+            → IsGiven (map plain_letter trace.new.archive.items) trace.new.verdicts.kept given
+            → plain_session self.new trace.new.notes
+            ≡ pushed_on given (plain_session self.old trace.old.notes)) }
         ensures next { IfOk result (λ next. IsNext next self.new.stage) }
         ensures rows { OnOk result (self.new.core.desk.rows ≡ self.old.core.desk.rows) }
-        ensures stood { OnOk result ((archive : List Mail) → (first : State)
-            → Waits archive first (plain_events trace.now.events.items)
-            (plain_session self.old trace.now.notes)
-            → Stands archive first (plain_events trace.now.events.items)
-            (plain_session self.new trace.now.notes)
-            (shown archive (plain_session self.new trace.now.notes))) }
+        ensures stood { OnOk result ((given : Given)
+            → IsGiven (map plain_letter trace.new.archive.items) trace.new.verdicts.kept given
+            → (first : State) → Waits given first (plain_events trace.old.events.items)
+            (plain_session self.old trace.old.notes)
+            → Stands given first (plain_events trace.new.events.items)
+            (plain_session self.new trace.new.notes)
+            (shown given (plain_session self.new trace.new.notes))) }
+        ensures kept { Keeps trace.old.verdicts.kept trace.new.verdicts.kept }
+        ensures archive { trace.new.archive ≡ trace.old.archive }
+        ensures events { trace.new.events ≡ trace.old.events }
+        ensures notes { trace.new.notes ≡ trace.old.notes }
     {
-        self.push_keys()?;
+        self.push_keys(&trace.archive, &mut trace.verdicts)?;
         Ok(self.next())
     }
 
@@ -46,10 +54,10 @@ impl Session {
         requires { self.old.stage ≡ Idle }
         ensures ready { self.new.stage ≡ Ready }
         ensures rows { self.new.core.desk.rows ≡ self.old.core.desk.rows }
-        ensures stood { (archive : List Mail) → (first : State) → (screens : List (List (List ℕ)))
-            → Stands archive first (plain_events trace.now.events.items)
+        ensures stood { (given : Given) → (first : State) → (screens : List (List (List ℕ)))
+            → Stands given first (plain_events trace.now.events.items)
             (plain_session self.old trace.now.notes) screens
-            → IsTaken archive first (plain_events trace.now.events.items)
+            → IsTaken given first (plain_events trace.now.events.items)
             (plain_session self.new trace.now.notes) screens }
     {
         self.take_key();
@@ -64,20 +72,24 @@ impl Session {
         trace: &mut Trace,
     ) -> Result<Next, NoMemory>
         requires { self.old.stage ≡ Ready }
-        ensures pressed { OnOk result (PressesKey key moment
+        ensures pressed { OnOk result (PressesKey (map plain_letter trace.new.archive.items)
+            trace.new.verdicts.kept key moment
             (plain_session self.old trace.old.notes) (plain_session self.new trace.new.notes)
             (plain_events trace.old.events.items) (plain_events trace.new.events.items)) }
         ensures stays { StaysRun (λ kind. Any (λ d. sort (d.vtable, d.value) ≡ kind)
-            drivers.now.list.items) (plain_session self.old trace.old.notes)
+            drivers.now.list.items) (map plain_letter trace.new.archive.items)
+            trace.new.verdicts.kept (plain_session self.old trace.old.notes)
             (plain_events trace.old.events.items) (plain_events trace.new.events.items) }
         ensures next { IfOk result (λ next. IsNext next self.new.stage) }
         ensures archive { trace.new.archive ≡ trace.old.archive }
+        ensures kept { Keeps trace.old.verdicts.kept trace.new.verdicts.kept }
         // Where there is room for its event, a key is told even where memory runs out.
         ensures always { 0 < trace.old.events.room → plain_events trace.new.events.items
             ≡ plain_events trace.old.events.items ++ KeyPressed key moment ∷ [] }
     {
         let event = pressed_event(key, moment);
-        let taken = self.take(&mut trace.notes, &event);
+        let verdicts = &mut trace.verdicts;
+        let taken = self.take(&trace.archive, verdicts, &mut trace.notes, &event);
         trace.events.push(event)?;
         taken?;
         Ok(self.next())

@@ -5,9 +5,10 @@ ghost use Rattle.session.specs.Runs as spec;
 
 use crate::event::{Event, Trace};
 use disk_model::DiskError;
-use folder_core::Listing;
+use folder_core::{Archive, Listing};
 use keymap::{Key, KeyQueue};
 use mail_base::{Bytes, Line, Lines, NoMemory};
+use people::Verdicts;
 use rc_lang::RcFault;
 use session_state::{Core, Frame, MessageLine, Stage, read_first, settle, skip_first};
 use std::alloc::Global;
@@ -25,26 +26,37 @@ pub struct Session {
 }
 
 impl Session {
-    ghost use Rattle.std.specs.Prelude.{◌≡◌, ◌<◌, ◌++◌, ◌∷◌, [], ℕ, OnOk, MatchOption};
+    ghost use Rattle.std.specs.Prelude.{◌≡◌, ◌<◌, ◌++◌, ◌∷◌, [], ℕ, OnOk, MatchOption, map};
     ghost use Rattle.mail_base.specs.Series.{Held};
+    ghost use Rattle.folder_core.specs.Letters.{plain_letter};
     ghost use Rattle.session.specs.Events.{plain_event, plain_events};
+    ghost use Rattle.session.specs.Given.{Given, IsGiven, Keeps};
     ghost use Rattle.session.specs.Runs.{State};
     ghost use Rattle.session_state.specs.Frames.{plain_frames};
     ghost use Rattle.session.specs.Runs as spec;
 
     /// Takes in what happened. Keys that commands have put still wait behind an opening.
-    pub fn take(&mut self, notes: &mut Lines, event: &Event) -> Result<(), NoMemory>
-        ensures { OnOk result (spec.plain_session self.new notes.new
-            ≡ spec.arrived (spec.plain_session self.old notes.old) (plain_event event.now)) }
+    pub fn take(
+        &mut self,
+        archive: &Archive,
+        verdicts: &mut Verdicts,
+        notes: &mut Lines,
+        event: &Event,
+    ) -> Result<(), NoMemory>
+        ensures arrived { OnOk result ((given : Given)
+            → IsGiven (map plain_letter archive.now.items) verdicts.new.kept given
+            → spec.plain_session self.new notes.new
+            ≡ spec.arrived given (spec.plain_session self.old notes.old) (plain_event event.now)) }
+        ensures kept { Keeps verdicts.old.kept verdicts.new.kept }
     {
         match event {
             Event::Sourced { text, .. } => self.read(notes, text.as_slice()),
             Event::NotSourced { why, .. } => self.skip(notes, *why),
             Event::Pressed { key, .. } => {
                 self.take_key();
-                self.type_in(*key)
+                self.type_in(*key, archive, verdicts)
             }
-            Event::Opened { came, .. } => self.open(came),
+            Event::Opened { came, .. } => self.open(came, archive, verdicts),
             Event::NotOpened { .. } => {
                 self.stage = Stage::Over;
                 Ok(())
@@ -57,11 +69,16 @@ impl Session {
         requires { 0 < trace.old.events.room }
         ensures events { plain_events trace.new.events.items
             ≡ plain_events trace.old.events.items ++ plain_event event ∷ [] }
-        ensures arrived { OnOk result (spec.plain_session self.new trace.new.notes
-            ≡ spec.arrived (spec.plain_session self.old trace.old.notes) (plain_event event)) }
+        ensures arrived { OnOk result ((given : Given)
+            → IsGiven (map plain_letter trace.new.archive.items) trace.new.verdicts.kept given
+            → spec.plain_session self.new trace.new.notes
+            ≡ spec.arrived given (spec.plain_session self.old trace.old.notes)
+            (plain_event event)) }
         ensures archive { trace.new.archive ≡ trace.old.archive }
+        ensures kept { Keeps trace.old.verdicts.kept trace.new.verdicts.kept }
     {
-        let taken = self.take(&mut trace.notes, &event);
+        let verdicts = &mut trace.verdicts;
+        let taken = self.take(&trace.archive, verdicts, &mut trace.notes, &event);
         let _ = trace.events.push(event);
         taken
     }
@@ -112,18 +129,34 @@ impl Session {
         }
     }
 
-    fn type_in(&mut self, key: Key) -> Result<(), NoMemory>
-        ensures { OnOk result ((notes : Held (Held ℕ)) → spec.plain_session self.new notes
-            ≡ spec.typed key (spec.plain_session self.old notes)) }
+    fn type_in(
+        &mut self,
+        key: Key,
+        archive: &Archive,
+        verdicts: &mut Verdicts,
+    ) -> Result<(), NoMemory>
+        ensures typed { OnOk result ((given : Given)
+            → IsGiven (map plain_letter archive.now.items) verdicts.new.kept given
+            → (notes : Held (Held ℕ)) → spec.plain_session self.new notes
+            ≡ spec.typed given key (spec.plain_session self.old notes)) }
+        ensures kept { Keeps verdicts.old.kept verdicts.new.kept }
     {
         self.queue.typed(key)?;
         self.stage = settle(&mut self.core, &mut self.queue, self.listing.as_slice())?;
         Ok(())
     }
 
-    fn open(&mut self, came: &Listing) -> Result<(), NoMemory>
-        ensures { OnOk result ((notes : Held (Held ℕ)) → spec.plain_session self.new notes
-            ≡ spec.opened_by came.now.items (spec.plain_session self.old notes)) }
+    fn open(
+        &mut self,
+        came: &Listing,
+        archive: &Archive,
+        verdicts: &mut Verdicts,
+    ) -> Result<(), NoMemory>
+        ensures opened { OnOk result ((given : Given)
+            → IsGiven (map plain_letter archive.now.items) verdicts.new.kept given
+            → (notes : Held (Held ℕ)) → spec.plain_session self.new notes
+            ≡ spec.opened_by given came.now.items (spec.plain_session self.old notes)) }
+        ensures kept { Keeps verdicts.old.kept verdicts.new.kept }
     {
         self.listing = Listing::from_vec(came.as_slice().to_vec(self.alloc)?);
         self.core.open(came.as_slice());
@@ -132,9 +165,12 @@ impl Session {
     }
 
     /// Lets the keys act that commands have put.
-    pub fn push_keys(&mut self) -> Result<(), NoMemory>
-        ensures { OnOk result ((notes : Held (Held ℕ)) → spec.plain_session self.new notes
-            ≡ spec.pushed (spec.plain_session self.old notes)) }
+    pub fn push_keys(&mut self, archive: &Archive, verdicts: &mut Verdicts) -> Result<(), NoMemory>
+        ensures pushed { OnOk result ((given : Given)
+            → IsGiven (map plain_letter archive.now.items) verdicts.new.kept given
+            → (notes : Held (Held ℕ)) → spec.plain_session self.new notes
+            ≡ spec.pushed given (spec.plain_session self.old notes)) }
+        ensures kept { Keeps verdicts.old.kept verdicts.new.kept }
     {
         let put = self.core.rules.take_put();
         self.queue = KeyQueue::new(self.alloc);

@@ -1,6 +1,5 @@
-use Rattle.std.proofs.Common.{ap, map, refl, sym, ◌∙◌}
+use Rattle.std.proofs.Common.{ap, refl, sym, ◌∙◌}
 use Rattle.std.proofs.lemmas.Int.{to_z-of_z}
-use Rattle.folder_core.specs.Letters.{plain_letter}
 use Rattle.session.specs.Events.{plain_events}
 use Rattle.mutt_words.specs.Options.{plain_options}
 use Rattle.mutt_run.proofs.WordsLemmas.{reads_chosen, reads_driven, setup_is, task_reads}
@@ -10,7 +9,7 @@ use Rattle.mutt_run.proofs.reader.obey.Goals as goal
 pub returns-then-options-clause-reads : goal.returns-then-options-clause-reads
 returns-then-options-clause-reads g c =
     version_reads (plain_options c.args.options) _ _ _ _ _ _
-    (ap (map plain_letter) c.requires.archive) (ap plain_events c.requires.events) refl refl refl
+    (ap plain_events c.requires.events) refl refl refl
     refl c.if-options.true c.tell_version.result _ _ c.tell_version.ensures
 
 pub returns-then-options-clause-faults : goal.returns-then-options-clause-faults

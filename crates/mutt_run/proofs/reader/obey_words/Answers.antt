@@ -1,6 +1,5 @@
-use Rattle.std.proofs.Common.{ap, map, refl}
+use Rattle.std.proofs.Common.{ap, refl}
 use Rattle.std.proofs.lemmas.Int.{to_z-of_z}
-use Rattle.folder_core.specs.Letters.{plain_letter}
 use Rattle.session.specs.Events.{plain_events}
 use Rattle.mutt_run.proofs.WordsLemmas.{memory_reads, nothing_owed, owed, quiet_counts}
 use Rattle.mutt_run.proofs.WordsLemmas.{reads_chosen, usage_reads}
@@ -16,8 +15,8 @@ returns-in-Ok-clause-unopened g c = nothing_owed _ _ c.in-Ok.ensures.ok
 pub returns-in-Err-Usage-clause-reads : goal.returns-in-Err-Usage-clause-reads
 returns-in-Err-Usage-clause-reads g c =
     rw c.in-Err-Usage.field-0-is
-    (usage_reads _ _ _ _ _ _ _ (ap (map plain_letter) c.requires.archive)
-    (ap plain_events c.requires.events) refl refl refl refl refl c.in-Err-Usage.word
+    (usage_reads _ _ _ _ _ _ _ (ap plain_events c.requires.events) refl refl refl refl refl
+    c.in-Err-Usage.word
     (rw c.in-Err-Usage.field-0-is at c.in-Err-Usage.ensures.err))
 
 pub returns-in-Err-Usage-clause-unopened : goal.returns-in-Err-Usage-clause-unopened
@@ -28,8 +27,7 @@ returns-in-Err-Usage-clause-faults g c = quiet_counts _ _ _ _ tt
 
 pub returns-in-Err-NoMemory-clause-reads : goal.returns-in-Err-NoMemory-clause-reads
 returns-in-Err-NoMemory-clause-reads g c =
-    memory_reads _ _ _ _ _ _ _ (ap (map plain_letter) c.requires.archive)
-    (ap plain_events c.requires.events) refl refl refl refl refl
+    memory_reads _ _ _ _ _ _ _ (ap plain_events c.requires.events) refl refl refl refl refl
 
 pub returns-in-Err-NoMemory-clause-unopened : goal.returns-in-Err-NoMemory-clause-unopened
 returns-in-Err-NoMemory-clause-unopened g c = owed _ _ (ap plain_events c.requires.events)

@@ -1,25 +1,33 @@
-use Rattle.std.proofs.Common.{refl}
+use Rattle.std.proofs.Common.{arith, refl}
 use Rattle.std.proofs.lemmas.Int.{to_z-of_z}
+use Rattle.session.proofs.GivenLemmas.{given_here}
 use Rattle.mutt_run.proofs.ReadsLemmas.{fails_fault, fails_memory, fails_refused, starts_here}
 use Rattle.mutt_run.proofs.task.read.Goals as goal
 
 pub returns-in-Err-NotOpened-clause-reads : goal.returns-in-Err-NotOpened-clause-reads
 returns-in-Err-NotOpened-clause-reads g c = λ o is skips task.
     fails_refused o _ _ _ _ _ _ _ _ (simp (to_z-of_z, c.ranges.moment)) is task refl refl refl
-    _ _ _ (rw c.in-Err-NotOpened.field-0-is at c.in-Err-NotOpened.ensures.err) c.refuse.ensures.told
+    _ _ _ ((rw c.in-Err-NotOpened.field-0-is at c.in-Err-NotOpened.ensures.err) _ (given_here _ _))
+    c.refuse.ensures.told
 
 pub returns-in-Err-DiskFault-clause-reads : goal.returns-in-Err-DiskFault-clause-reads
 returns-in-Err-DiskFault-clause-reads g c = λ o is skips task.
     fails_fault o _ _ _ _ _ _ _ _ (simp (to_z-of_z, c.ranges.moment)) is task refl refl refl
-    _ _ (rw c.in-Err-DiskFault.field-0-is at c.in-Err-DiskFault.ensures.err)
+    _ _ ((rw c.in-Err-DiskFault.field-0-is at c.in-Err-DiskFault.ensures.err) _ (given_here _ _))
     c.refuse-in-Err-DiskFault.ensures.told
 
 pub returns-in-Err-NoMemory-clause-reads : goal.returns-in-Err-NoMemory-clause-reads
 returns-in-Err-NoMemory-clause-reads g c = λ o is skips task.
     fails_memory o _ _ _ _ _ _ _ _ (simp (to_z-of_z, c.ranges.moment)) is task refl refl refl
-    _ refl (rw c.in-Err-NoMemory.field-0-is at c.in-Err-NoMemory.ensures.err)
+    _ refl ((rw c.in-Err-NoMemory.field-0-is at c.in-Err-NoMemory.ensures.err) _ (given_here _ _))
 
 pub returns-in-Ok-clause-reads : goal.returns-in-Ok-clause-reads
 returns-in-Ok-clause-reads g c = λ o is skips task.
-    c.read_on.ensures.reads o skips task _ _ _ (starts_here o _ _ _ _ _ _ _ _ _
-    (simp (to_z-of_z, c.ranges.moment)) is c.in-Ok.ensures.ok)
+    c.read_on.ensures.reads o skips task _ _ _ (λ given h.
+    starts_here o _ _ _ given _ _ _ _ _ (simp (to_z-of_z, c.ranges.moment)) is
+    (c.in-Ok.ensures.ok given h))
+
+pub read_on-requires : goal.read_on-requires
+read_on-requires g c = record {
+  tall = omega (arith, (c.in-Ok.ensures.ok _ (given_here _ _)).rows, c.requires.tall);
+}

@@ -1,4 +1,4 @@
-use Rattle.std.proofs.Common.{◌∙◌, arith, ap, length, map, refl, sym}
+use Rattle.std.proofs.Common.{◌∙◌, arith, ap, length, map, refl}
 use Rattle.std.proofs.Common.{FitsSigned, w64}
 use Rattle.std.proofs.lemmas.Int.{ints as signed_arith}
 use Rattle.std.proofs.lemmas.Int.{to_z-of_z}
@@ -7,6 +7,7 @@ use Rattle.folder_core.specs.Letters.{plain_letter}
 use Rattle.folder_core.specs.declared.letter.Letter.{Letter}
 use Rattle.keymap.specs.Reader.{PlainReader}
 use Rattle.session.specs.Events.{plain_events}
+use Rattle.session.proofs.GivenLemmas.{keeps_more, keeps_same, keeps_then}
 use Rattle.mutt_run.proofs.KeysLemmas.{counted_key, ends_broken, ends_fault}
 use Rattle.mutt_run.proofs.KeysLemmas.{ends_limit, ends_over, presses_key, presses_new}
 use Rattle.mutt_run.proofs.KeysLemmas.{presses_stop, pushed_on, told_same}
@@ -15,25 +16,24 @@ use Rattle.mutt_run.proofs.turning.press_all.Goals as goal
 
 pub loop-turn-init : goal.loop-turn-init
 loop-turn-init g c = record {
-  goes = λ first start h. h;
+  goes = λ given is first start h. h;
   presses = presses_new _ _ _ _ c.new-reader.ensures;
   count = omega (arith, ap (λ (r : PlainReader). length r.pending) c.new-reader.ensures);
   idle = c.requires.idle;
   tall = c.requires.tall;
-  told = λ archive first before seen h. h;
+  told = λ given first before seen h. h;
   archive = refl;
+  kept = keeps_same _;
   keys = omega arith;
   out = omega arith;
 }
 
 pub loop-turn-preserved : goal.loop-turn-preserved
 loop-turn-preserved g c = record {
-  goes = λ first start h. goes_same
-      (sym (ap (λ (a : Held Letter). map plain_letter a.items) c.turn.ensures.archive
-      ∙ ap (λ (a : Held Letter). map plain_letter a.items) c.loop-turn.invariant.archive)) refl
-      (c.in-Ok-Go.ensures.turned first start (goes_same
-      (ap (λ (a : Held Letter). map plain_letter a.items) c.loop-turn.invariant.archive)
-      (ap plain_events c.reserve.ensures.items) (c.loop-turn.invariant.goes first start h)));
+  goes = λ given is first start h. c.in-Ok-Go.ensures.turned given is first start
+      (goes_same (ap plain_events c.reserve.ensures.items) (c.loop-turn.invariant.goes given
+      (keeps_more (ap (λ (a : Held Letter). map plain_letter a.items) c.turn.ensures.archive)
+      c.turn.ensures.kept is) first start h));
   presses = presses_key _ _ _ _ _ _ _ _ c.loop-turn.invariant.presses _ c.next_key.ensures.ahead
       _ _ _ _ (rw c.in-Ok-Some.field-0-is at c.in-Ok-Some.ensures.key) c.now-moment.ensures.gives
       (pushed_on _ _ _ _ _ _
@@ -44,28 +44,29 @@ loop-turn-preserved g c = record {
       c.loop-turn.invariant.count;
   idle = rw c.in-Ok-Go.field-0-is at c.in-Ok-Go.ensures.to;
   tall = c.in-Ok-Go.ensures.tall;
-  told = λ archive first before seen h. c.turn.ensures.told archive first before seen
+  told = λ given first before seen h. c.turn.ensures.told given first before seen
       (told_same (ap plain_events c.reserve.ensures.items)
-      (c.loop-turn.invariant.told archive first before seen h));
+      (c.loop-turn.invariant.told given first before seen h));
   archive = c.turn.ensures.archive ∙ c.loop-turn.invariant.archive;
+  kept = keeps_then c.loop-turn.invariant.kept c.turn.ensures.kept;
   keys = omega (arith, c.loop-turn.invariant.keys, c.next_key.ensures.later);
   out = omega (arith, c.loop-turn.invariant.out, c.turn.ensures.later);
 }
 
 pub returns-then-is_err-clause-ended : goal.returns-then-is_err-clause-ended
-returns-then-is_err-clause-ended g c = λ first start h. goes_broken
-    (ap (λ (a : Held Letter). map plain_letter a.items) c.loop-turn.invariant.archive)
-    (ap plain_events c.reserve.ensures.items) (c.loop-turn.invariant.goes first start h)
+returns-then-is_err-clause-ended g c = λ given is first start h.
+    goes_broken (ap plain_events c.reserve.ensures.items)
+    (c.loop-turn.invariant.goes given is first start h)
 
 pub returns-then-is_err-clause-told : goal.returns-then-is_err-clause-told
-returns-then-is_err-clause-told g c = λ archive first before seen h.
+returns-then-is_err-clause-told g c = λ given first before seen h.
     told_same (ap plain_events c.reserve.ensures.items)
-    (c.loop-turn.invariant.told archive first before seen h)
+    (c.loop-turn.invariant.told given first before seen h)
 
 pub returns-in-Ok-None-clause-told : goal.returns-in-Ok-None-clause-told
-returns-in-Ok-None-clause-told g c = λ archive first before seen h.
+returns-in-Ok-None-clause-told g c = λ given first before seen h.
     told_same (ap plain_events c.reserve.ensures.items)
-    (c.loop-turn.invariant.told archive first before seen h)
+    (c.loop-turn.invariant.told given first before seen h)
 
 pub returns-in-Err-ReadFault-clause-pressed : goal.returns-in-Err-ReadFault-clause-pressed
 returns-in-Err-ReadFault-clause-pressed g c =
@@ -75,9 +76,9 @@ returns-in-Err-ReadFault-clause-pressed g c =
     (rw c.in-Err-ReadFault.field-0-is at c.in-Err-ReadFault.ensures.stops.cause)
 
 pub returns-in-Err-ReadFault-clause-told : goal.returns-in-Err-ReadFault-clause-told
-returns-in-Err-ReadFault-clause-told g c = λ archive first before seen h.
+returns-in-Err-ReadFault-clause-told g c = λ given first before seen h.
     told_same (ap plain_events c.reserve.ensures.items)
-    (c.loop-turn.invariant.told archive first before seen h)
+    (c.loop-turn.invariant.told given first before seen h)
 
 pub returns-in-Err-TooManyKeys-clause-pressed : goal.returns-in-Err-TooManyKeys-clause-pressed
 returns-in-Err-TooManyKeys-clause-pressed g c =
@@ -87,15 +88,16 @@ returns-in-Err-TooManyKeys-clause-pressed g c =
     (rw c.in-Err-TooManyKeys.field-0-is at c.in-Err-TooManyKeys.ensures.stops.cause)
 
 pub returns-in-Err-TooManyKeys-clause-told : goal.returns-in-Err-TooManyKeys-clause-told
-returns-in-Err-TooManyKeys-clause-told g c = λ archive first before seen h.
+returns-in-Err-TooManyKeys-clause-told g c = λ given first before seen h.
     told_same (ap plain_events c.reserve.ensures.items)
-    (c.loop-turn.invariant.told archive first before seen h)
+    (c.loop-turn.invariant.told given first before seen h)
 
 pub returns-in-Ok-Quit-clause-ended : goal.returns-in-Ok-Quit-clause-ended
-returns-in-Ok-Quit-clause-ended g c = λ first start h.
-    c.in-Ok-Quit.ensures.turned first start (goes_same
-    (ap (λ (a : Held Letter). map plain_letter a.items) c.loop-turn.invariant.archive)
-    (ap plain_events c.reserve.ensures.items) (c.loop-turn.invariant.goes first start h))
+returns-in-Ok-Quit-clause-ended g c = λ given is first start h.
+    c.in-Ok-Quit.ensures.turned given is first start
+    (goes_same (ap plain_events c.reserve.ensures.items) (c.loop-turn.invariant.goes given
+    (keeps_more (ap (λ (a : Held Letter). map plain_letter a.items) c.turn.ensures.archive)
+    c.turn.ensures.kept is) first start h))
 
 pub returns-in-Ok-Quit-clause-pressed : goal.returns-in-Ok-Quit-clause-pressed
 returns-in-Ok-Quit-clause-pressed g c =
@@ -108,16 +110,17 @@ returns-in-Ok-Quit-clause-pressed g c =
     (rw c.in-Ok-Quit.field-0-is at c.in-Ok-Quit.ensures.to)
 
 pub returns-in-Ok-Quit-clause-told : goal.returns-in-Ok-Quit-clause-told
-returns-in-Ok-Quit-clause-told g c = λ archive first before seen h.
-    c.turn.ensures.told archive first before seen (told_same (ap plain_events
+returns-in-Ok-Quit-clause-told g c = λ given first before seen h.
+    c.turn.ensures.told given first before seen (told_same (ap plain_events
     c.reserve.ensures.items)
-    (c.loop-turn.invariant.told archive first before seen h))
+    (c.loop-turn.invariant.told given first before seen h))
 
 pub returns-in-Err-clause-ended : goal.returns-in-Err-clause-ended
-returns-in-Err-clause-ended g c = λ first start h.
-    ended_broken _ _ c.in-Err.ensures.to (c.in-Err.ensures.turned first start (goes_same
-    (ap (λ (a : Held Letter). map plain_letter a.items) c.loop-turn.invariant.archive)
-    (ap plain_events c.reserve.ensures.items) (c.loop-turn.invariant.goes first start h)))
+returns-in-Err-clause-ended g c = λ given is first start h.
+    ended_broken _ _ c.in-Err.ensures.to (c.in-Err.ensures.turned given is first start
+    (goes_same (ap plain_events c.reserve.ensures.items) (c.loop-turn.invariant.goes given
+    (keeps_more (ap (λ (a : Held Letter). map plain_letter a.items) c.turn.ensures.archive)
+    c.turn.ensures.kept is) first start h)))
 
 pub returns-in-Err-clause-pressed : goal.returns-in-Err-clause-pressed
 returns-in-Err-clause-pressed g c =
@@ -129,7 +132,13 @@ returns-in-Err-clause-pressed g c =
     c.turn.ensures.pressed)) _ _ c.in-Err.ensures.to
 
 pub returns-in-Err-clause-told : goal.returns-in-Err-clause-told
-returns-in-Err-clause-told g c = λ archive first before seen h.
-    c.turn.ensures.told archive first before seen (told_same (ap plain_events
+returns-in-Err-clause-told g c = λ given first before seen h.
+    c.turn.ensures.told given first before seen (told_same (ap plain_events
     c.reserve.ensures.items)
-    (c.loop-turn.invariant.told archive first before seen h))
+    (c.loop-turn.invariant.told given first before seen h))
+
+pub returns-in-Ok-Quit-clause-kept : goal.returns-in-Ok-Quit-clause-kept
+returns-in-Ok-Quit-clause-kept g c = keeps_then c.loop-turn.invariant.kept c.turn.ensures.kept
+
+pub returns-in-Err-clause-kept : goal.returns-in-Err-clause-kept
+returns-in-Err-clause-kept g c = keeps_then c.loop-turn.invariant.kept c.turn.ensures.kept

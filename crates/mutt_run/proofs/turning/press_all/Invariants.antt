@@ -1,7 +1,8 @@
 use Rattle.std.proofs.Common.{◌≡◌, ◌≤◌, ◌+◌, ℕ, List, Any, Option, length, map}
 use Rattle.disk_model.specs.Seen.{Seen}
-use Rattle.folder_core.specs.Letters.{Mail, plain_letter}
+use Rattle.folder_core.specs.Letters.{plain_letter}
 use Rattle.session.specs.Events.{plain_events}
+use Rattle.session.specs.Given.{Given, IsGiven, Keeps}
 use Rattle.session.specs.Runs.{State, plain_session}
 use Rattle.session.specs.Telling.{Witnessed}
 use Rattle.session_state.specs.declared.desk.Stage.TheVariants.{Idle}
@@ -10,28 +11,29 @@ use Rattle.mutt_run.proofs.turning.press_all.Given as goal
 
 abbrev pub invariant-loop-turn : goal.invariant-loop-turn
 invariant-loop-turn g l = record {
-  goes : (first : State) → (start : Option (List ℕ))
-      → Goes (map plain_letter l.initial.trace.archive.items) first
-      (plain_events l.initial.trace.events.items)
+  goes : (given : Given)
+      → IsGiven (map plain_letter l.trace.archive.items) l.trace.verdicts.kept given
+      → (first : State) → (start : Option (List ℕ))
+      → Goes given first (plain_events l.initial.trace.events.items)
       (plain_session l.initial.session l.initial.trace.notes) start
       (g.O.Sink.written l.initial.out)
-      → Goes (map plain_letter l.initial.trace.archive.items) first
-      (plain_events l.trace.events.items) (plain_session l.session l.trace.notes) start
-      (g.O.Sink.written l.out);
+      → Goes given first (plain_events l.trace.events.items)
+      (plain_session l.session l.trace.notes) start (g.O.Sink.written l.out);
   presses : Presses (plain_events l.initial.trace.events.items) (plain_events l.trace.events.items)
       l.reader (g.K.Source.left l.initial.keys) (g.K.Source.left l.keys)
       (g.C.Clock.moments l.initial.clock) (g.C.Clock.moments l.clock);
   count : l._turn + length l.reader.pending ≤ l.reader.taken;
   idle : l.session.stage ≡ Idle;
   tall : 6 ≤ l.session.core.desk.rows;
-  told : (archive : List Mail) → (first : State) → (before seen : Seen)
+  told : (given : Given) → (first : State) → (before seen : Seen)
       → Witnessed (λ kind. Any (λ d.
       (goal.Driver-dyn g (d.vtable, d.value)).sort d.value ≡ kind) l.drivers.list.items)
-      archive first (plain_events l.initial.trace.events.items) before seen
+      given first (plain_events l.initial.trace.events.items) before seen
       → Witnessed (λ kind. Any (λ d.
       (goal.Driver-dyn g (d.vtable, d.value)).sort d.value ≡ kind) l.drivers.list.items)
-      archive first (plain_events l.trace.events.items) before seen;
+      given first (plain_events l.trace.events.items) before seen;
   archive : l.trace.archive ≡ l.initial.trace.archive;
+  kept : Keeps l.initial.trace.verdicts.kept l.trace.verdicts.kept;
   keys : g.K.Source.faults l.initial.keys ≤ g.K.Source.faults l.keys;
   out : g.O.Sink.faults l.initial.out ≤ g.O.Sink.faults l.out;
 }

@@ -1,4 +1,4 @@
-use Rattle.std.proofs.Common.{ap, map}
+use Rattle.std.proofs.Common.{ap, map, ◌∙◌}
 use Rattle.std.proofs.Math.Facts.{to_z-of_z}
 use Rattle.folder_core.specs.Letters.{plain_letter}
 use Rattle.session.proofs.BeginningLemmas.{err_from, fails_early, no_memory, ok_from}
@@ -6,9 +6,9 @@ use Rattle.session.proofs.session_type.Session.begin.Goals as goal
 
 pub returns-in_err-source_all-clause-err : goal.returns-in_err-source_all-clause-err
 returns-in_err-source_all-clause-err g c =
-    no_memory _ _ c.from_residual.ensures.1 (λ first before sources.
-    fails_early _ _ first _ _ _ before _
-    (rw c.source_all.ensures.archive (ap (map plain_letter) c.requires.archive))
+    no_memory _ _ c.from_residual.ensures.1 (λ first before sources given is.
+    fails_early _ given first _ _ _ before _
+    (is.mails_are ∙ rw c.source_all.ensures.archive (ap (map plain_letter) c.requires.archive))
     (c.source_all.ensures.off first before sources))
 
 pub returns-clause-ok : goal.returns-clause-ok

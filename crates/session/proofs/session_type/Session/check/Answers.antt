@@ -5,13 +5,13 @@ use Rattle.session.proofs.StepsLemmas.{taken_rows}
 use Rattle.session.proofs.session_type.Session.check.Goals as goal
 
 pub returns-clause-ready : goal.returns-clause-ready
-returns-clause-ready c =
+returns-clause-ready g c =
     let s : State = plain_session c.args.self.now (record { items = []; room = 0 }) in
     ap (λ (t : State). t.turn.stage) (c.take_key.ensures (record { items = []; room = 0 }))
     ∙ ap (λ (stage : Stage). (taken_at stage s).turn.stage) c.requires
 
 pub returns-clause-rows : goal.returns-clause-rows
-returns-clause-rows c =
+returns-clause-rows g c =
     let s : State = plain_session c.args.self.now (record { items = []; room = 0 }) in
     ap (λ (t : State). t.turn.core.desk.rows) (c.take_key.ensures (record { items = []; room = 0 }))
     ∙ taken_rows s

@@ -7,20 +7,20 @@ use Rattle.session.proofs.StepsLemmas.{pushed_next, pushed_rows}
 use Rattle.session.proofs.session_type.Session.pushed.Goals as goal
 
 pub returns-clause-next : goal.returns-clause-next
-returns-clause-next c =
+returns-clause-next g c =
     subst (λ (n : Next). IsNext n c.push_keys.new.self.stage) (sym c.next.ensures)
     (pushed_next (plain_session c.args.self.now c.args.trace.now.notes)
     (plain_session c.push_keys.new.self c.args.trace.now.notes)
-    (c.in_ok-push_keys.ensures c.args.trace.now.notes))
+    (λ given is. c.in_ok-push_keys.ensures.pushed given is c.args.trace.now.notes))
 
 pub returns-clause-rows : goal.returns-clause-rows
-returns-clause-rows c =
+returns-clause-rows g c =
     pushed_rows (plain_session c.args.self.now c.args.trace.now.notes)
     (plain_session c.push_keys.new.self c.args.trace.now.notes)
-    (c.in_ok-push_keys.ensures c.args.trace.now.notes)
+    (λ given is. c.in_ok-push_keys.ensures.pushed given is c.args.trace.now.notes)
 
 pub returns-clause-stood : goal.returns-clause-stood
-returns-clause-stood c archive first waits =
-    waits_then archive first (plain_session c.args.self.now c.args.trace.now.notes)
+returns-clause-stood g c given is first waits =
+    waits_then given first (plain_session c.args.self.now c.args.trace.now.notes)
     (plain_session c.push_keys.new.self c.args.trace.now.notes) _
-    (c.in_ok-push_keys.ensures c.args.trace.now.notes) waits
+    (c.in_ok-push_keys.ensures.pushed given is c.args.trace.now.notes) waits

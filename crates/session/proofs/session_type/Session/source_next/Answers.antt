@@ -1,7 +1,7 @@
 use Rattle.std.proofs.Common.{ap, refl}
 use Rattle.session.specs.Events.{plain_events}
 use Rattle.session.specs.Runs.{plain_session}
-use Rattle.session.proofs.StepsLemmas.{file_off, file_sources, sources_off}
+use Rattle.session.proofs.StepsLemmas.{file_off, file_sources, file_unopened, sources_off}
 use Rattle.session.proofs.session_type.Session.source_next.Goals as goal
 
 pub returns-in_err-reserve-clause-off : goal.returns-in_err-reserve-clause-off
@@ -45,3 +45,9 @@ returns-in_ok-happen-in-Some-clause-off g c first before sources =
     ((rw c.in-Some.is at c.in_ok-source.ensures.wish)
     (plain_session c.args.self.now c.args.trace.now.notes))
     (rw c.in-Some.is at c.in_ok-source.ensures.ok) sources
+
+pub returns-in_ok-happen-in-Some-clause-unopened : goal.returns-in_ok-happen-in-Some-clause-unopened
+returns-in_ok-happen-in-Some-clause-unopened g c =
+    file_unopened (plain_session c.args.self.now c.args.trace.now.notes)
+    (plain_session c.happen.new.self c.happen.new.trace.notes) _ _ _
+    (rw c.in-Some.is at c.in_ok-source.ensures.ok) c.requires c.in_ok-happen-in-Some.ensures.arrived

@@ -1,4 +1,4 @@
-use Rattle.std.proofs.Common.{[], ap, map, refl}
+use Rattle.std.proofs.Common.{[], ap, map, refl, ◌∙◌}
 use Rattle.std.proofs.Math.Facts.{to_z-of_z}
 use Rattle.folder_core.specs.Letters.{plain_letter}
 use Rattle.session.specs.Events.{plain_events}
@@ -10,9 +10,9 @@ use Rattle.session.proofs.session_type.Session.start.Goals as goal
 
 pub returns-in_err-session-clause-err : goal.returns-in_err-session-clause-err
 returns-in_err-session-clause-err g c =
-    no_memory _ _ c.from_residual.ensures.1
-    (fails_early _ _ (first_state (plain_setup c.args.setup)) _ _ _ _ _
-    (ap (map plain_letter) c.requires.archive)
+    no_memory _ _ c.from_residual.ensures.1 (λ given is.
+    fails_early _ given (first_state (plain_setup c.args.setup)) _ _ _ _ _
+    (is.mails_are ∙ ap (map plain_letter) c.requires.archive)
     (sources_off (first_state (plain_setup c.args.setup)) (first_state (plain_setup c.args.setup))
     _ _ _ _ _ refl refl (sources_begun (first_state (plain_setup c.args.setup))
     (first_state (plain_setup c.args.setup)) _ _ refl (ap plain_events c.requires.events))))
