@@ -1,4 +1,5 @@
 mod Driving
+pub mod MessageLemmas
 pub mod PostmarkLemmas
 pub mod Reading
 pub mod RegionsLemmas

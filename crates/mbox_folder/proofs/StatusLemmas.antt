@@ -4,7 +4,8 @@ use Rattle.std.proofs.Common.{◌∷◌, ◌++◌, map, Option, Some, None, leng
 use Rattle.std.proofs.Common.{ap, ◌∙◌, arith}
 use Rattle.std.specs.Prelude.{if◌then◌else◌, is_some, nat_lt, codes}
 use Rattle.std.specs.List.{concat, list_any}
-use Rattle.std.specs.Str.{str_eq_ignore_ascii_case}
+use Rattle.std.specs.Char.{to_ascii_lowercase}
+use Rattle.std.specs.Str.{bytes_eq, str_eq_ignore_ascii_case, str_to_ascii_lowercase}
 use Rattle.std.proofs.lemmas.Bool.{cond-true, cond-false}
 use Rattle.std.proofs.lemmas.Bool.Decides.{nat_tests}
 use Rattle.bstr.specs.Text.{without_terminator, no_cr}
@@ -12,8 +13,8 @@ use Rattle.mail_base.specs.declared.flags.Flags.{Flags}
 use Rattle.mail_base.specs.Blanks.{is_blank, without_blanks}
 use Rattle.mail_base.specs.Lines.{is_continuation, colon_of, behind_colon, unfolded, more_text, continuations}
 use Rattle.mail_base.specs.Lines.{fields_of, PlainField}
-use Rattle.folder_core.specs.Mbox.{holds}
-use Rattle.mbox_folder.specs.Status.{has, lines_hold, told_by, is_status, is_x_status}
+use Rattle.folder_core.specs.Mbox.{holds, is_status_name, without_status}
+use Rattle.mbox_folder.specs.Status.{drops, has, lines_hold, starts_status, told_by, is_status, is_x_status}
 use Rattle.mbox_folder.specs.declared.status.StatusField.{StatusField}
 use Rattle.mbox_folder.specs.declared.status.Told.{Told}
 
@@ -47,6 +48,18 @@ continuations-field line k lines e = cond-true _ _ _ (ap is_some e)
 continuations-more : (line : List ℕ) (lines : List (List ℕ)) → colon_of line ≡ None
     → continuations (line ∷ lines) ≡ (if is_continuation line then line ∷ continuations lines else continuations lines)
 continuations-more line lines e = cond-false _ _ _ (ap is_some e)
+
+or_left : (a b : Bool) → (a || b) ≡ false → a ≡ false
+or_left true b e = e
+or_left false b e = refl
+
+or_right : (a b : Bool) → (a || b) ≡ false → b ≡ false
+or_right true b e = absurd (cc)
+or_right false b e = e
+
+and_false : (t : Bool) → (t && false) ≡ false
+and_false true = refl
+and_false false = refl
 
 or_assoc : (a b c : Bool) → (a || b) || c ≡ a || (b || c)
 or_assoc true b c = refl
@@ -230,3 +243,90 @@ pub GoOn-continued : (name line : List ℕ) (lines : List (List ℕ)) (continued
     → is_continuation line ≡ true → GoOn continued continued name line line lines
 GoOn-continued name line lines continued e c =
     λ letter ink. lines_hold-continued letter name line lines continued e c
+
+-- Lines that begin no status field.
+
+-- no status field begins with another byte
+other_name : (b : ℕ) → (b == 83 || b == 115 || b == 88 || b == 120) ≡ false
+    → ((to_ascii_lowercase b == 115) ≡ false) × ((to_ascii_lowercase b == 120) ≡ false)
+other_name b other = (grind (arith, nat_tests), grind (arith, nat_tests))
+
+pub NotNamed : List ℕ → List ℕ → Type 0
+NotNamed name line = (k : ℕ) → str_eq_ignore_ascii_case (take k line) name ≡ false
+
+not_status : (line : List ℕ) → starts_status line ≡ false → NotNamed (codes "Status") line
+unfolding NotNamed
+not_status [] other zero = refl
+not_status [] other (suc k) = refl
+not_status (b ∷ rest) other zero = refl
+not_status (b ∷ rest) other (suc k) =
+    ap (λ t. t && bytes_eq (str_to_ascii_lowercase (take k rest)) (codes "tatus")) (other_name b other).0
+
+not_x_status : (line : List ℕ) → starts_status line ≡ false → NotNamed (codes "X-Status") line
+unfolding NotNamed
+not_x_status [] other zero = refl
+not_x_status [] other (suc k) = refl
+not_x_status (b ∷ rest) other zero = refl
+not_x_status (b ∷ rest) other (suc k) =
+    ap (λ t. t && bytes_eq (str_to_ascii_lowercase (take k rest)) (codes "-status")) (other_name b other).1
+
+holds-passed : (letter : ℕ) (name line : List ℕ) (lines : List (List ℕ)) → NotNamed name line
+    → holds name letter (fields_of lines) ≡ holds name letter (fields_of (line ∷ lines))
+unfolding NotNamed
+holds-passed letter name line lines other = by_colon (colon_of line) refl
+  where
+    by_colon : (o : Option ℕ) → colon_of line ≡ o
+        → holds name letter (fields_of lines) ≡ holds name letter (fields_of (line ∷ lines))
+    by_colon None e = ap (holds name letter) (sym (fields_of-more line lines e))
+    by_colon (Some k) e =
+        sym (ap (holds name letter) (fields_of-field line k lines e)
+        ∙ ap (λ t. (t && has letter (unfolded line (continuations lines))) || holds name letter (fields_of lines))
+        (other k))
+
+lines_hold-passed : (letter : ℕ) (name line : List ℕ) (lines : List (List ℕ)) (continued : Bool) → continued ≡ false
+    → NotNamed name line → lines_hold continued name letter lines ≡ lines_hold continued name letter (line ∷ lines)
+lines_hold-passed letter name line lines continued ends other =
+    ap (λ c. lines_hold c name letter lines) ends ∙ holds-passed letter name line lines other
+    ∙ ap (λ c. lines_hold c name letter (line ∷ lines)) (sym ends)
+
+-- what is told past a line that begins and continues no status field
+pub told_by-passed : (t : Told) (line : List ℕ) (lines : List (List ℕ)) → drops t ≡ false → starts_status line ≡ false
+    → told_by t lines ≡ told_by t (line ∷ lines)
+unfolding joined
+told_by-passed t line lines ends other =
+    let status : is_status t.field ≡ false = or_left _ _ ends in
+    let x_status : is_x_status t.field ≡ false = or_right _ _ ends in
+    let first = λ (letter : ℕ). lines_hold-passed letter (codes "Status") line lines (is_status t.field) status
+    (not_status line other) in
+    let second = λ (letter : ℕ). lines_hold-passed letter (codes "X-Status") line lines (is_x_status t.field) x_status
+    (not_x_status line other) in
+    joined-same t.flags (first 82) (first 79) (second 65) (second 70)
+
+-- and it stays
+pub without_status-passed : (dropped : Bool) (line : List ℕ) (lines : List (List ℕ)) → dropped ≡ false
+    → starts_status line ≡ false → without_status dropped (line ∷ lines) ≡ line ∷ without_status dropped lines
+unfolding NotNamed
+without_status-passed dropped line lines ends other =
+    ap (λ d. without_status d (line ∷ lines)) ends ∙ by_colon (colon_of line) refl
+    ∙ ap (λ d. line ∷ without_status d lines) (sym ends)
+  where
+    by_colon : (o : Option ℕ) → colon_of line ≡ o
+        → without_status false (line ∷ lines) ≡ line ∷ without_status false lines
+    by_colon None e =
+        ap (λ (o : Option ℕ). if is_some o
+        then (if is_status_name (take (unwrap_or o 0) line) then without_status true lines
+        else line ∷ without_status false lines)
+        else (if is_continuation line && false then without_status false lines
+        else line ∷ without_status false lines)) e
+        ∙ ap (λ t. if t then without_status false lines else line ∷ without_status false lines)
+        (and_false (is_continuation line))
+    by_colon (Some k) e =
+        ap (λ (o : Option ℕ). if is_some o
+        then (if is_status_name (take (unwrap_or o 0) line) then without_status true lines
+        else line ∷ without_status false lines)
+        else (if is_continuation line && false then without_status false lines
+        else line ∷ without_status false lines)) e
+        ∙ ap (λ t. if t || str_eq_ignore_ascii_case (take k line) (codes "X-Status") then without_status true lines
+        else line ∷ without_status false lines) (not_status line other k)
+        ∙ ap (λ t. if t then without_status true lines else line ∷ without_status false lines)
+        (not_x_status line other k)

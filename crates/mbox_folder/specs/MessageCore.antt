@@ -1,12 +1,8 @@
 -- What stays of the lines that a walk over a message has left. For the code alone: no public clause cites this.
-use Rattle.std.specs.Prelude.{ℕ, true, false, List, ◌++◌}
+use Rattle.std.specs.Prelude.{ℕ, Bool, List, ◌++◌}
 use Rattle.mail_base.specs.Lines.{header_block, after_block}
 use Rattle.folder_core.specs.Mbox.{without_status}
-use Rattle.mbox_folder.specs.declared.message_core.Walk.{Walk}
-use Rattle.mbox_folder.specs.declared.message_core.Walk.TheVariants.{Kept, Dropped, Body}
 
--- the lines that stay
-abbrev pub kept_from : Walk → List (List ℕ) → List (List ℕ)
-kept_from Kept lines = without_status false (header_block lines) ++ after_block lines
-kept_from Dropped lines = without_status true (header_block lines) ++ after_block lines
-kept_from Body lines = lines
+-- the lines that stay, by whether the last field is dropped
+abbrev pub kept_from : Bool → List (List ℕ) → List (List ℕ)
+kept_from dropped lines = without_status dropped (header_block lines) ++ after_block lines

@@ -1,5 +1,5 @@
 -- What the lines of a header block tell of a message's flags. For the code alone: no public clause cites this.
-use Rattle.std.specs.Prelude.{◌==◌, ℕ, Bool, true, false, ◌&&◌, ◌||◌, List, codes}
+use Rattle.std.specs.Prelude.{◌==◌, ℕ, Bool, true, false, ◌&&◌, ◌||◌, List, [], ◌∷◌, codes}
 use Rattle.std.specs.List.{list_any}
 use Rattle.mail_base.specs.declared.flags.Flags.{Flags}
 use Rattle.mail_base.specs.Lines.{continuations, fields_of}
@@ -17,6 +17,11 @@ abbrev pub lines_hold : Bool → List ℕ → ℕ → List (List ℕ) → Bool
 lines_hold continued name letter lines =
     (continued && list_any (has letter) (continuations lines)) || holds name letter (fields_of lines)
 
+-- the line may begin a status field, by its first byte
+abbrev pub starts_status : List ℕ → Bool
+starts_status [] = false
+starts_status (b ∷ _) = b == 83 || b == 115 || b == 88 || b == 120
+
 -- the field is Status
 abbrev pub is_status : StatusField → Bool
 is_status Status = true
@@ -28,6 +33,10 @@ abbrev pub is_x_status : StatusField → Bool
 is_x_status Status = false
 is_x_status XStatus = true
 is_x_status Other = false
+
+-- a line that continues the field goes where flags change
+abbrev pub drops : Told → Bool
+drops told = is_status told.field || is_x_status told.field
 
 -- the flags told so far and by further lines of the block
 abbrev pub told_by : Told → List (List ℕ) → Flags

@@ -4,14 +4,13 @@ ghost use Rattle.std.specs.Prelude.{◌≡◌, ◌≤◌, ◌+◌, ◌++◌, ◌
 ghost use Rattle.folder_core.specs.Letters.{plain_letter};
 ghost use Rattle.folder_core.specs.Limits.{count_refusal as count_refusal_lem, most_letters};
 ghost use Rattle.folder_core.specs.Mbox.{mbox_letter, raw_messages, received as received_lem};
-ghost use Rattle.folder_core.specs.Mbox.{regions as regions_lem, status};
+ghost use Rattle.folder_core.specs.Mbox.{core as spec_core, regions as regions_lem};
 ghost use Rattle.folder_core.specs.Moments.{IsClockMoment};
 ghost use Rattle.mbox_folder.specs.ListedFile.{IsListedFile, IsUnlisted, letters_from, listed_from};
 
-use crate::message_core::core_of;
+use crate::message_core::read_message;
 use crate::postmark::read_postmark;
 use crate::regions::{CutError, cut_regions};
-use crate::status::read_status;
 use folder_core::{Archive, Letter, Listed, Listing, Region, ScanError};
 use mail_base::{Bytes, Id, NoMemory, first_line};
 use std::alloc::Global;
@@ -81,26 +80,26 @@ fn list_messages(
     while let [region, rest @ ..] = left {
         let raw = &bytes[region.start..region.end];
         let id = archive.len() as u32;
-        let letter = letter_of(alloc, raw, id)?;
-        came.push(listed(raw, id))?;
-        archive.push(letter)?;
+        let (core, flags) = read_message(alloc, raw)?;
+        came.push(Listed { id: Id(id), flags })?;
+        archive.push(letter_of(alloc, core, raw, id))?;
         left = rest;
     }
     Ok(came)
 }
 
-/// The letter of a message.
-fn letter_of(alloc: Global, raw: &[u8], id: u32) -> Result<Letter, NoMemory>
-    ensures { IfOk result (λ letter. plain_letter letter ≡ mbox_letter id raw.now) }
+/// The letter of a message, of which that stays.
+fn letter_of(alloc: Global, core: Bytes, raw: &[u8], id: u32) -> Letter
+    requires { core.items ≡ spec_core raw.now }
+    ensures { plain_letter result ≡ mbox_letter id raw.now }
 {
-    let core = core_of(alloc, raw)?;
-    Ok(Letter {
+    Letter {
         order: u64::from(id),
         key: Bytes::new(alloc),
         text_at: first_line(core.as_slice()).len(),
         core,
         received: received(raw),
-    })
+    }
 }
 
 /// The moment of a message's postmark, or 0 where it has none.
@@ -109,14 +108,4 @@ fn received(raw: &[u8]) -> i64
     ensures range { IsClockMoment result }
 {
     read_postmark(first_line(raw)).unwrap_or(0)
-}
-
-fn listed(raw: &[u8], id: u32) -> Listed
-    ensures id { result.id.0 ≡ id }
-    ensures flags { result.flags ≡ status raw.now }
-{
-    Listed {
-        id: Id(id),
-        flags: read_status(raw),
-    }
 }

@@ -1,80 +1,54 @@
-//! What stays of a message when its status changes.
+//! What stays of a message when its status changes, and its flags.
 
-ghost use Rattle.std.specs.Prelude.{◌≡◌, [], ◌∷◌, ◌++◌, List, ℕ, IfOk, OnOk, if◌then◌else◌};
+ghost use Rattle.std.specs.Prelude.{◌≡◌, [], ◌∷◌, ◌++◌, IfOk, OnOk};
 ghost use Rattle.std.specs.List.{concat};
+ghost use Rattle.bstr.specs.Text.{lines_of};
 ghost use Rattle.mail_base.specs.Lines as lines;
 ghost use Rattle.folder_core.specs.Mbox as spec;
-ghost use Rattle.mbox_folder.specs.MessageCore.{kept_from};
 
+use crate::status::Told;
 use bstr::ByteSlice;
-use mail_base::{
-    Bytes, NoMemory, colon_of, is_continuation, is_empty_line, is_same_name, without_feed,
-};
+use mail_base::{Bytes, Flags, Kind, NoMemory, is_empty_line, without_feed};
 use std::alloc::Global;
-
-// Where a walk over the lines behind a postmark stands.
-#[derive(Clone, Copy)]
-enum Walk {
-    /// In the header block, and the last field stays.
-    Kept,
-    /// In the header block, and the last field is dropped.
-    Dropped,
-    /// Behind the header block.
-    Body,
-}
-
-impl Walk {
-    // Whether the line stays, and where the walk stands behind it.
-    fn past(self, line: &[u8]) -> (Walk, bool)
-        ensures { (lines : List (List ℕ)) → kept_from self (line.now ∷ lines)
-            ≡ (if result.1 then line.now ∷ kept_from result.0 lines else kept_from result.0 lines) }
-    {
-        let dropped = match self {
-            Walk::Body => return (Walk::Body, true),
-            Walk::Kept => false,
-            Walk::Dropped => true,
-        };
-        if is_empty_line(line) {
-            return (Walk::Body, true);
-        }
-        match colon_of(line) {
-            Some(at) if is_status_name(&line[..at]) => (Walk::Dropped, false),
-            Some(_) => (Walk::Kept, true),
-            None => (self, !(is_continuation(line) && dropped)),
-        }
-    }
-}
-
-fn is_status_name(name: &[u8]) -> bool
-    ensures { result ≡ spec.is_status_name name.now }
-{
-    is_same_name(name, b"Status") || is_same_name(name, b"X-Status")
-}
 
 /// What stays of a message when its status changes: its lines without the status fields, each with
 /// an LF, without the empty line that ends it.
-#[tactic(auto, unfolding(folder_core::specs::Mbox::core))]
 pub fn core_of(alloc: Global, region: &[u8]) -> Result<Bytes, NoMemory>
     ensures { IfOk result (λ core. core.items ≡ spec.core region.now) }
 {
+    let (core, _) = read_message(alloc, region)?;
+    Ok(core)
+}
+
+/// What stays of a message when its status changes, and its flags, in one walk over its header
+/// block.
+#[tactic(auto, unfolding(folder_core::specs::Mbox::core, folder_core::specs::Mbox::status))]
+pub(crate) fn read_message(alloc: Global, region: &[u8]) -> Result<(Bytes, Flags), NoMemory>
+    ensures core { IfOk result (λ read. read.0.items ≡ spec.core region.now) }
+    ensures flags { IfOk result (λ read. read.1 ≡ spec.status region.now) }
+{
     let mut core = Bytes::new(alloc);
     core.reserve(region.len())?;
+    let mut told = Told::NOTHING;
     let mut lines = region.lines_with_terminator();
-    let Some(first) = lines.next() else {
-        return Ok(core);
-    };
-    let mut last = first;
-    let mut walk = Walk::Kept;
-    for line in lines {
-        let (next, stays) = walk.past(line);
-        walk = next;
+    let mut last = lines.next().unwrap_or(&[]);
+    let mut left = lines.as_bytes();
+    while let Some(line) = lines.next() {
+        if is_empty_line(line) {
+            core.append(last)?;
+            append_text(&mut core, left)?;
+            return Ok((core, told.flags.stored(Kind::Mbox)));
+        }
+        let (next, stays) = told.past(line);
+        told = next;
         if stays {
             core.append(last)?;
             last = line;
         }
+        left = lines.as_bytes();
     }
     append_last(&mut core, last)?;
-    Ok(core)
+    Ok((core, told.flags.stored(Kind::Mbox)))
 }
 
 // Whether the text and LF are an empty line.
@@ -82,6 +56,19 @@ fn is_empty_text(text: &[u8]) -> bool
     ensures { result ≡ lines.is_empty_line (text.now ++ 10 ∷ []) }
 {
     text.is_empty() || text == b"\r".as_slice()
+}
+
+// Adds lines of which the last ends a message.
+fn append_text(core: &mut Bytes, text: &[u8]) -> Result<(), NoMemory>
+    ensures { OnOk result (core.new.items
+        ≡ core.old.items ++ concat (spec.without_separator (lines_of text.now))) }
+{
+    let mut lines = text.lines_with_terminator();
+    let Some(last) = lines.next_back() else {
+        return Ok(());
+    };
+    core.append(lines.as_bytes())?;
+    append_last(core, last)
 }
 
 // Adds a last line with the LF that it may lack, or nothing where it is then empty.

@@ -4,7 +4,8 @@ ghost use Rattle.std.specs.Prelude.{◌≡◌, ◌<◌, IfSome, MatchOption, len
 ghost use Rattle.folder_core.specs.Mbox as spec;
 
 use crate::stamp::read_stamp;
-use mail_base::{blank_at, without_feed};
+use mail_base::without_feed;
+use memchr::memchr2;
 
 /// The moment of a postmark line (mbox(5)), in seconds since 1970 UTC from 0 to 253,000,000,000;
 /// none for another line. The line stands with the LF that ends it, or without.
@@ -31,7 +32,7 @@ fn behind_blank(text: &[u8]) -> Option<&[u8]>
         (spec.stamp_behind rest.now)) }
     ensures shorter { IfSome result (λ rest. length rest.now < length text.now) }
 {
-    match blank_at(text) {
+    match memchr2(b' ', b'\t', text) {
         Some(at) => Some(&text[at + 1..]),
         None => None,
     }

@@ -4,11 +4,12 @@ ghost use Rattle.std.specs.Prelude.{◌≡◌, ◌<◌, ◌≤◌, pos, ◌+ℤ�
 ghost use Rattle.std.specs.Char.{is_ascii_alphabetic};
 ghost use Rattle.std.specs.List.{list_all};
 ghost use Rattle.folder_core.specs.Mbox as spec;
+ghost use Rattle.mail_base.specs.Words as words;
 ghost use Rattle.mail_base.specs.Zone.{IsOffset};
 ghost use Rattle.mbox_folder.specs.Stamp.{IsEnding, IsMidnight, IsMonth};
 
 use jiff::civil::{Date, date};
-use mail_base::{behind_word, first_word, read_zone, two_digits};
+use mail_base::{blank_at, read_zone, two_digits, without_blanks};
 
 // The last second that a clock gives.
 const LAST_SECOND: i64 = 253_000_000_000;
@@ -19,18 +20,30 @@ pub fn read_stamp(text: &[u8]) -> Option<i64>
     ensures value { result ≡ spec.stamp text.now }
     ensures range { IfSome result spec.IsClockMoment }
 {
-    if !is_weekday(first_word(text)) {
+    let (weekday, behind_weekday) = split_word(text);
+    if !is_weekday(weekday) {
         return None;
     }
-    let month = behind_word(text);
-    let day = behind_word(month);
-    let clock = behind_word(day);
+    let (month, behind_month) = split_word(behind_weekday);
+    let (day, behind_day) = split_word(behind_month);
+    let (clock, ending) = split_word(behind_day);
     moment_of(
-        month_of(first_word(month))?,
-        day_of(first_word(day))?,
-        clock_of(first_word(clock))?,
-        ending_of(behind_word(clock))?,
+        month_of(month)?,
+        day_of(day)?,
+        clock_of(clock)?,
+        ending_of(ending)?,
     )
+}
+
+// The first word, and what stands behind it and the blanks after it.
+fn split_word(text: &[u8]) -> (&[u8], &[u8])
+    ensures first { result.0.now ≡ words.first_word text.now }
+    ensures behind { result.1.now ≡ words.behind_word text.now }
+{
+    match blank_at(text) {
+        Some(at) => (&text[..at], without_blanks(&text[at + 1..])),
+        None => (text, &[]),
+    }
 }
 
 #[tactic(auto, unfolding(folder_core::specs::Mbox::is_weekday))]
@@ -170,7 +183,7 @@ fn ending_of(text: &[u8]) -> Option<(u16, i32)>
     if let Some(year) = year_of(text) {
         return Some((year, 0));
     }
-    let (first, last) = (first_word(text), behind_word(text));
+    let (first, last) = split_word(text);
     if let Some(year) = year_of(last)
         && let Some(offset) = zone_of(first)
     {

@@ -1,18 +1,18 @@
 //! The flags that the status fields of a message tell.
 
-ghost use Rattle.std.specs.Prelude.{◌≡◌, [], ◌∷◌, ◌&&◌, ◌||◌, List, ℕ, codes};
+ghost use Rattle.std.specs.Prelude.{◌≡◌, [], ◌∷◌, ◌&&◌, ◌||◌, List, ℕ, codes, not, if◌then◌else◌};
 ghost use Rattle.std.specs.Str.{str_eq_ignore_ascii_case};
 ghost use Rattle.bstr.specs.Text.{lines_of};
 ghost use Rattle.mail_base.specs.Lines.{behind_first, fields_of, header_block};
 ghost use Rattle.folder_core.specs.Mbox as spec;
-ghost use Rattle.mbox_folder.specs.Status.{has, told_by};
+ghost use Rattle.mbox_folder.specs.Status.{has, starts_status, told_by};
 
 use bstr::ByteSlice;
 use mail_base::{Flags, Kind, colon_of, is_continuation, is_empty_line, is_same_name};
 
 // A field, as far as it holds flags.
 #[derive(Clone, Copy)]
-enum StatusField {
+pub(crate) enum StatusField {
     Status,
     XStatus,
     Other,
@@ -34,17 +34,37 @@ impl StatusField {
             StatusField::Other
         }
     }
+
+    // Whether it stays where flags change.
+    fn stays(self) -> bool
+        ensures { result ≡ not (is_status self || is_x_status self) }
+    {
+        match self {
+            StatusField::Other => true,
+            _ => false,
+        }
+    }
+}
+
+// Whether a status field may begin with the line, by its first byte.
+fn may_be_status(line: &[u8]) -> bool
+    ensures { result ≡ starts_status line.now }
+{
+    match line {
+        [] => false,
+        [first, ..] => matches!(*first, b'S' | b's' | b'X' | b'x'),
+    }
 }
 
 // The flags that lines of a header block told, and the field that the next line may continue.
 #[derive(Clone, Copy)]
-struct Told {
+pub(crate) struct Told {
     field: StatusField,
-    flags: Flags,
+    pub(crate) flags: Flags,
 }
 
 impl Told {
-    const NOTHING: Told = Told {
+    pub(crate) const NOTHING: Told = Told {
         field: StatusField::Other,
         flags: Flags {
             seen: false,
@@ -57,17 +77,49 @@ impl Told {
         },
     };
 
-    ghost use Rattle.mbox_folder.specs.Status.{is_status, is_x_status};
+    ghost use Rattle.mbox_folder.specs.Status.{is_status, is_x_status, drops};
 
-    // What is told with a further line of the block.
-    fn with_line(self, line: &[u8]) -> Told
-        ensures { (lines : List (List ℕ)) → told_by result lines ≡ told_by self (line.now ∷ lines) }
+    // What is told with a further line of the block, and whether the line stays where flags change.
+    pub(crate) fn past(self, line: &[u8]) -> (Told, bool)
+        ensures told { (rest : List (List ℕ)) → told_by result.0 rest
+            ≡ told_by self (line.now ∷ rest) }
+        ensures stays { (rest : List (List ℕ)) → spec.without_status (drops self) (line.now ∷ rest)
+            ≡ (if result.1 then line.now ∷ spec.without_status (drops result.0) rest
+            else spec.without_status (drops result.0) rest) }
+    {
+        if self.field.stays() && !may_be_status(line) {
+            return (self, true);
+        }
+        self.past_line(line)
+    }
+
+    // The same by the name that the line may have.
+    fn past_line(self, line: &[u8]) -> (Told, bool)
+        ensures told { (rest : List (List ℕ)) → told_by result.0 rest
+            ≡ told_by self (line.now ∷ rest) }
+        ensures stays { (rest : List (List ℕ)) → spec.without_status (drops self) (line.now ∷ rest)
+            ≡ (if result.1 then line.now ∷ spec.without_status (drops result.0) rest
+            else spec.without_status (drops result.0) rest) }
     {
         match colon_of(line) {
-            Some(at) => self.with_text(StatusField::named(&line[..at]), &line[at + 1..]),
-            None if is_continuation(line) => self.with_text(self.field, line),
-            None => self,
+            Some(at) => self.past_field(StatusField::named(&line[..at]), &line[at + 1..]),
+            None if is_continuation(line) => self.past_field(self.field, line),
+            None => (self, true),
         }
+    }
+
+    // The same with more text of that field.
+    fn past_field(self, field: StatusField, text: &[u8]) -> (Told, bool)
+        ensures field { result.0.field ≡ field }
+        ensures flags { result.0.flags ≡ record self.flags {
+          seen = self.flags.seen || (is_status field && has 82 text.now);
+          aged = self.flags.aged || (is_status field && has 79 text.now);
+          replied = self.flags.replied || (is_x_status field && has 65 text.now);
+          flagged = self.flags.flagged || (is_x_status field && has 70 text.now);
+        } }
+        ensures stays { result.1 ≡ not (is_status field || is_x_status field) }
+    {
+        (self.with_text(field, text), field.stays())
     }
 
     // What is told with more text of that field.
@@ -114,7 +166,7 @@ fn read_block(region: &[u8]) -> Told
         if is_empty_line(line) {
             return told;
         }
-        told = told.with_line(line);
+        told = told.past(line).0;
     }
     told
 }

@@ -9,9 +9,9 @@ returns-in-Some-clause-blank c =
     let behind = c.in-Some.at + 1 in
     let whole : take (length text - behind) (drop behind text) ≡ drop behind text =
     take_all _ _ (omega (arith, length-drop behind text)) in
-    stamp_behind-Some text c.in-Some.at (sym c.blank_at.ensures.value ∙ c.in-Some.is)
+    stamp_behind-Some text c.in-Some.at c.in-Some.ensures
     ∙ ap (λ (rest : List ℕ). first_some (stamp rest) (stamp_behind rest)) (sym whole)
 
 pub returns-in-None-clause-blank : goal.returns-in-None-clause-blank
 returns-in-None-clause-blank c =
-    stamp_behind-None c.args.text.now (sym c.blank_at.ensures.value ∙ c.in-None.is)
+    stamp_behind-None c.args.text.now c.in-None.ensures

@@ -1,29 +1,29 @@
-use Rattle.std.proofs.Common.{ℕ, List, ◌++◌, ap, sym, ◌∙◌}
-use Rattle.folder_core.specs.declared.region.Region.{Region}
-use Rattle.folder_core.specs.Mbox.{messages, spans}
-use Rattle.folder_core.proofs.Messages.{Cover-same, length-lines}
-use Rattle.mbox_folder.proofs.RegionsLemmas.{opened, opened-regions}
+use Rattle.std.proofs.Common.{◌<◌, ◌∙◌, length, sym, ap, arith}
+use Rattle.std.proofs.lemmas.Bool.{eqb-true}
+use Rattle.std.proofs.lemmas.Bool.Decides.{nat_tests}
+use Rattle.folder_core.specs.Mbox.{is_postmark}
+use Rattle.folder_core.proofs.Messages.{Cover-same}
+use Rattle.mbox_folder.proofs.RegionsLemmas.{begins_empty, begins_first, regions_empty}
 use Rattle.mbox_folder.proofs.regions.cut_regions.Goals as goal
 
-pub returns-in_default-clause-cover : goal.returns-in_default-clause-cover
-returns-in_default-clause-cover c =
-    Cover-same c.args.bytes.now _
-    (c.new-regions.ensures
-    ∙ ap (λ l. spans 0 (messages l)) (sym c.in_default.ensures.steps.0 ∙ c.lines_with_terminator-lines.ensures.value))
+pub returns-then-is_empty-clause-cut : goal.returns-then-is_empty-clause-cut
+returns-then-is_empty-clause-cut c =
+    c.new.ensures ∙ sym (regions_empty c.args.bytes.now (eqb-true _ _ (sym c.if-is_empty.ensures)))
 
-pub loop-line-init : goal.loop-line-init
-loop-line-init c =
-    let first = sym c.lines_with_terminator-lines.ensures.value ∙ c.in-Some.ensures.steps in
-    let made = c.into_iter-line-iterator.ensures.into_iter_gives in
-    record {
-      cut = rw (c.new-regions.ensures, made, c.is_empty_line-behind_empty.ensures) (opened-regions _ _ _ first);
-      whole = rw made (length-lines _ _ _ first);
-    }
+pub returns-then-is_empty-clause-cover : goal.returns-then-is_empty-clause-cover
+returns-then-is_empty-clause-cover c =
+    Cover-same c.args.bytes.now _
+    (c.new.ensures ∙ sym (regions_empty c.args.bytes.now (eqb-true _ _ (sym c.if-is_empty.ensures))))
+
+pub returns-then-is_empty-clause-mailbox : goal.returns-then-is_empty-clause-mailbox
+returns-then-is_empty-clause-mailbox c =
+    λ ok. begins_empty c.args.bytes.now (eqb-true _ _ (sym c.if-is_empty.ensures))
+
+pub returns-then-not-is_postmark-clause-not_mailbox : goal.returns-then-not-is_postmark-clause-not_mailbox
+returns-then-not-is_postmark-clause-not_mailbox c = λ err.
+    let some : 0 < length c.args.bytes.now = grind (arith, nat_tests) in
+    begins_first c.args.bytes.now some ∙ ap is_postmark (sym c.first_line.ensures.value)
+    ∙ sym c.if-not-is_postmark.ensures
 
 pub returns-clause-cover : goal.returns-clause-cover
-returns-clause-cover c =
-    let at = c.loop-line in
-    let left : List (List ℕ) → List Region =
-    λ l. at.regions.items ++ opened at.start at.at at.behind_empty l in
-    Cover-same c.args.bytes.now _
-    (c.in_ok-push-2.ensures.ok ∙ ap left (sym c.in-None.ensures.steps.0) ∙ c.loop-line.invariant.cut)
+returns-clause-cover c = Cover-same c.args.bytes.now _ c.in_ok-regions_of.ensures
