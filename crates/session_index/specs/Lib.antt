@@ -14,3 +14,4 @@ pub mod Desk
 pub mod Effects
 pub mod Answering
 pub mod Typing
+pub mod Opening

@@ -14,6 +14,7 @@ mod message;
 mod motion;
 mod neighbours;
 mod notice;
+mod opening;
 mod performing;
 mod places;
 mod rule;

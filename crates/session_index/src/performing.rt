@@ -32,8 +32,8 @@ impl Desk {
     ghost use Rattle.session_index.specs.declared.effect.Effect.TheVariants.{Resolve};
     ghost use Rattle.session_index.specs.declared.rule.Rule.{Rule};
 
-    // Sets the last line.
-    pub(crate) fn say(&mut self, notice: Notice)
+    /// Sets the last line.
+    pub fn say(&mut self, notice: Notice)
         ensures desk { plain_desk self.new ≡ spec.said notice (plain_desk self.old) }
         ensures view { self.new.view ≡ self.old.view }
     {
