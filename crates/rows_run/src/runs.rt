@@ -82,7 +82,8 @@ fn clock_of(alloc: Global, case: &Case) -> Result<LateClock, CaseFault> {
 #[derive(Drop)]
 struct End {
     status: u8,
-    trace: Trace,
+    archive: Archive,
+    events: Events,
 }
 
 fn end_of_run(
@@ -119,16 +120,22 @@ fn end_of_run(
         &mut streams.clock,
         &mut trace,
     );
+    let Trace {
+        archive,
+        events,
+        ..
+    } = trace;
     Ok(End {
         status: status.number(),
-        trace,
+        archive,
+        events,
     })
 }
 
 fn put_end(answer: &mut Answer, end: &End, streams: &Streams) -> Result<(), CaseFault> {
     answer.put_count(b"status", usize::from(end.status))?;
-    answer.put_count(b"letters", end.trace.archive.len())?;
-    for event in end.trace.events.as_slice() {
+    answer.put_count(b"letters", end.archive.len())?;
+    for event in end.events.as_slice() {
         if let Event::Pressed { moment, .. } = event {
             answer.put_number(b"pressed", *moment)?;
         }
