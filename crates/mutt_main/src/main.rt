@@ -13,7 +13,7 @@ use mh_folder::MhDriver;
 use mutt_run::{Status, run};
 use people::{RegexBuild, Verdicts};
 use real_disk::RealDisk;
-use session::{Events, Trace};
+use session_events::{Events, Trace};
 use std::io;
 use std::process::ExitCode;
 

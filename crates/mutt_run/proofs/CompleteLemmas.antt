@@ -12,16 +12,18 @@ use Rattle.folder_core.specs.declared.error.ScanError.TheVariants.{ArchiveFull, 
 use Rattle.folder_core.specs.declared.error.ScanError.TheVariants.{NoMemory as NoRoom}
 use Rattle.mutt_words.specs.Options.{PlainOptions}
 use Rattle.session.specs.Beginning.{IsStated}
-use Rattle.session.specs.Events.{AreFiles, Happening, FileRead, FileRefused, KeyPressed}
-use Rattle.session.specs.Events.{FolderOpened, FolderRefused}
+use Rattle.session_events.specs.Events.{AreFiles, Happening, FileRead, FileRefused, KeyPressed}
+use Rattle.session_events.specs.Events.{FolderOpened, FolderRefused}
 use Rattle.session.specs.Given.{Given}
-use Rattle.session.specs.Happened.{AllCounted, AllHappened, Counts, IsCause, WasNotListed}
-use Rattle.session.specs.Happened.{WasRefused, counts_after, counts_of, kind_in, past_at}
+use Rattle.session_events.specs.Happened.{AllCounted, Counts, IsCause, WasNotListed}
+use Rattle.session.specs.Telling.{AllHappened}
+use Rattle.session_events.specs.Happened.{WasRefused, counts_after, counts_of, past_at}
+use Rattle.session.specs.Telling.{kind_in}
 use Rattle.session.specs.Runs.{State, after}
 use Rattle.session.specs.Telling.{IsTold}
-use Rattle.session.specs.declared.event.Marks.{Marks}
-use Rattle.session.specs.declared.event.OpenFault.{OpenFault}
-use Rattle.session.specs.declared.event.OpenFault.TheVariants.{Taken, NoDriver, Folder}
+use Rattle.session_events.specs.declared.event.Marks.{Marks}
+use Rattle.session_events.specs.declared.event.OpenFault.{OpenFault}
+use Rattle.session_events.specs.declared.event.OpenFault.TheVariants.{Taken, NoDriver, Folder}
 use Rattle.mutt_run.specs.Choice.{first_of}
 use Rattle.mutt_run.specs.Complete.{IsPlainEnd, IsReadable, NamesReadable, WereReadable}
 use Rattle.mutt_run.specs.Ending.{EndsAs, IsChosen, IsRefused}

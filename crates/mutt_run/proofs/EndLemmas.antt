@@ -10,7 +10,7 @@ use Rattle.mail_base.specs.declared.kind.Kind.{Kind}
 use Rattle.disk_model.specs.Journal.{Past}
 use Rattle.disk_model.specs.Looking.{LooksOnly}
 use Rattle.mutt_words.specs.Options.{PlainOptions}
-use Rattle.session.specs.Events.{Happening}
+use Rattle.session_events.specs.Events.{Happening}
 use Rattle.session.specs.Given.{Given}
 use Rattle.session.specs.Telling.{IsTold}
 use Rattle.mutt_run.specs.Choice.{acted_on, first_by}

@@ -9,16 +9,17 @@ use Rattle.keymap.specs.Reader.{PlainReader, most_bytes, Begins, Gives as GivesK
 use Rattle.keymap.specs.Stream.{first_key, is_open, keys_of}
 use Rattle.keymap.specs.declared.key.Key.{Key}
 use Rattle.keymap.specs.declared.key_reader.KeyFault.{KeyFault}
-use Rattle.session.specs.Events.{Happening, FileRead, FileRefused, KeyPressed, FolderOpened}
-use Rattle.session.specs.Events.{FolderRefused}
+use Rattle.session_events.specs.Events.{Happening, FileRead, FileRefused, KeyPressed, FolderOpened}
+use Rattle.session_events.specs.Events.{FolderRefused}
 use Rattle.mail_base.specs.declared.kind.Kind.{Kind}
 use Rattle.disk_model.specs.Seen.{Seen}
 use Rattle.session.specs.Given.{Given}
 use Rattle.session.specs.Runs.{State}
 use Rattle.session.specs.Telling.{Witnessed}
-use Rattle.session_state.specs.declared.desk.Stage.{Stage}
-use Rattle.session_state.specs.declared.desk.Stage.TheVariants.{Idle, Over}
-use Rattle.mutt_run.specs.Going.{AreKeys, GoesToEnd, Presses}
+use Rattle.session_state.specs.declared.stage.Stage.{Stage}
+use Rattle.session_state.specs.declared.stage.Stage.TheVariants.{Idle, Over}
+use Rattle.mail_base.specs.Faults.{Rose}
+use Rattle.mutt_run.specs.Going.{AreKeys, CountsFaults, GoesToEnd, Presses}
 use Rattle.mutt_run.specs.declared.status.Status.{Status}
 use Rattle.mutt_run.specs.declared.status.Status.TheVariants.{Done, KeysFault, OutFault}
 use Rattle.mutt_run.specs.declared.status.Status.TheVariants.{NoMemory}
@@ -328,3 +329,22 @@ pub told_same : {Has : Kind → Type 0} {given : Given} {first : State}
     → Witnessed Has given first events before seen → Witnessed Has given first same before seen
 told_same {Has} {given} {first} {events} {same} {before} {seen} is h =
     subst (λ (l : List Happening). Witnessed Has given first l before seen) (sym is) h
+
+-- Faults.
+
+rose_before : (out mid next : ℕ) → out ≤ mid → Rose mid next → Rose out next
+rose_before out mid next before rose =
+    elim rose [ inl h ↦ inl (omega (arith, before, h)) | inr h ↦ inr h ]
+
+not_keys : (status : Status) → (status ≡ OutFault) ⊎ (status ≡ NoMemory) → status ≡ KeysFault → ⊥
+not_keys status which is = elim which [ inl h ↦ absurd (cc) | inr h ↦ absurd (cc) ]
+
+-- a fault of a screen is answered where it was counted
+pub counts_turned : (status : Status) (keys keys' out mid next : ℕ)
+    → (status ≡ OutFault) ⊎ (status ≡ NoMemory) → (status ≡ OutFault → Rose mid next)
+    → out ≤ mid → mid ≤ next → CountsFaults status keys keys' out next
+counts_turned status keys keys' out mid next which cause before after = record {
+  keys = λ is. absurd (not_keys status which is);
+  out = λ is. rose_before out mid next before (cause is);
+  later = omega (arith, before, after);
+}

@@ -16,17 +16,17 @@ use Rattle.keymap.specs.declared.key.Key.{Key}
 use Rattle.mutt_words.specs.Options.{PlainOptions}
 use Rattle.session.specs.Beginning.{BeginsRun, Fails, IsStated, Starts}
 use Rattle.session.specs.Beginning.{IsRefused as IsRefusedAs}
-use Rattle.session.specs.Events.{Happening, FolderOpened, FolderRefused}
+use Rattle.session_events.specs.Events.{Happening, FolderOpened, FolderRefused}
 use Rattle.session.specs.Given.{Given}
 use Rattle.session.specs.Runs.{IsRunFrom, State, after_events}
 use Rattle.session.specs.Steps.{Waits}
 use Rattle.session.specs.Telling.{Witnessed}
-use Rattle.session.specs.declared.event.OpenFault.{OpenFault}
-use Rattle.session.specs.declared.event.OpenFault.TheVariants.{Folder}
+use Rattle.session_events.specs.declared.event.OpenFault.{OpenFault}
+use Rattle.session_events.specs.declared.event.OpenFault.TheVariants.{Folder}
 use Rattle.session.specs.Starting.{PlainSetup, first_state}
 use Rattle.session.specs.declared.setup.StartError.{StartError}
 use Rattle.session.specs.declared.setup.StartError.TheVariants as error
-use Rattle.session_state.specs.declared.desk.Stage.TheVariants.{Over}
+use Rattle.session_state.specs.declared.stage.Stage.TheVariants.{Over}
 use Rattle.mutt_run.specs.Choice.{Task, ReadFolder, first_of, setup_of, task_of}
 use Rattle.mutt_run.specs.Ending.{EndsAs, EndsDone, EndsShown, IsNoUsage, IsOpened, IsRefused}
 use Rattle.mutt_run.specs.Going.{AreKeys, Breaks, Ended, EndsKeys, Goes, GoesToEnd}

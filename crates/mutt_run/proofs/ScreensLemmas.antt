@@ -9,18 +9,16 @@ use Rattle.std.specs.List.{concat}
 use Rattle.mail_base.specs.Streams.{Sent}
 use Rattle.mail_base.proofs.Sending.{appends_then}
 use Rattle.folder_core.specs.Letters.{Mail}
-use Rattle.folder_core.specs.declared.listing.Listed.{Listed}
 use Rattle.keymap.specs.declared.key.Key.{Key}
-use Rattle.session.specs.Events.{Happening, KeyPressed}
+use Rattle.session_events.specs.Events.{Happening, KeyPressed}
 use Rattle.session.specs.Given.{Given}
-use Rattle.session.specs.Runs.{State, after_events, screens_from, shown, stage_screens, typed}
+use Rattle.session.specs.Runs.{State, after_events, screen_in, screens_from, shown}
+use Rattle.session.specs.Runs.{stage_screens, typed}
 use Rattle.session.specs.Steps.{IsTaken, Stands, Waits}
 use Rattle.session.proofs.StepsLemmas.{stands_pressed}
-use Rattle.session_state.specs.Screen.{screen}
-use Rattle.session_state.specs.declared.desk.Desk.{Desk}
-use Rattle.session_state.specs.declared.desk.Stage.{Stage}
-use Rattle.session_state.specs.declared.desk.Stage.TheVariants.{Unopened, Pushing, Idle, Ready}
-use Rattle.session_state.specs.declared.desk.Stage.TheVariants.{Over}
+use Rattle.session_state.specs.declared.stage.Stage.{Stage}
+use Rattle.session_state.specs.declared.stage.Stage.TheVariants.{Unopened, Pushing, Idle, Ready}
+use Rattle.session_state.specs.declared.stage.Stage.TheVariants.{Over}
 use Rattle.mutt_run.specs.Going.{Breaks, Ended, Goes}
 use Rattle.mutt_run.specs.Printed.{last_length}
 use Rattle.mutt_run.specs.Screens.{screen_text}
@@ -51,19 +49,18 @@ pub idle_not_over : Idle ≡ Over → ⊥
 idle_not_over is = subst IsIdle is tt
 
 -- The letters of a screen are those that are given.
-module _ (given : Given) (mails : List Mail) (listing : List Listed) (desk : Desk)
-    (old new : Option (List ℕ)) (same : given.mails ≡ mails) where
-  pub shown_given : Appends old new (screen_text (screen mails listing desk))
-      → Appends old new (screen_text (screen given.mails listing desk))
+module _ (given : Given) (mails : List Mail) (s : State) (old new : Option (List ℕ)) (same : given.mails ≡ mails) where
+  pub shown_given : Appends old new (screen_text (screen_in mails s))
+      → Appends old new (screen_text (screen_in given.mails s))
   shown_given more =
-      subst (λ (a : List Mail). Appends old new (screen_text (screen a listing desk)))
+      subst (λ (a : List Mail). Appends old new (screen_text (screen_in a s)))
       (sym same) more
 
-  pub cut_given : (rest : List ℕ) × Sent old new (screen_text (screen mails listing desk)) rest
-      → (rest : List ℕ) × Sent old new (screen_text (screen given.mails listing desk)) rest
+  pub cut_given : (rest : List ℕ) × Sent old new (screen_text (screen_in mails s)) rest
+      → (rest : List ℕ) × Sent old new (screen_text (screen_in given.mails s)) rest
   cut_given cut =
       subst (λ (a : List Mail). (rest : List ℕ)
-      × Sent old new (screen_text (screen a listing desk)) rest) (sym same) cut
+      × Sent old new (screen_text (screen_in a s)) rest) (sym same) cut
 
 module _ (given : Given) (first s : State) (events : List Happening)
     (screens : List (List (List ℕ))) (stands : Stands given first events s
@@ -105,7 +102,7 @@ module _ (given : Given) (first s : State) (events : List Happening)
     short_by Ready is = omega arith
     short_by Over is = omega arith
     short_by Idle is =
-        let here : List (List ℕ) = screen given.mails s.listing s.turn.core.desk in
+        let here : List (List ℕ) = screen_in given.mails s in
         omega (
           arith,
           ap (λ (l : List (List (List ℕ))). last_length (texts l)) (all_are Idle is)
@@ -134,16 +131,16 @@ module _ (given : Given) (first s : State) (events : List Happening)
     -- the screen was printed, whole or not
     module _ (new : Option (List ℕ)) (idle : s.turn.stage ≡ Idle) where
       here : List ℕ
-      here = screen_text (screen given.mails s.listing s.turn.core.desk)
+      here = screen_text (screen_in given.mails s)
 
       all_here : concat (texts (screens_from given first events)) ≡ concat (texts screens) ++ here
       unfolding here
       all_here =
           ap (λ (l : List (List (List ℕ))). concat (texts l)) (all_are Idle idle)
-          ∙ texts-append screens (screen given.mails s.listing s.turn.core.desk ∷ [])
+          ∙ texts-append screens (screen_in given.mails s ∷ [])
           ∙ ap (λ (l : List ℕ). concat (texts screens) ++ l) (append-nil here)
 
-      pub goes_shown : Appends mid new (screen_text (screen given.mails s.listing s.turn.core.desk))
+      pub goes_shown : Appends mid new (screen_text (screen_in given.mails s))
           → Goes given first events s old new
       unfolding here
       goes_shown more = record {
@@ -156,7 +153,7 @@ module _ (given : Given) (first s : State) (events : List Happening)
       }
 
       pub breaks_cut : (rest : List ℕ)
-          × Sent mid new (screen_text (screen given.mails s.listing s.turn.core.desk)) rest
+          × Sent mid new (screen_text (screen_in given.mails s)) rest
           → Breaks given first events old new
       unfolding here
       breaks_cut cut = record {
@@ -174,7 +171,7 @@ module _ (given : Given) (first s : State) (events : List Happening)
             ap (λ (l : List (List (List ℕ))). last_length (texts l)) (all_are Idle idle)
                 ∙ ap last_length
                 (map-append screen_text screens
-                (screen given.mails s.listing s.turn.core.desk ∷ []))
+                (screen_in given.mails s ∷ []))
                 ∙ last-append (texts screens) here,
             ap length cut.1.1,
             length-append cut.1.0 cut.0,
@@ -197,7 +194,7 @@ module _ (given : Given) (first old taken_as : State) (events events' : List Hap
       → Breaks given first events' start mid
   turned_off key moment put =
       subst (λ (l : List Happening). Breaks given first l start mid) (sym put)
-      (breaks_unshown given first (typed given key taken_as)
+      (breaks_unshown given first (typed given key moment taken_as)
       (events ++ KeyPressed key moment ∷ []) goes.screens
       (stands_pressed given first taken_as events key moment goes.screens is_taken) start mid
       goes.sent)
@@ -213,18 +210,17 @@ module _ (given : Given) (first old taken_as : State) (events events' : List Hap
 
     module _ {mails : List Mail} (same : given.mails ≡ mails) (out : Option (List ℕ))
         (idle : new.turn.stage ≡ Idle) where
-      pub turned_shown : Appends mid out (screen_text (screen mails new.listing
-          new.turn.core.desk)) → Goes given first events' new start out
+      pub turned_shown : Appends mid out (screen_text (screen_in mails new)) → Goes given first events' new start out
       turned_shown more =
           goes_shown given first new events' goes.screens stood start mid goes.sent out idle
-          (shown_given given mails new.listing new.turn.core.desk mid out same more)
+          (shown_given given mails new mid out same more)
 
       pub turned_cut : (rest : List ℕ)
-          × Sent mid out (screen_text (screen mails new.listing new.turn.core.desk)) rest
+          × Sent mid out (screen_text (screen_in mails new)) rest
           → Breaks given first events' start out
       turned_cut cut =
           breaks_cut given first new events' goes.screens stood start mid goes.sent out idle
-          (cut_given given mails new.listing new.turn.core.desk mid out same cut)
+          (cut_given given mails new mid out same cut)
 
 -- the keys that commands have put act
 pub waits_stand : (given : Given) (first s t : State) (events : List Happening)

@@ -9,15 +9,15 @@ use Rattle.mail_base.specs.Streams.{Sent}
 use Rattle.mail_base.proofs.Sending.{sent_none}
 use Rattle.mutt_words.specs.Options.{PlainOptions}
 use Rattle.session.specs.Beginning.{AnswersNames, BeginsRun}
-use Rattle.session.specs.Events.{Happening}
+use Rattle.session_events.specs.Events.{Happening}
 use Rattle.session.specs.Given.{Given}
 use Rattle.session.specs.Runs.{after_events}
 use Rattle.session.specs.Starting.{PlainSetup, first_state}
 use Rattle.session.specs.Steps.{SourcesOff}
 use Rattle.session.specs.Telling.{Driverless}
-use Rattle.session_state.specs.declared.desk.Stage.{Stage}
-use Rattle.session_state.specs.declared.desk.Stage.TheVariants.{Unopened, Pushing, Idle, Ready}
-use Rattle.session_state.specs.declared.desk.Stage.TheVariants.{Over}
+use Rattle.session_state.specs.declared.stage.Stage.{Stage}
+use Rattle.session_state.specs.declared.stage.Stage.TheVariants.{Unopened, Pushing, Idle, Ready}
+use Rattle.session_state.specs.declared.stage.Stage.TheVariants.{Over}
 use Rattle.mutt_run.specs.Choice.{Task, TellValues, first_of, setup_of, task_of}
 use Rattle.mutt_run.specs.Ending.{EndsAs, EndsDone, IsNoUsage}
 use Rattle.mutt_run.specs.Printed.{Prints, PrintsBut, pieces, values_text}

@@ -9,17 +9,20 @@ use Rattle.mail_base.specs.Series.{Held, plain_texts}
 use Rattle.mail_base.specs.declared.kind.Kind.{Kind}
 use Rattle.mail_base.proofs.Sending.{appends_none, sent_none}
 use Rattle.disk_model.specs.Seen.{Seen}
+use Rattle.mail_base.specs.Zone.{IsOffset}
+use Rattle.std.proofs.Common.{FitsSigned, w32}
+use Rattle.std.proofs.lemmas.Int.{ints as signed_arith}
 use Rattle.mutt_words.specs.Options.{PlainOptions, plain_options, plain_text}
 use Rattle.mutt_words.specs.declared.options.Options.{Options}
-use Rattle.session.specs.Events.{AreFiles, Happening}
+use Rattle.session_events.specs.Events.{AreFiles, Happening}
 use Rattle.session.specs.Given.{Given}
 use Rattle.session.specs.Runs.{State}
 use Rattle.session.specs.Starting.{PlainSetup}
 use Rattle.session.specs.Telling.{Driverless, Witnessed}
 use Rattle.session.proofs.TellingLemmas.{witnessed_files, witnessed_none}
-use Rattle.session_state.specs.declared.desk.Stage.{Stage}
-use Rattle.session_state.specs.declared.desk.Stage.TheVariants.{Unopened, Pushing, Idle, Ready}
-use Rattle.session_state.specs.declared.desk.Stage.TheVariants.{Over}
+use Rattle.session_state.specs.declared.stage.Stage.{Stage}
+use Rattle.session_state.specs.declared.stage.Stage.TheVariants.{Unopened, Pushing, Idle, Ready}
+use Rattle.session_state.specs.declared.stage.Stage.TheVariants.{Over}
 use Rattle.mutt_run.specs.Choice.{Task, ReadFolder, TellValues, TellVersion, acted_on, first_by}
 use Rattle.mutt_run.specs.Choice.{query_task, setup_of, task_by, task_of}
 use Rattle.mutt_run.specs.Ending.{EndsAs, EndsDone, IsChosen}
@@ -43,9 +46,13 @@ setup_with o path rc = record {
   rc = rc;
   commands = plain_texts o.commands;
   kind = o.kind;
-  rows = o.rows;
-  cols = o.cols;
+  read_only = o.read_only;
+  window = record { rows = o.rows; cols = o.cols; offset = o.offset };
 }
+
+-- an offset of less than a day has room in 32 bits
+pub offset_fits : (offset : ℤ) → IsOffset offset → FitsSigned w32 offset
+offset_fits offset is = omega (arith, signed_arith, is.0, is.1)
 
 abbrev text_in : Option (Held ℕ) → Option (List ℕ)
 text_in text = option_map (λ (t : Held ℕ). t.items) text

@@ -3,7 +3,7 @@ use Rattle.std.specs.Prelude.{List, [], ◌∷◌, ℕ, Result, if◌then◌else
 use Rattle.std.specs.Result.{result_unwrap_or}
 use Rattle.mutt_words.specs.Options.{PlainOptions, no_words}
 use Rattle.mutt_words.specs.Words.{options_of}
-use Rattle.session.specs.Events.{Happening}
+use Rattle.session_events.specs.Events.{Happening}
 use Rattle.session.specs.Given.{Given}
 use Rattle.session.specs.Runs.{State, after_events}
 use Rattle.session.specs.Starting.{PlainSetup, first_state}
@@ -22,8 +22,8 @@ setup_of o = record {
   rc = o.rc;
   commands = o.commands;
   kind = o.kind;
-  rows = o.rows;
-  cols = o.cols;
+  read_only = o.read_only;
+  window = record { rows = o.rows; cols = o.cols; offset = o.offset };
 }
 
 -- the state of a run in which nothing has happened

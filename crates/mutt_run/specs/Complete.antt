@@ -6,13 +6,14 @@ use Rattle.folder_core.specs.declared.error.ScanError.{ScanError}
 use Rattle.folder_core.specs.Kinds.{IsKindSeen, WasKind}
 use Rattle.mutt_words.specs.Options.{PlainOptions}
 use Rattle.session.specs.Beginning.{IsStated}
-use Rattle.session.specs.Events.{Happening, FileRead, FileRefused, KeyPressed, FolderOpened}
-use Rattle.session.specs.Events.{FolderRefused}
+use Rattle.session_events.specs.Events.{Happening, FileRead, FileRefused, KeyPressed, FolderOpened}
+use Rattle.session_events.specs.Events.{FolderRefused}
 use Rattle.session.specs.Given.{Given}
-use Rattle.session.specs.Happened.{WasNotListed, kind_in, past_at}
+use Rattle.session_events.specs.Happened.{WasNotListed, past_at}
+use Rattle.session.specs.Telling.{kind_in}
 use Rattle.session.specs.Runs.{State, after}
-use Rattle.session.specs.declared.event.Marks.{Marks}
-use Rattle.session.specs.declared.event.OpenFault.TheVariants.{Folder}
+use Rattle.session_events.specs.declared.event.Marks.{Marks}
+use Rattle.session_events.specs.declared.event.OpenFault.TheVariants.{Folder}
 use Rattle.mutt_run.specs.Choice.{first_of}
 use Rattle.mutt_run.specs.declared.status.Status.{Status}
 use Rattle.mutt_run.specs.declared.status.Status.TheVariants.{Done, Usage, NotOpened, DiskFault}

@@ -8,14 +8,14 @@ use Rattle.folder_core.specs.declared.listing.Listed.{Listed}
 use Rattle.keymap.specs.Reader.{PlainReader}
 use Rattle.mutt_words.specs.Options.{PlainOptions}
 use Rattle.session.specs.Beginning.{IsStated}
-use Rattle.session.specs.Events.{AreFiles, Happening, FolderOpened}
-use Rattle.session.specs.Events.{FolderRefused}
+use Rattle.session_events.specs.Events.{AreFiles, Happening, FolderOpened}
+use Rattle.session_events.specs.Events.{FolderRefused}
 use Rattle.session.specs.Given.{Given}
-use Rattle.session.specs.Happened.{IsListed}
+use Rattle.session_events.specs.Happened.{IsListed}
 use Rattle.session.specs.Runs.{after_events}
-use Rattle.session.specs.declared.event.Marks.{Marks}
-use Rattle.session.specs.declared.event.OpenFault.{OpenFault}
-use Rattle.session.specs.declared.event.OpenFault.TheVariants.{Folder}
+use Rattle.session_events.specs.declared.event.Marks.{Marks}
+use Rattle.session_events.specs.declared.event.OpenFault.{OpenFault}
+use Rattle.session_events.specs.declared.event.OpenFault.TheVariants.{Folder}
 use Rattle.mutt_run.specs.Choice.{Task, TellVersion, TellValues, ReadFolder, first_of, task_of}
 use Rattle.mutt_run.specs.Going.{AreKeys, EndsKeys}
 use Rattle.mutt_run.specs.Taken.{TakesKeys, pressed_keys}

@@ -7,15 +7,15 @@ use Rattle.mail_base.specs.Faults.{Rose}
 use Rattle.mail_base.specs.Streams.{Sent}
 use Rattle.keymap.specs.Reader.{PlainReader, most_bytes}
 use Rattle.keymap.specs.Stream.{is_open}
-use Rattle.session.specs.Events.{Happening, FileRead, FileRefused, KeyPressed, FolderOpened}
-use Rattle.session.specs.Events.{FolderRefused}
+use Rattle.session_events.specs.Events.{Happening, FileRead, FileRefused, KeyPressed, FolderOpened}
+use Rattle.session_events.specs.Events.{FolderRefused}
 use Rattle.session.specs.Given.{Given}
 use Rattle.session.specs.Runs.{IsRunFrom, State, after_events, screens_from}
 use Rattle.session.specs.Steps.{Stands}
 use Rattle.session.specs.declared.setup.Next.{Next}
 use Rattle.session.specs.declared.setup.Next.TheVariants.{Go, Quit}
-use Rattle.session_state.specs.declared.desk.Stage.{Stage}
-use Rattle.session_state.specs.declared.desk.Stage.TheVariants.{Idle, Over}
+use Rattle.session_state.specs.declared.stage.Stage.{Stage}
+use Rattle.session_state.specs.declared.stage.Stage.TheVariants.{Idle, Over}
 use Rattle.mutt_run.specs.Printed.{PrintsBut}
 use Rattle.mutt_run.specs.Screens.{screen_text}
 use Rattle.mutt_run.specs.Taken.{Gives, TakesKeys, pressed_keys, pressed_moments}

@@ -5,7 +5,7 @@ use Rattle.std.specs.List.{concat}
 use Rattle.mail_base.specs.Faults.{Rose}
 use Rattle.mail_base.specs.Streams.{Sent}
 use Rattle.mutt_words.specs.Options.{PlainOptions}
-use Rattle.session.specs.Events.{Happening}
+use Rattle.session_events.specs.Events.{Happening}
 use Rattle.session.specs.Given.{Given}
 use Rattle.session.specs.Runs.{State, after_events, screens_from}
 use Rattle.session_state.specs.Rules.{answer_line}

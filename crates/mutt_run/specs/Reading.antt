@@ -8,11 +8,11 @@ use Rattle.mail_base.specs.declared.kind.Kind.{Kind}
 use Rattle.disk_model.specs.Seen.{Seen}
 use Rattle.keymap.specs.Reader.{PlainReader}
 use Rattle.mutt_words.specs.Options.{PlainOptions}
-use Rattle.session.specs.Events.{Happening}
+use Rattle.session_events.specs.Events.{Happening}
 use Rattle.session.specs.Given.{Given}
 use Rattle.session.specs.Runs.{IsRunFrom}
 use Rattle.session.specs.Telling.{Witnessed}
-use Rattle.session_state.specs.declared.desk.Stage.TheVariants.{Over}
+use Rattle.session_state.specs.declared.stage.Stage.TheVariants.{Over}
 use Rattle.mutt_run.specs.Choice.{acted_on, first_by, state_by}
 use Rattle.mutt_run.specs.Ending.{AllListed, EndsAs, IsChosen}
 use Rattle.mutt_run.specs.Printed.{Prints, PrintsBut, pieces_by}

@@ -6,8 +6,8 @@ use Rattle.folder_core.specs.Moments.{in_clock_range}
 use Rattle.keymap.specs.Reader.{PlainReader, most_bytes}
 use Rattle.keymap.specs.Stream.{keys_of}
 use Rattle.keymap.specs.declared.key.Key.{Key}
-use Rattle.session.specs.Events.{Happening, FileRead, FileRefused, KeyPressed, FolderOpened}
-use Rattle.session.specs.Events.{FolderRefused}
+use Rattle.session_events.specs.Events.{Happening, FileRead, FileRefused, KeyPressed, FolderOpened}
+use Rattle.session_events.specs.Events.{FolderRefused}
 
 -- the keys that were pressed
 abbrev pub pressed_keys : List Happening → List Key

@@ -6,7 +6,7 @@ ghost use Rattle.mutt_run.specs.Notes as spec;
 use crate::status::Status;
 use folder_core::ScanError;
 use mail_base::{Bytes, NoMemory};
-use session::OpenFault;
+use session_events::OpenFault;
 use std::alloc::Global;
 
 /// What the end of a run tells.

@@ -9,11 +9,12 @@ ghost use Rattle.disk_model.specs.Looking.{LooksOnly};
 ghost use Rattle.folder_core.specs.Letters.{plain_letter};
 ghost use Rattle.mutt_words.specs.Options.{IsUsable, plain_options};
 ghost use Rattle.mutt_words.specs.Words.{options_of};
-ghost use Rattle.session.specs.Events.{plain_events};
+ghost use Rattle.session_events.specs.Events.{plain_events};
+ghost use Rattle.session.specs.Core.{IsMoment};
 ghost use Rattle.session.specs.Given.{given_of};
 ghost use Rattle.session.specs.Runs.{IsRunFrom};
 ghost use Rattle.session.specs.Telling.{Witnessed};
-ghost use Rattle.session_state.specs.declared.desk.Stage.TheVariants.{Over};
+ghost use Rattle.session_state.specs.declared.stage.Stage.TheVariants.{Over};
 ghost use Rattle.mutt_run.specs.Choice.{chosen, first_by, state_by};
 ghost use Rattle.mutt_run.specs.Complete.{IsPlainEnd, NamesReadable};
 ghost use Rattle.mutt_run.specs.Ending.{AllListed, EndsAs, IsChosen};
@@ -32,7 +33,8 @@ use disk_model::Device;
 use folder_core::Drivers;
 use mail_base::{Bytes, Clock, Sink, Source, Words};
 use mutt_words::{Options, WordsError, read_words};
-use session::{Event, Setup, Trace};
+use session::Setup;
+use session_events::{Event, Trace};
 use std::alloc::Global;
 
 /// Runs the reader on the words of a command line.
@@ -154,6 +156,7 @@ fn obey_words<K: Source, O: Sink, E: Sink, C: Clock>(
     requires archive { trace.old.archive.items ≡ [] }
     requires events { trace.old.events.items ≡ [] }
     requires notes { trace.old.notes.items ≡ [] }
+    requires moment { IsMoment moment }
     ensures reads { Reads (options_of (plain_texts words.now)) moment
         (λ kind. Any (λ d. sort (d.vtable, d.value) ≡ kind) drivers.now.list.items)
         (given_of (map plain_letter trace.new.archive.items) trace.new.verdicts.kept)
@@ -193,6 +196,7 @@ fn obey<K: Source, O: Sink, E: Sink, C: Clock>(
     requires events { trace.old.events.items ≡ [] }
     requires notes { trace.old.notes.items ≡ [] }
     requires usable { IsUsable options }
+    requires moment { IsMoment moment }
     ensures reads { Reads (Ok (plain_options options)) moment
         (λ kind. Any (λ d. sort (d.vtable, d.value) ≡ kind) drivers.now.list.items)
         (given_of (map plain_letter trace.new.archive.items) trace.new.verdicts.kept)

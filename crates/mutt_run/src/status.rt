@@ -3,7 +3,7 @@
 ghost use Rattle.std.specs.Prelude.{◌≡◌};
 
 use mail_base::Bytes;
-use session::OpenFault;
+use session_events::OpenFault;
 
 /// How a run ended.
 #[derive(Drop)]

@@ -6,7 +6,9 @@ ghost use Rattle.disk_model.specs.Seen.{Seen};
 ghost use Rattle.folder_core.specs.Letters.{plain_letter};
 ghost use Rattle.mutt_words.specs.Options.{PlainOptions};
 ghost use Rattle.session.specs.Beginning.{Starts};
-ghost use Rattle.session.specs.Events.{AreFiles, plain_events};
+ghost use Rattle.session_events.specs.Events.{AreFiles, plain_events};
+ghost use Rattle.session.specs.Core.{IsMoment, IsWindow};
+ghost use Rattle.session.specs.Fitting.{Fits};
 ghost use Rattle.session.specs.Given.{Given, IsGiven, given_of};
 ghost use Rattle.session.specs.Runs.{plain_session};
 ghost use Rattle.session.specs.Starting.{plain_setup};
@@ -22,7 +24,8 @@ use crate::turning::go;
 use disk_model::Device;
 use folder_core::{Drivers, Listed};
 use mail_base::{Bytes, Clock, Lines, Sink, Source, Words};
-use session::{Session, Setup, StartError, Trace};
+use session::{Session, Setup, StartError};
+use session_events::Trace;
 use std::alloc::Global;
 
 /// Opens the folder, lets the keys act that commands have put, and goes on by keys. The line of the
@@ -43,7 +46,8 @@ pub fn read<K: Source, O: Sink, E: Sink, C: Clock>(
     requires archive { trace.old.archive.items ≡ [] }
     requires events { trace.old.events.items ≡ [] }
     requires notes { trace.old.notes.items ≡ [] }
-    requires tall { 6 ≤ setup.rows }
+    requires window { IsWindow (plain_setup setup).window }
+    requires moment { IsMoment moment }
     ensures reads { (o : PlainOptions) → plain_setup setup ≡ setup_of o
         → o.skip_empty ≡ skip_empty → task_of o ≡ ReadFolder → Reads (Ok o) moment
         (λ kind. Any (λ d. sort (d.vtable, d.value) ≡ kind) drivers.now.list.items)
@@ -88,7 +92,7 @@ fn read_on<K: Source, O: Sink, E: Sink, C: Clock>(
     session: &mut Session,
     trace: &mut Trace,
 ) -> Status
-    requires tall { 6 ≤ session.old.core.desk.rows }
+    requires fits { Fits (map plain_letter trace.old.archive.items) session.old }
     ensures reads { (o : PlainOptions) → o.skip_empty ≡ skip_empty → task_of o ≡ ReadFolder
         → (start : ℤ) → (before now : Seen) → ((given : Given)
         → IsGiven (map plain_letter trace.old.archive.items) trace.old.verdicts.kept given → Starts
@@ -148,6 +152,7 @@ pub fn answer<O: Sink, E: Sink>(
     requires archive { trace.old.archive.items ≡ [] }
     requires events { trace.old.events.items ≡ [] }
     requires notes { trace.old.notes.items ≡ [] }
+    requires window { IsWindow (plain_setup setup).window }
     ensures reads { (o : PlainOptions) → plain_setup setup ≡ setup_of o
         → task_of o ≡ TellValues (plain_texts names.now) → (moment : ℤ)
         → (left : Option (List ℕ)) → (moments : Option (List ℤ)) → Reads (Ok o) moment Driverless

@@ -5,13 +5,15 @@ ghost use Rattle.std.specs.Prelude.{OnOk, IsErrOf, map, Option};
 ghost use Rattle.mail_base.specs.Faults.{Rose};
 ghost use Rattle.disk_model.specs.Seen.{Seen};
 ghost use Rattle.folder_core.specs.Letters.{plain_letter};
-ghost use Rattle.session.specs.Events.{KeyPressed, plain_events};
-ghost use Rattle.session.specs.Given.{Given, IsGiven, Keeps};
-ghost use Rattle.session.specs.Runs.{State, plain_session};
+ghost use Rattle.session_events.specs.Events.{KeyPressed, plain_events};
+ghost use Rattle.session.specs.Core.{IsMoment};
+ghost use Rattle.session.specs.Fitting.{Fits};
+ghost use Rattle.session.specs.Given.{Given, IsGiven};
+ghost use Rattle.patterns.specs.Causes.{Keeps};
+ghost use Rattle.session.specs.Runs.{State, plain_session, screen_in};
 ghost use Rattle.session.specs.Steps.{Waits};
 ghost use Rattle.session.specs.Telling.{Witnessed};
-ghost use Rattle.session_state.specs.Screen.{screen as screen_of};
-ghost use Rattle.session_state.specs.declared.desk.Stage.TheVariants.{Idle};
+ghost use Rattle.session_state.specs.declared.stage.Stage.TheVariants.{Idle};
 ghost use Rattle.mutt_run.specs.Going.{CountsFaults, Ended, Goes, GoesToEnd, IsTurnedTo, Shows};
 ghost use Rattle.mutt_run.specs.Going.{Turned};
 ghost use Rattle.mutt_run.specs.Screens.{screen_text};
@@ -22,7 +24,8 @@ use crate::status::Status;
 use folder_core::Drivers;
 use keymap::{Key, KeyFault, KeyReader};
 use mail_base::{Clock, NoMemory, Sink, Source};
-use session::{Next, Session, Trace};
+use session::{Next, Session};
+use session_events::Trace;
 use std::alloc::Global;
 
 /// The most key bytes that are taken.
@@ -39,7 +42,7 @@ pub fn go<K: Source, O: Sink, C: Clock>(
     session: &mut Session,
     trace: &mut Trace,
 ) -> Status
-    requires tall { 6 ≤ session.old.core.desk.rows }
+    requires fits { Fits (map plain_letter trace.old.archive.items) session.old }
     ensures ended { (given : Given)
         → IsGiven (map plain_letter trace.new.archive.items) trace.new.verdicts.kept given
         → (first : State) → Waits given first (plain_events trace.old.events.items)
@@ -81,7 +84,7 @@ fn press_all<K: Source, O: Sink, C: Clock>(
     trace: &mut Trace,
 ) -> Status
     requires idle { session.old.stage ≡ Idle }
-    requires tall { 6 ≤ session.old.core.desk.rows }
+    requires fits { Fits (map plain_letter trace.old.archive.items) session.old }
     ensures ended { (given : Given)
         → IsGiven (map plain_letter trace.new.archive.items) trace.new.verdicts.kept given
         → (first : State) → (start : Option (List ℕ)) → Goes given first
@@ -134,7 +137,8 @@ fn turn<O: Sink>(
     trace: &mut Trace,
 ) -> Result<Next, Status>
     requires idle { session.old.stage ≡ Idle }
-    requires tall { 6 ≤ session.old.core.desk.rows }
+    requires fits { Fits (map plain_letter trace.old.archive.items) session.old }
+    requires moment { IsMoment moment }
     requires room { 0 < trace.old.events.room }
     ensures turned { (given : Given)
         → IsGiven (map plain_letter trace.new.archive.items) trace.new.verdicts.kept given
@@ -144,7 +148,7 @@ fn turn<O: Sink>(
         → Turned given result first (plain_events trace.new.events.items)
         (plain_session session.new trace.new.notes) start (O.written out.new) }
     ensures to { IsTurnedTo result session.new.stage }
-    ensures tall { OnOk result (6 ≤ session.new.core.desk.rows) }
+    ensures fits { OnOk result (Fits (map plain_letter trace.new.archive.items) session.new) }
     ensures pressed { plain_events trace.new.events.items
         ≡ plain_events trace.old.events.items ++ KeyPressed key moment ∷ [] }
     ensures told { (given : Given) → (first : State) → (before seen : Seen)
@@ -170,9 +174,9 @@ fn turn<O: Sink>(
 
 /// Prints the screen in one write.
 fn show<O: Sink>(alloc: Global, out: &mut O, session: &Session, trace: &Trace) -> Result<(), Status>
-    requires { 6 ≤ session.now.core.desk.rows }
-    ensures { Shows result (screen_text (screen_of (map plain_letter trace.now.archive.items)
-        session.now.listing.items session.now.core.desk)) (O.written out.old) (O.written out.new)
+    requires { Fits (map plain_letter trace.now.archive.items) session.now }
+    ensures { Shows result (screen_text (screen_in (map plain_letter trace.now.archive.items)
+        (plain_session session.now trace.now.notes))) (O.written out.old) (O.written out.new)
         (O.faults out.old) (O.faults out.new) }
 {
     let Ok(lines) = session.screen(alloc, trace) else {

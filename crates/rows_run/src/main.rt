@@ -28,5 +28,7 @@ fn play_all(rt: &HostRuntime, report: &mut Report) -> Result<(), NoMemory> {
     play_file(rt, &FolderKinds, "kinds", report)?;
     play_file(rt, &Scans, "scans", report)?;
     play_file(rt, &WholeRuns, "runs", report)?;
-    play_file(rt, &WholeRuns, "runs_rc", report)
+    play_file(rt, &WholeRuns, "runs_rc", report)?;
+    play_file(rt, &WholeRuns, "runs_index", report)?;
+    play_file(rt, &WholeRuns, "runs_prompts", report)
 }

@@ -12,7 +12,7 @@ use mbox_folder::MboxDriver;
 use mh_folder::MhDriver;
 use mutt_run::run;
 use people::{RegexBuild, Verdicts};
-use session::{Event, Events, Trace};
+use session_events::{Event, Events, Trace};
 use std::alloc::Global;
 
 /// The most bytes that a case prints.

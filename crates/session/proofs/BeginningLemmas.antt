@@ -11,28 +11,30 @@ use Rattle.mail_base.specs.declared.series.NoMemory.{NoMemory}
 use Rattle.disk_model.specs.Seen.{Seen}
 use Rattle.folder_core.specs.Letters.{Mail}
 use Rattle.folder_core.specs.declared.error.ScanError.TheVariants as scan
-use Rattle.session_state.specs.declared.desk.Stage.{Stage}
-use Rattle.session_state.specs.declared.desk.Stage.TheVariants.{Unopened}
+use Rattle.session_state.specs.declared.stage.Stage.{Stage}
+use Rattle.session_state.specs.declared.stage.Stage.TheVariants.{Unopened}
 use Rattle.session_state.specs.Frames.{PlainFrame}
 use Rattle.session_state.specs.Places.{folder_path}
 use Rattle.session_state.specs.Rules.{answer_line}
-use Rattle.session.specs.declared.event.Marks.{Marks}
-use Rattle.session.specs.declared.event.OpenFault.{OpenFault}
-use Rattle.session.specs.declared.event.OpenFault.TheVariants.{Taken, NoDriver, Folder}
+use Rattle.session_events.specs.declared.event.Marks.{Marks}
+use Rattle.session_events.specs.declared.event.OpenFault.{OpenFault}
+use Rattle.session_events.specs.declared.event.OpenFault.TheVariants.{Taken, NoDriver, Folder}
 use Rattle.session.specs.declared.setup.StartError.{StartError}
 use Rattle.session.specs.declared.setup.StartError.TheVariants as error
 use Rattle.session.specs.Beginning.{AnswersNames, BeginsRun, EndsStart, Fails, IsNoted, IsRefused}
 use Rattle.session.specs.Beginning.{Starts, start_error}
-use Rattle.session.specs.Events.{Happening, FileRead, FileRefused, KeyPressed, FolderOpened}
-use Rattle.session.specs.Events.{FolderRefused}
+use Rattle.session_events.specs.Events.{Happening, FileRead, FileRefused, KeyPressed, FolderOpened}
+use Rattle.session_events.specs.Events.{FolderRefused}
 use Rattle.session.specs.Given.{Given}
-use Rattle.session.specs.Happened.{Counts, HasCause, IsListed, kind_in}
-use Rattle.session.specs.Opening.{IsOpening, OpensPath, refusal_of}
+use Rattle.session_events.specs.Happened.{Counts, HasCause, IsListed}
+use Rattle.session.specs.Telling.{kind_in}
+use Rattle.session_events.specs.Opening.{IsOpening, OpensPath, refusal_of}
 use Rattle.session.specs.Runs.{Answers, State, after, after_events, arrived, first_wish}
-use Rattle.session.specs.Runs.{moment_of, pushed, shown, wish_at}
+use Rattle.session_events.specs.Wishes.{moment_of}
+use Rattle.session.specs.Runs.{pushed, shown, wish_at}
 use Rattle.session.specs.Steps.{Sources, SourcesOff, Stands, Waits}
-use Rattle.session.specs.Telling.{Driverless, Tells, Witnessed}
-use Rattle.session.proofs.SettlingLemmas.{opened_rows}
+use Rattle.session.specs.Telling.{Driverless, Witnessed}
+use Rattle.session_events.specs.Telling.{Tells}
 use Rattle.session.proofs.StepsLemmas.{stands_push}
 use Rattle.session.proofs.TellingLemmas.{witnessed_files, witnessed_push}
 
@@ -67,6 +69,12 @@ pub if_error : {T : Type 0} (result : Result T StartError) (why : StartError)
     (Is : StartError → Type 0) → IsErrAnd result (λ e. e ≡ why) → Is why → IfErr result Is
 if_error (Ok value) why Is same is = tt
 if_error (Err e) why Is same is = subst Is (sym same) is
+
+-- nothing is told of an answer
+pub no_answer : {T E : Type 0} (result : Result T E) (Is : T → Type 0) (Was : E → Type 0)
+    → IsErrAnd result Was → IfOk result Is
+no_answer (Ok value) Is Was none = absurd none
+no_answer (Err e) Is Was is = tt
 
 -- memory ran out
 pub no_memory : {T : Type 0} (result : Result T StartError) (Is : StartError → Type 0)
@@ -214,8 +222,7 @@ module _ (Has : Kind → Type 0) (given : Given) (letters : List Mail)
         (sym is ∙ ap (λ (m : ℤ). FolderOpened path kind m came marks) at) look_begins;
     stage = ap (λ (u : State). u.turn.stage) arrives;
     listing = ap (λ (u : State). u.listing) arrives;
-    rows = ap (λ (u : State). u.turn.core.desk.rows) arrives ∙ opened_rows came s.turn.core
-        ∙ sources.rows;
+    window = ap (λ (u : State). u.window) arrives ∙ sources.window;
     waits = record {
       run = look_stands.run;
       state_is = look_stands.state_is ∙ ap (after given s) (sym is)

@@ -1,8 +1,9 @@
 -- What was given stays given while verdicts are kept.
-use Rattle.std.proofs.Common.{◌≡◌, List, refl, ◌∙◌}
+use Rattle.std.proofs.Common.{◌≡◌, List, refl, ◌∙◌, ap, sym}
 use Rattle.folder_core.specs.Letters.{Mail}
 use Rattle.people.specs.Judged.{PlainJudged}
-use Rattle.session.specs.Given.{Given, IsGiven, Keeps, given_of}
+use Rattle.patterns.specs.Causes.{Keeps}
+use Rattle.session.specs.Given.{Given, IsGiven, given_of}
 
 pub keeps_same : (verdicts : List PlainJudged) → Keeps verdicts verdicts
 keeps_same verdicts = record { stays = λ text v h. h }
@@ -22,3 +23,9 @@ keeps_more same keeps is = record {
   mails_are = is.mails_are ∙ same;
   keeps = keeps_then keeps is.keeps;
 }
+
+-- what is given is these letters, and its verdicts
+pub given_is : {mails : List Mail} {kept : List PlainJudged} {given : Given}
+    → IsGiven mails kept given → given_of mails given.verdicts ≡ given
+given_is {mails} {kept} {given} is =
+    sym (ap (λ (letters : List Mail). given_of letters given.verdicts) is.mails_are)

@@ -1,6 +1,13 @@
-mod Looked
 pub mod GivenLemmas
+mod CoreLemmas
+mod DateLemmas
+mod ReadingLemmas
+mod ShownLemmas
+mod KeysLemmas
+mod TurnLemmas
 pub mod TellingLemmas
 mod SettlingLemmas
 pub mod StepsLemmas
 mod BeginningLemmas
+mod FittingLemmas
+mod OpeningLemmas

@@ -5,27 +5,28 @@ use Rattle.std.proofs.lemmas.List.{append-nil, map-append}
 use Rattle.folder_core.specs.Letters.{Mail}
 use Rattle.keymap.specs.Queue.{most_replacements}
 use Rattle.keymap.specs.declared.key.Key.{Key}
-use Rattle.session_state.specs.declared.desk.MessageLine.TheVariants.{Blank}
-use Rattle.session_state.specs.declared.desk.Stage.{Stage}
-use Rattle.session_state.specs.declared.desk.Stage.TheVariants.{Idle, Over, Pushing, Ready}
-use Rattle.session_state.specs.declared.desk.Stage.TheVariants.{Unopened}
-use Rattle.session.specs.Events.{AreFiles, Happening, FileRead, FileRefused, KeyPressed}
-use Rattle.session.specs.Events.{FolderOpened, FolderRefused, plain_event, plain_events}
-use Rattle.session.specs.declared.event.Event.{Event}
-use Rattle.session.specs.declared.event.Marks.{Marks}
+use Rattle.session_state.specs.declared.stage.Stage.{Stage}
+use Rattle.session_state.specs.declared.stage.Stage.TheVariants.{Ready}
+use Rattle.session_state.specs.declared.stage.Stage.TheVariants.{Unopened}
+use Rattle.session_events.specs.Events.{AreFiles, Happening, FileRead, FileRefused, KeyPressed}
+use Rattle.session_events.specs.Events.{FolderOpened, FolderRefused, plain_event, plain_events}
+use Rattle.session_events.specs.declared.event.Event.{Event}
+use Rattle.session_events.specs.declared.event.Marks.{Marks}
 use Rattle.people.specs.Judged.{PlainJudged}
 use Rattle.session.specs.Given.{Given, IsGiven, given_of}
 use Rattle.session.specs.Runs.{Answers, IsRunFrom, State, after, after_events, screens_from}
-use Rattle.session.specs.Runs.{answered, arrived, first_wish, moment_of, read_in, shown, skipped}
+use Rattle.session_events.specs.Wishes.{answered, moment_of}
+use Rattle.session.specs.Runs.{arrived, first_wish, ground, read_in, shown, skipped}
 use Rattle.session.specs.Runs.{pushed, stage_screens, taken, taken_at, typed, wish_at}
 use Rattle.mail_base.specs.declared.kind.Kind.{Kind}
 use Rattle.disk_model.specs.Seen.{Seen}
-use Rattle.session.specs.Happened.{kind_in}
+use Rattle.session.specs.Telling.{kind_in}
 use Rattle.session.specs.Steps.{IsNext, IsTaken, PressesKey, Sources, SourcesOff, Stands}
 use Rattle.session.specs.Steps.{StaysRun, next_of}
-use Rattle.session.specs.Telling.{Driverless, HasFileCause, TellsFile, Witnessed}
+use Rattle.session.specs.Telling.{Driverless, Witnessed}
+use Rattle.session_events.specs.Telling.{HasFileCause, TellsFile}
 use Rattle.session.proofs.GivenLemmas.{given_here}
-use Rattle.session.proofs.SettlingLemmas.{keys_next, keys_rows, said_rows}
+use Rattle.session.proofs.SettlingLemmas.{keys_next}
 use Rattle.session.proofs.TellingLemmas.{file_is, files_append, tells_file, witnessed_key}
 use Rattle.session.proofs.TellingLemmas.{witnessed_none, witnessed_push}
 
@@ -73,26 +74,14 @@ module _ (given : Given) (first s : State) (events : List Happening)
 -- a key that was taken is pressed
 pub stands_pressed : (given : Given) (first s : State) (events : List Happening) (key : Key)
     (moment : ℤ) (screens : List (List (List ℕ))) → IsTaken given first events s screens
-    → Stands given first (events ++ KeyPressed key moment ∷ []) (typed given key s)
-    (screens ++ shown given (typed given key s))
+    → Stands given first (events ++ KeyPressed key moment ∷ []) (typed given key moment s)
+    (screens ++ shown given (typed given key moment s))
 stands_pressed given first s events key moment screens is =
     let wishes : Answers is.before (KeyPressed key moment) =
     ap (λ (stage : Stage). wish_at stage is.before moment) is.idle in
     subst (λ (t : State). Stands given first (events ++ KeyPressed key moment ∷ [])
-    (typed given key t) (screens ++ shown given (typed given key t))) is.taken_is
+    (typed given key moment t) (screens ++ shown given (typed given key moment t))) is.taken_is
     (stands_push given first is.before events (KeyPressed key moment) screens is.stands wishes)
-
-rows_at : (stage : Stage) (s : State)
-    → (taken_at stage s).turn.core.desk.rows ≡ s.turn.core.desk.rows
-rows_at Unopened s = refl
-rows_at Pushing s = refl
-rows_at Idle s = said_rows Blank s.turn.core
-rows_at Ready s = refl
-rows_at Over s = refl
-
--- a key that is taken leaves the screen as large as it was
-pub taken_rows : (s : State) → (taken s).turn.core.desk.rows ≡ s.turn.core.desk.rows
-taken_rows s = rows_at s.turn.stage s
 
 -- What a key does.
 module _ (key : Key) (moment : ℤ) (old : State) (events mid events' : List Happening)
@@ -109,17 +98,15 @@ module _ (key : Key) (moment : ℤ) (old : State) (events mid events' : List Hap
         let still : taken old ≡ old = ap (λ (stage : Stage). taken_at stage old) ready in
         record {
           pressed = sym put_is;
-          rows = ap (λ (t : State). t.turn.core.desk.rows)
+          window = ap (λ (t : State). t.window)
               (arrives (given_of mails kept) (given_here mails kept)
-              ∙ ap (typed (given_of mails kept) key) still)
-              ∙ keys_rows old.listing most_replacements 0 (old.turn.queue ++ key ∷ [])
-              old.turn.core;
+              ∙ ap (typed (given_of mails kept) key moment) still);
           stood = λ given is first screens taken_so.
               subst (λ (l : List Happening). Stands given first l new
               (screens ++ shown given new))
               put_is (subst (λ (t : State). Stands given first
               (events ++ KeyPressed key moment ∷ []) t
-              (screens ++ shown given t)) (sym (arrives given is ∙ ap (typed given key) still))
+              (screens ++ shown given t)) (sym (arrives given is ∙ ap (typed given key moment) still))
               (stands_pressed given first old events key moment screens taken_so));
         }
 
@@ -142,18 +129,19 @@ put_plain old new event is put same =
     ∙ ap (λ (e : Happening). plain_events old ++ e ∷ []) same
 
 -- a typed key ends the run, or a key is wanted behind it
-pub typed_next : (given : Given) (key : Key) (old new : State) → new ≡ typed given key old
+pub typed_next : (given : Given) (key : Key) (moment : ℤ) (old new : State)
+    → new ≡ typed given key moment old
     → IsNext (next_of new.turn.stage) new.turn.stage
-typed_next given key old new is =
-    keys_next old.listing most_replacements 0 (old.turn.queue ++ key ∷ []) old.turn.core
-    new.turn.stage (ap (λ (s : State). s.turn.stage) is)
+typed_next given key moment old new is =
+    keys_next (ground given moment old) most_replacements 0 (old.turn.queue ++ key ∷ [])
+    old.turn.core new.turn.stage (ap (λ (s : State). s.turn.stage) is)
 
 module _ {mails : List Mail} {kept : List PlainJudged} (old new : State) where
   pub key_next : (key : Key) (moment : ℤ) (event : Happening) → event ≡ KeyPressed key moment
       → ((given : Given) → IsGiven mails kept given → new ≡ arrived given old event)
       → IsNext (next_of new.turn.stage) new.turn.stage
   key_next key moment event is arrives =
-      typed_next (given_of mails kept) key (taken old) new
+      typed_next (given_of mails kept) key moment (taken old) new
       (arrives (given_of mails kept) (given_here mails kept)
       ∙ ap (arrived (given_of mails kept) old) is)
 
@@ -161,17 +149,11 @@ module _ {mails : List Mail} {kept : List PlainJudged} (old new : State) where
   pub pushed_next : ((given : Given) → IsGiven mails kept given → new ≡ pushed given old)
       → IsNext (next_of new.turn.stage) new.turn.stage
   pushed_next goes =
-      keys_next old.listing most_replacements 0 old.turn.core.rules.put
+      keys_next (ground (given_of mails kept) old.checked old) most_replacements 0
+      old.turn.core.rules.put
       (record old.turn.core { rules = record old.turn.core.rules { put = [] } })
       new.turn.stage (ap (λ (s : State). s.turn.stage)
       (goes (given_of mails kept) (given_here mails kept)))
-
-  pub pushed_rows : ((given : Given) → IsGiven mails kept given → new ≡ pushed given old)
-      → new.turn.core.desk.rows ≡ old.turn.core.desk.rows
-  pushed_rows goes =
-      ap (λ (s : State). s.turn.core.desk.rows) (goes (given_of mails kept) (given_here mails kept))
-      ∙ keys_rows old.listing most_replacements 0 old.turn.core.rules.put
-      (record old.turn.core { rules = record old.turn.core.rules { put = [] } })
 
 -- no event came
 pub stays_same : (Has : Kind → Type 0) (mails : List Mail) (kept : List PlainJudged) (old : State)
@@ -193,7 +175,7 @@ sources_begun first s events now same none =
     subst (λ (l : List Happening). Sources first l s now now) (sym none) (record {
       are = tt;
       stands = λ given. record { run = tt; state_is = sym same; screens_are = refl };
-      rows = ap (λ (t : State). t.turn.core.desk.rows) same;
+      window = ap (λ (t : State). t.window) same;
       told = λ given. witnessed_none Driverless given first now;
       faults = omega arith;
     })
@@ -275,22 +257,22 @@ module _ (first s : State) (events mid events' : List Happening)
   file_faults : before.faults ≤ next.faults
   file_faults = omega (arith, sources.faults, tells.faults)
 
-  file_rows : (given : Given) (e : Happening) → e ≡ event
-      → (arrived given s e).turn.core.desk.rows ≡ s.turn.core.desk.rows
-  file_rows given (FileRead path text marks) is = refl
-  file_rows given (FileRefused path why marks) is = refl
-  file_rows given (KeyPressed key moment) is = absurd
+  file_window : (given : Given) (e : Happening) → e ≡ event
+      → (arrived given s e).window ≡ s.window
+  file_window given (FileRead path text marks) is = refl
+  file_window given (FileRefused path why marks) is = refl
+  file_window given (KeyPressed key moment) is = absurd
       (subst (λ (e : Happening). HasFileCause e tells.marks) (sym is) tells.cause)
-  file_rows given (FolderOpened path kind moment came marks) is = absurd
-      (subst (λ (e : Happening). HasFileCause e tells.marks) (sym is) tells.cause)
-  file_rows given (FolderRefused path why marks) is = refl
+  file_window given (FolderOpened path kind moment came marks) is = refl
+  file_window given (FolderRefused path why marks) is = refl
 
   -- what is given has no say in a file
   same_after : (given other : Given) (e : Happening) → e ≡ event
       → after other s e ≡ arrived given s e
   same_after given other (FileRead path text marks) is = refl
   same_after given other (FileRefused path why marks) is = refl
-  same_after given other (KeyPressed key moment) is = refl
+  same_after given other (KeyPressed key moment) is = absurd
+      (subst (λ (e : Happening). HasFileCause e tells.marks) (sym is) tells.cause)
   same_after given other (FolderOpened path kind moment came marks) is = absurd
       (subst (λ (e : Happening). HasFileCause e tells.marks) (sym is) tells.cause)
   same_after given other (FolderRefused path why marks) is = refl
@@ -304,8 +286,8 @@ module _ (first s : State) (events mid events' : List Happening)
         are = file_are;
         stands = λ given. subst (λ (u : State). Stands given first events' u [])
             (same_after (given_of mails kept) given event refl ∙ sym is) (file_stands given);
-        rows = ap (λ (u : State). u.turn.core.desk.rows) is
-            ∙ file_rows (given_of mails kept) event refl ∙ sources.rows;
+        window = ap (λ (u : State). u.window) is
+            ∙ file_window (given_of mails kept) event refl ∙ sources.window;
         told = file_told;
         faults = file_faults;
       }

@@ -1,5 +1,5 @@
 -- How what the events say of the disk goes on by one event.
-use Rattle.std.proofs.Common.{◌≡◌, ◌≤◌, ℕ, ℤ, List, [], ◌∷◌, ◌++◌, Option, Some, None, Ok, IfSome}
+use Rattle.std.proofs.Common.{◌≡◌, ◌≤◌, ℕ, ℤ, List, [], ◌∷◌, ◌++◌, Option, Some, None, IfSome}
 use Rattle.std.proofs.Common.{length}
 use Rattle.std.proofs.Common.{take, refl, sym, ◌∙◌, ap, subst, arith}
 use Rattle.std.proofs.Math.Seq.{take-length, take-append_seam}
@@ -13,20 +13,18 @@ use Rattle.disk_model.specs.Tree.{TreeNode}
 use Rattle.disk_model.proofs.Looking.{looks_same, looks_then}
 use Rattle.folder_core.specs.Letters.{Mail}
 use Rattle.keymap.specs.declared.key.Key.{Key}
-use Rattle.session.specs.declared.event.Marks.{Marks}
-use Rattle.session.specs.Events.{AreFiles, Happening, FileRead, FileRefused, IsFile, KeyPressed}
-use Rattle.session.specs.Events.{FolderOpened, FolderRefused}
-use Rattle.session.specs.Happened.{AllCounted, AllHappened, Counts, Happened, IsCounted}
-use Rattle.session.specs.Happened.{IsTrueAt, counts_after, counts_at, counts_of, kind_in, marks_of}
-use Rattle.session.specs.Happened.{HasCause, IsReadCause, WasRead, past_at}
-use Rattle.disk_model.specs.declared.answers.Stat.{Stat}
-use Rattle.disk_model.specs.declared.answers.DiskError.{DiskError}
-use Rattle.disk_model.specs.declared.answers.DiskError.TheVariants as disk
-use Rattle.mail_base.specs.Faults.{Rose}
-use Rattle.folder_core.proofs.SeenLemmas.{goes_as}
+use Rattle.session_events.specs.declared.event.Marks.{Marks}
+use Rattle.session_events.specs.Events.{AreFiles, Happening, FileRead, FileRefused, IsFile, KeyPressed}
+use Rattle.session_events.specs.Events.{FolderOpened, FolderRefused}
+use Rattle.session_events.specs.Happened.{AllCounted, Counts, Happened, IsCounted}
+use Rattle.session.specs.Telling.{AllHappened}
+use Rattle.session_events.specs.Happened.{IsTrueAt, counts_after, counts_at, counts_of, marks_of}
+use Rattle.session.specs.Telling.{kind_in}
+use Rattle.session_events.specs.Happened.{HasCause, past_at}
 use Rattle.session.specs.Given.{Given}
 use Rattle.session.specs.Runs.{State, after, after_events}
-use Rattle.session.specs.Telling.{HasFileCause, IsTold, Tells, TellsFile, Witnessed}
+use Rattle.session_events.specs.Telling.{HasFileCause, Tells, TellsFile}
+use Rattle.session.specs.Telling.{IsTold, Witnessed}
 
 -- Pasts at marks.
 
@@ -332,20 +330,3 @@ module _ (Has Other : Kind → Type 0) where
     counted = files_counted (counts_of first) events are h.counted;
     at = h.at;
   }
-
-pub read_told : (stat : Stat) (text path : List ℕ) (old new : Option Past)
-    → GoesOn (WasRead (Ok (stat, text)) path) old new
-    → GoesOn (λ (p q : Past). (s : Stat) × WasRead (Ok (s, text)) path p q) old new
-read_told stat text path old new h = goes_as old new (λ p q k. (stat, k)) h
-
--- a fault of a read was counted
-pub read_cause : (why : DiskError) (marks : Marks) (before after : ℕ) → marks.faults_before ≡ before
-    → marks.faults_after ≡ after → (why ≡ disk.Fault → Rose before after) → IsReadCause why marks
-read_cause disk.Fault marks before after first last h =
-    subst (λ (n : ℕ). Rose n marks.faults_after) (sym first)
-    (subst (λ (n : ℕ). Rose before n) (sym last) (h refl))
-read_cause disk.Missing marks before after first last h = tt
-read_cause disk.WrongNode marks before after first last h = tt
-read_cause disk.Exists marks before after first last h = tt
-read_cause (disk.Long n) marks before after first last h = tt
-read_cause disk.NoMemory marks before after first last h = tt

@@ -8,16 +8,16 @@ use Rattle.folder_core.specs.declared.error.ScanError.TheVariants.{ArchiveFull, 
 use Rattle.folder_core.specs.declared.error.ScanError.TheVariants.{NoMemory as NoRoom}
 use Rattle.folder_core.specs.declared.listing.Listed.{Listed}
 use Rattle.session_state.specs.Rules.{answer_line}
-use Rattle.session_state.specs.declared.desk.Stage.TheVariants.{Pushing}
-use Rattle.session.specs.declared.event.Marks.{Marks}
-use Rattle.session.specs.declared.event.OpenFault.{OpenFault}
-use Rattle.session.specs.declared.event.OpenFault.TheVariants.{Taken, NoDriver, Folder}
+use Rattle.session_state.specs.declared.stage.Stage.TheVariants.{Pushing}
+use Rattle.session_events.specs.declared.event.Marks.{Marks}
+use Rattle.session_events.specs.declared.event.OpenFault.{OpenFault}
+use Rattle.session_events.specs.declared.event.OpenFault.TheVariants.{Taken, NoDriver, Folder}
 use Rattle.session.specs.declared.setup.StartError.{StartError}
 use Rattle.session.specs.declared.setup.StartError.TheVariants as error
-use Rattle.session.specs.Events.{AreFiles, Happening, FolderOpened, FolderRefused}
+use Rattle.session_events.specs.Events.{AreFiles, Happening, FolderOpened, FolderRefused}
 use Rattle.session.specs.Given.{Given}
-use Rattle.session.specs.Happened.{IsListed}
-use Rattle.session.specs.Opening.{IsOpening}
+use Rattle.session_events.specs.Happened.{IsListed}
+use Rattle.session_events.specs.Opening.{IsOpening}
 use Rattle.session.specs.Runs.{IsRunFrom, State, after_events}
 use Rattle.session.specs.Steps.{Waits}
 use Rattle.session.specs.Telling.{Witnessed}
@@ -50,7 +50,7 @@ pub record Starts (Has : Kind → Type 0) (given : Given) (first : State) (momen
       events old new
   pub stage : state.turn.stage ≡ Pushing
   pub listing : state.listing ≡ came
-  pub rows : state.turn.core.desk.rows ≡ first.turn.core.desk.rows
+  pub window : state.window ≡ first.window
   pub waits : Waits given first events state
 
 -- a cause that is told: neither a fault, nor want of memory, nor a full archive, nor a folder that

@@ -1,59 +1,27 @@
--- What the opening of a folder has seen, and what it leaves.
-use Rattle.std.specs.Prelude.{◌≡◌, ℕ, ℤ, List, [], length, Option, Some, None, Result, Ok, Err}
-use Rattle.std.specs.Prelude.{IfOk, IfErr, OnErr}
-use Rattle.mail_base.specs.declared.kind.Kind.{Kind}
-use Rattle.disk_model.specs.Journal.{Past}
-use Rattle.disk_model.specs.Judge.{GoesOn}
-use Rattle.disk_model.specs.Looking.{OnlyLooks}
-use Rattle.disk_model.specs.Seen.{Seen}
+-- What an opened folder makes of the index.
+use Rattle.std.specs.Prelude.{List, []}
 use Rattle.folder_core.specs.Letters.{Mail}
-use Rattle.session.specs.Events.{Happening, FileRead, FileRefused, KeyPressed, FolderOpened}
-use Rattle.session.specs.Events.{FolderRefused}
-use Rattle.session.specs.Happened.{IsCause, IsFresh, IsListed, WasOpened, WasRefused}
-use Rattle.session.specs.Runs.{Open, answered}
-use Rattle.session.specs.Telling.{Tells}
-use Rattle.session.specs.declared.event.OpenFault.{OpenFault}
-use Rattle.session.specs.declared.open.Opened.{Opened}
+use Rattle.folder_core.specs.declared.listing.Found.{Found}
+use Rattle.folder_core.specs.declared.listing.Listed.{Listed}
+use Rattle.mail_base.specs.Series.{Held}
+use Rattle.session_index.specs.Opening.{begun, taken_in}
+use Rattle.session.specs.Answers.{tuned}
+use Rattle.session.specs.Core.{CoreState, with_desk}
 
--- what was read at a path, or why not, as the journal shows it
-abbrev pub WasLooked : (Kind → Type 0) → Kind → List Mail → List ℕ → Result Opened OpenFault
-    → Past → Past → Type 0
-WasLooked Has empty archive path (Ok opened) old new =
-    WasOpened empty archive path opened.kind opened.came.items (length old.journal)
-    (length new.journal) new
-WasLooked Has empty archive path (Err why) old new =
-    WasRefused Has empty path why (length old.journal) (length new.journal) new
+abbrev pub held : {X : Type 0} → List X → Held X
+held items = record { items = items; room = 0 }
 
--- What the reading of a folder into an empty archive has seen, and what it leaves.
-pub record ReadsFolder (Has : Kind → Type 0) (empty : Kind) (archive : List Mail) (path : List ℕ)
-    (result : Result Opened OpenFault) (old new : Seen) : Type 0 where
-  pub looked : GoesOn (WasLooked Has empty archive path result) old.told new.told
-  pub cause : IfErr result (λ why. IsCause Has why old.faults new.faults)
-  pub driver : IfOk result (λ opened. Has opened.kind)
-  pub fresh : IfOk result (λ opened. IsFresh archive opened.came.items)
-  pub none : OnErr result (archive ≡ [])
-  pub only : OnlyLooks old new
+-- these messages came
+abbrev pub first_found : List Listed → Found
+first_found came = record { gone = held []; reflagged = held []; came = held came }
 
--- the event is that of a folder which was to be opened at a moment
-abbrev pub IsOpening : ℤ → Happening → Type 0
-IsOpening moment (FolderOpened path kind at came marks) = at ≡ moment
-IsOpening moment (FolderRefused path why marks) = Unit {0}
-IsOpening moment (FileRead path text marks) = ⊥
-IsOpening moment (FileRefused path why marks) = ⊥
-IsOpening moment (KeyPressed key at) = ⊥
+abbrev pub begun_in : List Mail → CoreState → CoreState
+begun_in mails c = with_desk (begun mails c.desk) c
 
--- why the folder was not opened
-abbrev pub refusal_of : Happening → Option OpenFault
-refusal_of (FolderOpened path kind moment came marks) = None
-refusal_of (FolderRefused path why marks) = Some why
-refusal_of (FileRead path text marks) = None
-refusal_of (FileRefused path why marks) = None
-refusal_of (KeyPressed key moment) = None
+abbrev pub found_in : List Mail → List Listed → CoreState → CoreState
+found_in mails came c = with_desk (taken_in mails (first_found came) c.desk) c
 
--- The folder at a path was looked for, and this is what happened.
-pub record OpensPath (Has : Kind → Type 0) (empty : Kind) (path : List ℕ) (moment : ℤ)
-    (letters : List Mail) (event : Happening) (old new : Seen) : Type 0 where
-  pub tells : Tells Has empty letters event old new
-  pub answers : answered event ≡ Open path
-  pub listed : IsListed letters event
-  pub opening : IsOpening moment event
+-- a folder with these messages is open: the index stands by the variables, and the cursor on the
+-- first new message, else on the first unread one, else on the last
+unfoldable pub opened : List Mail → List Listed → CoreState → CoreState
+opened mails came c = begun_in mails (found_in mails came (tuned mails c))

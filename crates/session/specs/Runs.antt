@@ -1,60 +1,63 @@
 -- A run: what a state wishes, what an event makes of it, and the screens.
-use Rattle.std.specs.Prelude.{◌≡◌, ℕ, ℤ, pos, List, [], ◌∷◌, ◌++◌, Option, option_map, Bool, true}
+use Rattle.std.specs.Prelude.{◌≡◌, ℕ, ℤ, List, [], ◌∷◌, ◌++◌, Option, option_map, Bool, true}
 use Rattle.std.specs.Prelude.{false}
 use Rattle.mail_base.specs.Series.{Held, plain_texts}
+use Rattle.mail_base.specs.declared.kind.Kind.{Kind}
 use Rattle.disk_model.specs.declared.answers.DiskError.{DiskError}
 use Rattle.disk_model.specs.declared.answers.DiskError.TheVariants as disk
+use Rattle.folder_core.specs.Letters.{Mail}
 use Rattle.folder_core.specs.declared.listing.Listed.{Listed}
 use Rattle.keymap.specs.Queue.{most_replacements}
 use Rattle.keymap.specs.declared.key.Key.{Key}
 use Rattle.rc_lang_words.specs.declared.fault.RcFault.{RcFault}
 use Rattle.rc_lang_words.specs.declared.fault.RcFault.TheVariants as fault
-use Rattle.session_state.specs.declared.core_state.Core.{Core}
-use Rattle.session_state.specs.declared.desk.MessageLine.TheVariants.{Blank}
-use Rattle.session_state.specs.declared.desk.Stage.{Stage}
-use Rattle.session_state.specs.declared.desk.Stage.TheVariants.{Unopened, Pushing, Idle, Ready}
-use Rattle.session_state.specs.declared.desk.Stage.TheVariants.{Over}
-use Rattle.session_state.specs.Effects.{opened, said}
+use Rattle.session_events.specs.Events.{Happening, FileRead, FileRefused, KeyPressed, FolderOpened}
+use Rattle.session_events.specs.Events.{FolderRefused}
+use Rattle.session_events.specs.Wishes.{Nothing, Open, Press, Source, Wish, answered, moment_of}
+use Rattle.session_state.specs.declared.stage.Stage.{Stage}
+use Rattle.session_state.specs.declared.stage.Stage.TheVariants.{Unopened, Pushing, Idle, Ready}
+use Rattle.session_state.specs.declared.stage.Stage.TheVariants.{Over}
+use Rattle.session_state.specs.declared.window.Window.{Window}
 use Rattle.session_state.specs.Frames.{PlainFrame, Script, plain_frames, read_script, skip_script}
-use Rattle.session_state.specs.Keys.{TurnState, run_keys}
 use Rattle.session_state.specs.Places.{folder_path}
-use Rattle.session_state.specs.Screen.{screen}
-use Rattle.session.specs.Events.{Happening, FileRead, FileRefused, KeyPressed, FolderOpened}
-use Rattle.session.specs.Events.{FolderRefused}
+use Rattle.session.specs.Core.{CoreState, Ground, plain_core, with_desk}
 use Rattle.session.specs.Given.{Given}
+use Rattle.session.specs.Keys.{TurnState, run_keys}
+use Rattle.session.specs.Opening.{opened}
+use Rattle.session.specs.Screen.{Folder, screen}
 use Rattle.session.specs.declared.session_type.Session.{Session}
 
 -- what keys act on; the files of commands that are not at their ends, and what was told of them;
--- the
--- messages of the open folder; and the folder that the words name
+-- the screen's size; the open folder, its listing and the moment of its last check; and the folder
+-- that the words name
 pub record State : Type 0 where
   pub turn : TurnState
   pub frames : List PlainFrame
   pub notes : List (List ℕ)
+  pub window : Window
+  pub folder : Folder
   pub listing : List Listed
+  pub checked : ℤ
   pub named : Option (List ℕ)
 
 abbrev pub plain_session : Session → Held (Held ℕ) → State
 plain_session session notes = record {
   turn = record {
-    core = session.core;
+    core = plain_core session.core;
     queue = session.queue.items;
     replaced = session.queue.replaced;
     stage = session.stage;
   };
   frames = plain_frames session.frames;
   notes = plain_texts notes;
+  window = session.window;
+  folder = record { path = session.path.items; kind = session.kind };
   listing = session.listing.items;
+  checked = session.checked.0;
   named = option_map (λ path. path.items) session.named;
 }
 
 -- Wishes.
-
-pub data Wish : Type 0 where
-  Nothing : Wish
-  Source : (path : List ℕ) → Wish
-  Open : (path : List ℕ) → Wish
-  Press : (moment : ℤ) → Wish
 
 -- first the files of commands, and then the folder
 abbrev pub first_wish : List PlainFrame → State → Wish
@@ -71,22 +74,6 @@ wish_at Over s moment = Nothing
 -- what is wished at this moment
 abbrev pub wish : State → ℤ → Wish
 wish s moment = wish_at s.turn.stage s moment
-
--- the moment of an event that has one
-abbrev pub moment_of : Happening → ℤ
-moment_of (FileRead path text marks) = pos 0
-moment_of (FileRefused path why marks) = pos 0
-moment_of (KeyPressed key moment) = moment
-moment_of (FolderOpened path kind moment came marks) = moment
-moment_of (FolderRefused path why marks) = pos 0
-
--- the wish that an event answers
-abbrev pub answered : Happening → Wish
-answered (FileRead path text marks) = Source path
-answered (FileRefused path why marks) = Source path
-answered (KeyPressed key moment) = Press moment
-answered (FolderOpened path kind moment came marks) = Open path
-answered (FolderRefused path why marks) = Open path
 
 abbrev pub Answers : State → Happening → Type 0
 Answers s event = wish s (moment_of event) ≡ answered event
@@ -114,9 +101,11 @@ read_fault disk.NoMemory = fault.NoMemory
 read_fault _ = fault.NotRead
 
 -- a key was taken: the message line is empty
+abbrev pub quiet : CoreState → CoreState
+quiet c = with_desk (record c.desk { message = [] }) c
+
 abbrev pub taken_at : Stage → State → State
-taken_at Idle s =
-    record s { turn = record s.turn { core = said Blank s.turn.core; stage = Ready } }
+taken_at Idle s = record s { turn = record s.turn { core = quiet s.turn.core; stage = Ready } }
 taken_at Unopened s = s
 taken_at Pushing s = s
 taken_at Ready s = s
@@ -125,20 +114,27 @@ taken_at Over s = s
 abbrev pub taken : State → State
 taken s = taken_at s.turn.stage s
 
--- these keys act, of which none was replaced yet
-abbrev pub acting : Given → List Key → Core → State → State
-acting given keys c s = record s { turn = run_keys s.listing most_replacements 0 keys c }
+-- what keys are lent at a moment
+abbrev pub ground : Given → ℤ → State → Ground
+ground given moment s = record { given = given; window = s.window; moment = moment }
 
--- the keys that commands have put act
+-- these keys act at a moment, of which none was replaced yet
+abbrev pub acting : Given → ℤ → List Key → CoreState → State → State
+acting given moment keys c s =
+    record s { turn = run_keys (ground given moment s) most_replacements 0 keys c }
+
+-- the keys that commands have put act, at the moment of the opening
 abbrev pub pushed : Given → State → State
 pushed given s =
-    acting given s.turn.core.rules.put
+    acting given s.checked s.turn.core.rules.put
     (record s.turn.core { rules = record s.turn.core.rules { put = [] } }) s
 
-abbrev pub opened_by : Given → List Listed → State → State
-opened_by given came s = record s {
-  turn = record s.turn { core = opened came s.turn.core; stage = Pushing };
+abbrev pub opened_by : List Mail → List ℕ → Kind → ℤ → List Listed → State → State
+opened_by mails path kind moment came s = record s {
+  turn = record s.turn { core = opened mails came s.turn.core; stage = Pushing };
+  folder = record { path = path; kind = kind };
   listing = came;
+  checked = moment;
 }
 
 -- the text of the file that was wished was read
@@ -151,15 +147,16 @@ skipped why s =
     with_script (skip_script (is_missing why) (read_fault why) s.frames s.turn.core.rules s.notes) s
 
 -- a key was typed
-abbrev pub typed : Given → Key → State → State
-typed given key s = acting given (s.turn.queue ++ key ∷ []) s.turn.core s
+abbrev pub typed : Given → Key → ℤ → State → State
+typed given key moment s = acting given moment (s.turn.queue ++ key ∷ []) s.turn.core s
 
 -- the state that an event leads to, in which keys may still wait behind an opening
 abbrev pub arrived : Given → State → Happening → State
 arrived given s (FileRead path text marks) = read_in text s
 arrived given s (FileRefused path why marks) = skipped why s
-arrived given s (KeyPressed key moment) = typed given key (taken s)
-arrived given s (FolderOpened path kind moment came marks) = opened_by given came s
+arrived given s (KeyPressed key moment) = typed given key moment (taken s)
+arrived given s (FolderOpened path kind moment came marks) =
+    opened_by given.mails path kind moment came s
 arrived given s (FolderRefused path why marks) = at_stage Over s
 
 -- the state after an event
@@ -180,11 +177,15 @@ abbrev pub IsRunFrom : Given → State → List Happening → Type 0
 IsRunFrom given s [] = Unit {0}
 IsRunFrom given s (event ∷ events) = Answers s event × IsRunFrom given (after given s event) events
 
+-- the lines of the screen
+abbrev pub screen_in : List Mail → State → List (List ℕ)
+screen_in mails s = screen mails s.window s.folder s.turn.core
+
 -- a state that wants a key shows its screen
 abbrev pub stage_screens : Given → Stage → State → List (List (List ℕ))
 stage_screens given Unopened s = []
 stage_screens given Pushing s = []
-stage_screens given Idle s = screen given.mails s.listing s.turn.core.desk ∷ []
+stage_screens given Idle s = screen_in given.mails s ∷ []
 stage_screens given Ready s = []
 stage_screens given Over s = []
 

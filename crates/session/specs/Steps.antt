@@ -5,12 +5,12 @@ use Rattle.disk_model.specs.Seen.{Seen}
 use Rattle.folder_core.specs.Letters.{Mail}
 use Rattle.keymap.specs.declared.key.Key.{Key}
 use Rattle.people.specs.Judged.{PlainJudged}
-use Rattle.session_state.specs.declared.desk.Stage.{Stage}
-use Rattle.session_state.specs.declared.desk.Stage.TheVariants.{Unopened, Pushing, Idle, Ready}
-use Rattle.session_state.specs.declared.desk.Stage.TheVariants.{Over}
+use Rattle.session_state.specs.declared.stage.Stage.{Stage}
+use Rattle.session_state.specs.declared.stage.Stage.TheVariants.{Unopened, Pushing, Idle, Ready}
+use Rattle.session_state.specs.declared.stage.Stage.TheVariants.{Over}
 use Rattle.session.specs.declared.setup.Next.{Next}
 use Rattle.session.specs.declared.setup.Next.TheVariants.{Go, Quit}
-use Rattle.session.specs.Events.{AreFiles, Happening, KeyPressed}
+use Rattle.session_events.specs.Events.{AreFiles, Happening, KeyPressed}
 use Rattle.session.specs.Given.{Given, IsGiven}
 use Rattle.session.specs.Runs.{IsRunFrom, State, after_events, pushed, screens_from, shown, taken}
 use Rattle.session.specs.Telling.{Driverless, Witnessed}
@@ -46,7 +46,7 @@ IsNext Quit stage = stage ≡ Over
 pub record PressesKey (mails : List Mail) (kept : List PlainJudged) (key : Key) (moment : ℤ)
     (old new : State) (events events' : List Happening) : Type 0 where
   pub pressed : events' ≡ events ++ KeyPressed key moment ∷ []
-  pub rows : new.turn.core.desk.rows ≡ old.turn.core.desk.rows
+  pub window : new.window ≡ old.window
   pub stood : (given : Given) → IsGiven mails kept given → (first : State)
       → (screens : List (List (List ℕ))) → IsTaken given first events old screens
       → Stands given first events' new (screens ++ shown given new)
@@ -68,7 +68,7 @@ pub record Sources (first : State) (events : List Happening) (state : State)
     (before now : Seen) : Type 0 where
   pub are : AreFiles events
   pub stands : (given : Given) → Stands given first events state []
-  pub rows : state.turn.core.desk.rows ≡ first.turn.core.desk.rows
+  pub window : state.window ≡ first.window
   pub told : (given : Given) → Witnessed Driverless given first events before now
   pub faults : before.faults ≤ now.faults
 

@@ -1,41 +1,27 @@
 -- How the events tell of the disk.
-use Rattle.std.specs.Prelude.{◌≡◌, ◌≤◌, List, Option, Some, None, Result, Ok, Err, IfSome, length}
+use Rattle.std.specs.Prelude.{◌≡◌, List, [], ◌∷◌, Option, Some, None, Result, Ok, Err}
 use Rattle.mail_base.specs.declared.kind.Kind.{Kind}
-use Rattle.disk_model.specs.Journal.{Past}
-use Rattle.disk_model.specs.Judge.{GoesOn}
-use Rattle.disk_model.specs.Looking.{HasLooked, LooksOnly}
-use Rattle.disk_model.specs.Seen.{Seen}
-use Rattle.folder_core.specs.Letters.{Mail}
-use Rattle.disk_model.specs.declared.answers.Stat.{Stat}
-use Rattle.session.specs.Events.{Happening, FileRead, FileRefused, KeyPressed, FolderOpened}
-use Rattle.session.specs.Events.{FolderRefused}
-use Rattle.session.specs.Happened.{AllCounted, AllHappened, Happened, HasCause, IsReadCause}
-use Rattle.session.specs.Happened.{WasRead, counts_at, counts_of}
-use Rattle.session.specs.Happened.{marks_of}
 use Rattle.mail_base.specs.declared.series.NoMemory.{NoMemory}
-use Rattle.session.specs.declared.event.Event.{Event}
+use Rattle.disk_model.specs.Journal.{Past}
+use Rattle.disk_model.specs.Looking.{HasLooked}
+use Rattle.disk_model.specs.Seen.{Seen}
+use Rattle.session_events.specs.Events.{Happening}
+use Rattle.session_events.specs.Happened.{AllCounted, IsTrueAt, counts_at, counts_of, marks_of}
+use Rattle.session_events.specs.declared.event.Event.{Event}
+use Rattle.session_state.specs.Places.{new_kind}
 use Rattle.session.specs.Given.{Given}
-use Rattle.session.specs.Runs.{State}
-use Rattle.session.specs.declared.event.Marks.{Marks}
+use Rattle.session.specs.Runs.{State, after}
 
--- the counts and their place in the journal, where that is told
-abbrev pub IsMarked : Seen → Type 0
-IsMarked seen = IfSome seen.told (λ past. seen.marks ≡ length past.journal)
+-- the kind of an empty file is the one that is set when the event begins
+abbrev pub kind_in : State → Kind
+kind_in s = new_kind s.turn.core.rules.settings
 
--- One event, in which the device went from one view to the next.
-pub record Tells (Has : Kind → Type 0) (empty : Kind) (archive : List Mail) (event : Happening)
-    (old new : Seen) : Type 0 where
-  pub marks : Marks
-  pub marked : marks_of event ≡ Some marks
-  pub before : counts_of old ≡ record { mark = marks.mark_before; faults = marks.faults_before }
-  pub after : counts_of new ≡ record { mark = marks.mark_after; faults = marks.faults_after }
-  pub on : old.marks ≤ new.marks
-  pub faults : old.faults ≤ new.faults
-  pub cause : HasCause Has event marks
-  pub happened : GoesOn (Happened Has empty archive event) old.told new.told
-  pub looks : LooksOnly old.told new.told
-  pub first : IsMarked old
-  pub last : IsMarked new
+-- each event from this state on is true
+abbrev pub AllHappened : (Kind → Type 0) → Given → State → List Happening → Past → Type 0
+AllHappened Has given s [] past = Unit {0}
+AllHappened Has given s (event ∷ events) past =
+    IsTrueAt Has (kind_in s) given.mails event (marks_of event) past
+    × AllHappened Has given (after given s event) events past
 
 -- where a past is told, it stays told; where it is not, it stays untold
 abbrev pub IsTold : (Kind → Type 0) → Given → State → List Happening → Option Past → Option Past
@@ -57,37 +43,6 @@ pub record Witnessed (Has : Kind → Type 0) (given : Given) (s : State)
 -- no driver is known, of which files of commands need none
 abbrev pub Driverless : Kind → Type 0
 Driverless kind = ⊥
-
--- what the event of a file says of the pasts at its two marks
-abbrev pub FileHappened : Happening → Past → Past → Type 0
-FileHappened (FileRead path text marks) old new = (stat : Stat)
-    × WasRead (Ok (stat, text)) path old new
-FileHappened (FileRefused path why marks) old new = WasRead (Err why) path old new
-FileHappened (KeyPressed key moment) old new = ⊥
-FileHappened (FolderOpened path kind moment came marks) old new = ⊥
-FileHappened (FolderRefused path why marks) old new = ⊥
-
--- the event is that of a file, and has its cause
-abbrev pub HasFileCause : Happening → Marks → Type 0
-HasFileCause (FileRead path text kept) marks = Unit {0}
-HasFileCause (FileRefused path why kept) marks = IsReadCause why marks
-HasFileCause (KeyPressed key moment) marks = ⊥
-HasFileCause (FolderOpened path kind moment came kept) marks = ⊥
-HasFileCause (FolderRefused path why kept) marks = ⊥
-
--- One event of a file, whatever the drivers are.
-pub record TellsFile (event : Happening) (old new : Seen) : Type 0 where
-  pub marks : Marks
-  pub marked : marks_of event ≡ Some marks
-  pub before : counts_of old ≡ record { mark = marks.mark_before; faults = marks.faults_before }
-  pub after : counts_of new ≡ record { mark = marks.mark_after; faults = marks.faults_after }
-  pub on : old.marks ≤ new.marks
-  pub faults : old.faults ≤ new.faults
-  pub cause : HasFileCause event marks
-  pub happened : GoesOn (FileHappened event) old.told new.told
-  pub looks : LooksOnly old.told new.told
-  pub first : IsMarked old
-  pub last : IsMarked new
 
 -- where no file was read the device is as before
 abbrev pub OnNoFile : Result (Option Event) NoMemory → Seen → Seen → Type 0

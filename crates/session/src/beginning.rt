@@ -4,16 +4,15 @@ ghost use Rattle.std.specs.Prelude.{◌≡◌, IfOk, map};
 ghost use Rattle.mail_base.specs.Series.{plain_texts};
 ghost use Rattle.session_state.specs.Rules.{answer_line};
 ghost use Rattle.session.specs.Beginning as spec;
-ghost use Rattle.session.specs.Events.{plain_event};
-ghost use Rattle.session.specs.Opening as opening;
+ghost use Rattle.session_events.specs.Events.{plain_event};
+ghost use Rattle.session_events.specs.Opening as opening;
 
-use crate::event::{Event, OpenFault, Trace};
-use crate::open::open_event;
 use crate::session_type::Session;
 use crate::setup::{Setup, StartError};
 use disk_model::Device;
 use folder_core::{Archive, Drivers, ScanError};
 use mail_base::{Bytes, Lines, NoMemory, Words};
+use session_events::{Event, OpenFault, Trace, open_event};
 use session_state::{Rules, text_of};
 use std::alloc::Global;
 
@@ -25,11 +24,13 @@ impl Session {
     ghost use Rattle.folder_core.specs.Letters.{plain_letter};
     ghost use Rattle.session_state.specs.Frames.{plain_frames};
     ghost use Rattle.session_state.specs.Places.{folder_path, new_kind};
-    ghost use Rattle.session_state.specs.declared.desk.Stage.TheVariants.{Unopened};
+    ghost use Rattle.session_state.specs.declared.stage.Stage.TheVariants.{Unopened};
     ghost use Rattle.session.specs.Beginning.{AnswersNames, Fails, Starts};
-    ghost use Rattle.session.specs.Events.{plain_event, plain_events};
+    ghost use Rattle.session_events.specs.Events.{plain_event, plain_events};
+    ghost use Rattle.session.specs.Core.{IsEmpty, IsMoment, IsWindow};
+    ghost use Rattle.session.specs.Fitting.{Fits};
     ghost use Rattle.session.specs.Given.{Given, IsGiven};
-    ghost use Rattle.session.specs.Opening.{OpensPath};
+    ghost use Rattle.session_events.specs.Opening.{OpensPath};
     ghost use Rattle.session.specs.Runs.{State, plain_session};
     ghost use Rattle.session.specs.Starting.{first_state, plain_setup};
     ghost use Rattle.session.specs.Steps.{Sources, SourcesOff};
@@ -47,6 +48,10 @@ impl Session {
         requires archive { trace.old.archive.items ≡ [] }
         requires events { trace.old.events.items ≡ [] }
         requires notes { trace.old.notes.items ≡ [] }
+        requires window { IsWindow (plain_setup setup).window }
+        requires moment { IsMoment moment }
+        ensures fits { IfOk result
+            (λ session. Fits (map plain_letter trace.new.archive.items) session) }
         ensures ok { IfOk result (λ session. (given : Given)
             → IsGiven (map plain_letter trace.new.archive.items) trace.new.verdicts.kept given
             → Starts (λ kind. Any (λ d. sort (d.vtable, d.value) ≡ kind) drivers.now.list.items)
@@ -78,6 +83,7 @@ impl Session {
     ) -> Result<Lines, NoMemory>
         requires events { trace.old.events.items ≡ [] }
         requires notes { trace.old.notes.items ≡ [] }
+        requires window { IsWindow (plain_setup setup).window }
         ensures ok { IfOk result (λ lines. (given : Given)
             → AnswersNames given (first_state (plain_setup setup))
             (plain_events trace.new.events.items) (plain_texts names.now) (plain_texts lines)
@@ -102,6 +108,10 @@ impl Session {
     ) -> Result<(), StartError>
         requires unopened { self.old.stage ≡ Unopened }
         requires archive { trace.old.archive.items ≡ [] }
+        requires window { IsWindow self.old.window }
+        requires moment { IsMoment moment }
+        requires empty { IsEmpty self.old.core.desk.view }
+        ensures fits { OnOk result (Fits (map plain_letter trace.new.archive.items) self.new) }
         ensures ok { OnOk result ((first : State) → (before : Seen)
             → Sources first (plain_events trace.old.events.items)
             (plain_session self.old trace.old.notes) before
@@ -134,7 +144,8 @@ impl Session {
         dev: &mut Device,
         trace: &mut Trace,
     ) -> Result<Lines, NoMemory>
-        requires { self.old.stage ≡ Unopened }
+        requires unopened { self.old.stage ≡ Unopened }
+        requires window { IsWindow self.old.window }
         ensures ok { IfOk result (λ lines. (first : State) → (before : Seen)
             → Sources first (plain_events trace.old.events.items)
             (plain_session self.old trace.old.notes) before
@@ -165,6 +176,10 @@ impl Session {
         requires unopened { self.old.stage ≡ Unopened }
         requires read { plain_frames self.old.frames ≡ [] }
         requires archive { trace.old.archive.items ≡ [] }
+        requires window { IsWindow self.old.window }
+        requires moment { IsMoment moment }
+        requires empty { IsEmpty self.old.core.desk.view }
+        ensures fits { OnOk result (Fits (map plain_letter trace.new.archive.items) self.new) }
         ensures ok { OnOk result ((first : State) → (before : Seen)
             → Sources first (plain_events trace.old.events.items)
             (plain_session self.old trace.old.notes) before

@@ -1,17 +1,25 @@
 //! A session: files of commands are read, a folder is opened, and keys act, each with its event.
 //! `Session::start` comes first, then `pushed`, and for each key `check` and `key`; `screen` gives
 //! the screen. `Session::answers` reads the files alone.
+//!
+//! What keys do to a `Core`, each function and each answer to a prompt by its definition, stands
+//! under `turn`, `acting` and `answers`; `screen` shows it.
 #![tactic(auto)]
 
+mod acting;
+mod answers;
 mod beginning;
-mod event;
-mod open;
+mod core_state;
+mod moment;
+mod opening;
 mod pressing;
+mod ruling;
+mod screen;
 mod session_type;
 mod setup;
 mod source;
 mod start;
+mod turn;
 
-pub use event::{Event, Events, Marks, OpenFault, Trace};
 pub use session_type::Session;
 pub use setup::{Next, Setup, StartError};

@@ -1,7 +1,7 @@
 //! What a session starts from.
 
-use crate::event::OpenFault;
 use mail_base::{Bytes, Kind, NoMemory, Words};
+use session_events::OpenFault;
 
 /// What the words of a command line say.
 #[derive(Drop)]

@@ -1,60 +1,24 @@
-//! The reading of a file of commands, with its event.
+//! The files of commands of a session.
 
-ghost use Rattle.std.specs.Prelude.{◌≡◌};
-ghost use Rattle.session.specs.Events.{plain_event};
-ghost use Rattle.session.specs.Runs.{Source, answered};
-ghost use Rattle.session.specs.Telling.{TellsFile};
-
-use crate::event::{Event, Marks, Trace};
 use crate::session_type::Session;
 use disk_model::Device;
 use mail_base::{Bytes, NoMemory};
+use session_events::{Event, Trace, source_event};
 use session_state::text_of;
-use std::alloc::Global;
-
-/// The most bytes of a file of commands.
-const MOST_COMMANDS: u64 = 1_048_576;
-
-/// Reads the whole file, and tells what happened. The name is that of the path.
-pub fn source_event(alloc: Global, dev: &mut Device, path: &str, name: Bytes) -> Event
-    requires { name.items ≡ path.now }
-    ensures tells { TellsFile (plain_event result) (seen (dev.old.disk.vtable, dev.old.disk.value))
-        (seen (dev.new.disk.vtable, dev.new.disk.value)) }
-    ensures answers { answered (plain_event result) ≡ Source name.items }
-{
-    let mark_before = dev.mark();
-    let faults_before = dev.faults();
-    let answer = dev.read_all(alloc, path, MOST_COMMANDS);
-    let marks = Marks {
-        mark_before,
-        mark_after: dev.mark(),
-        faults_before,
-        faults_after: dev.faults(),
-    };
-    match answer {
-        Ok(file) => Event::Sourced {
-            path: name,
-            text: file.bytes,
-            marks,
-        },
-        Err(why) => Event::NotSourced {
-            path: name,
-            why,
-            marks,
-        },
-    }
-}
 
 impl Session {
     ghost use Rattle.std.specs.Prelude.{◌≡◌, [], false};
     ghost use Rattle.std.specs.Prelude.{IfOk, IfSome, MatchOption, OnOk};
     ghost use Rattle.disk_model.specs.Seen.{Seen};
-    ghost use Rattle.session.specs.Runs.{State, answered, first_wish, plain_session};
-    ghost use Rattle.session.specs.Events.{plain_event, plain_events};
+    ghost use Rattle.session.specs.Core.{IsWindow};
+    ghost use Rattle.session.specs.Runs.{State, first_wish, plain_session};
+    ghost use Rattle.session_events.specs.Wishes.{answered};
+    ghost use Rattle.session_events.specs.Events.{plain_event, plain_events};
     ghost use Rattle.session.specs.Steps.{Sources, SourcesOff};
-    ghost use Rattle.session.specs.Telling.{OnNoFile, TellsFile};
+    ghost use Rattle.session.specs.Telling.{OnNoFile};
+    ghost use Rattle.session_events.specs.Telling.{TellsFile};
     ghost use Rattle.session_state.specs.Frames.{plain_frames};
-    ghost use Rattle.session_state.specs.declared.desk.Stage.TheVariants.{Unopened};
+    ghost use Rattle.session_state.specs.declared.stage.Stage.TheVariants.{Unopened};
 
     /// Reads the file of commands that is wished, if there is one, and tells what happened.
     pub fn source(&self, dev: &mut Device) -> Result<Option<Event>, NoMemory>
@@ -76,7 +40,8 @@ impl Session {
 
     /// Reads all files of commands, each with those that it names.
     pub fn source_all(&mut self, dev: &mut Device, trace: &mut Trace) -> Result<(), NoMemory>
-        requires { self.old.stage ≡ Unopened }
+        requires unopened { self.old.stage ≡ Unopened }
+        requires window { IsWindow self.old.window }
         ensures sources { OnOk result ((first : State) → (before : Seen)
             → Sources first (plain_events trace.old.events.items)
             (plain_session self.old trace.old.notes) before
@@ -92,6 +57,8 @@ impl Session {
             (seen (dev.new.disk.vtable, dev.new.disk.value)) }
         ensures unopened { OnOk result (self.new.stage ≡ Unopened) }
         ensures read { OnOk result (plain_frames self.new.frames ≡ []) }
+        ensures view { OnOk result (self.new.core.desk.view ≡ self.old.core.desk.view) }
+        ensures window { self.new.window ≡ self.old.window }
         ensures archive { trace.new.archive ≡ trace.old.archive }
     {
         // There is an event for each file, and a trace has room for fewer.
@@ -105,7 +72,8 @@ impl Session {
 
     // Reads the file of commands that is wished and takes it in, if there is one.
     fn source_next(&mut self, dev: &mut Device, trace: &mut Trace) -> Result<bool, NoMemory>
-        requires { self.old.stage ≡ Unopened }
+        requires unopened { self.old.stage ≡ Unopened }
+        requires window { IsWindow self.old.window }
         ensures sources { OnOk result ((first : State) → (before : Seen)
             → Sources first (plain_events trace.old.events.items)
             (plain_session self.old trace.old.notes) before
@@ -121,6 +89,8 @@ impl Session {
             (seen (dev.new.disk.vtable, dev.new.disk.value)) }
         ensures unopened { OnOk result (self.new.stage ≡ Unopened) }
         ensures read { IfOk result (λ more. more ≡ false → plain_frames self.new.frames ≡ []) }
+        ensures view { OnOk result (self.new.core.desk.view ≡ self.old.core.desk.view) }
+        ensures window { self.new.window ≡ self.old.window }
         ensures archive { trace.new.archive ≡ trace.old.archive }
     {
         trace.events.reserve(1)?;

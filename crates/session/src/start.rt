@@ -1,120 +1,46 @@
 //! The first state of a session.
 
-ghost use Rattle.std.specs.Prelude.{◌≡◌, ◌++◌, map, option_map, IfOk, OnOk};
-ghost use Rattle.session_state.specs.Frames.{plain_frame, plain_frames};
-ghost use Rattle.session.specs.Starting as spec;
-
+use crate::core_state::Core;
+use crate::moment::Moment;
 use crate::session_type::Session;
 use crate::setup::Setup;
 use folder_core::Listing;
 use keymap::KeyQueue;
-use mail_base::{Bytes, Kind, Line, NoMemory, append_utf8};
-use session_state::{Core, Desk, Frame, MessageLine, Origin, Rules, Stage, Wanted};
+use mail_base::{Bytes, Kind, NoMemory};
+use session_state::{Stage, Window, first_frames};
 use std::alloc::Global;
 
 impl Session {
     ghost use Rattle.std.specs.Prelude.{◌≡◌, ℕ, [], IfOk};
+    ghost use Rattle.session.specs.Core.{IsEmpty};
     ghost use Rattle.mail_base.specs.Series.{Held};
     ghost use Rattle.session.specs.Runs.{plain_session};
     ghost use Rattle.session.specs.Starting.{first_state, plain_setup};
 
     /// What a session stands on before anything happened.
     pub fn first(alloc: Global, setup: Setup) -> Result<Session, NoMemory>
-        ensures { IfOk result (λ session. (notes : Held (Held ℕ)) → notes.items ≡ []
+        ensures state { IfOk result (λ session. (notes : Held (Held ℕ)) → notes.items ≡ []
             → plain_session session notes ≡ first_state (plain_setup setup)) }
+        ensures empty { IfOk result (λ session. IsEmpty session.core.desk.view) }
     {
-        let frames = first_frames(alloc, &setup)?;
+        let commands = setup.commands.as_slice();
+        let frames = first_frames(alloc, &setup.rc, commands, setup.kind)?;
         Ok(Session {
             alloc,
-            core: Core {
-                rules: Rules::new(alloc)?,
-                desk: Desk {
-                    cursor: 0,
-                    rows: setup.rows,
-                    cols: setup.cols,
-                    message: MessageLine::Blank,
-                },
-                wanted: Wanted::Unasked,
-            },
+            core: Core::new(alloc, setup.read_only)?,
             queue: KeyQueue::new(alloc),
             stage: Stage::Unopened,
             frames,
+            window: Window {
+                rows: setup.rows,
+                cols: setup.cols,
+                offset: setup.offset,
+            },
+            path: Bytes::new(alloc),
+            kind: Kind::Mbox,
             listing: Listing::new(alloc),
+            checked: Moment(0),
             named: setup.path,
         })
-    }
-}
-
-fn first_frames(alloc: Global, setup: &Setup) -> Result<Vec<Frame>, NoMemory>
-    ensures { IfOk result (λ frames. plain_frames frames
-        ≡ spec.first_frames (spec.plain_setup setup.now)) }
-{
-    let mut frames = Vec::new(alloc);
-    frames.push(rc_frame(alloc, &setup.rc)?)?;
-    add_typed(alloc, &mut frames, setup.commands.as_slice())?;
-    add_kind(alloc, &mut frames, setup.kind)?;
-    Ok(frames)
-}
-
-fn rc_frame(alloc: Global, rc: &Option<Bytes>) -> Result<Frame, NoMemory>
-    ensures { IfOk result (λ frame. plain_frame frame
-        ≡ spec.rc_frame (option_map (λ path. path.items) rc.now)) }
-{
-    let mut file = Line::new(alloc);
-    match rc {
-        Some(path) => {
-            append_utf8(&mut file, path.as_slice())?;
-            Ok(Frame::unread(alloc, file, Origin::Named, 0))
-        }
-        None => {
-            file.append(".muttrc")?;
-            Ok(Frame::unread(alloc, file, Origin::Default, 0))
-        }
-    }
-}
-
-fn typed_frame(alloc: Global, text: &[u8]) -> Result<Frame, NoMemory>
-    ensures { IfOk result (λ frame. plain_frame frame ≡ spec.typed_frame text.now) }
-{
-    let mut file = Line::new(alloc);
-    file.append("-e")?;
-    let mut frame = Frame::unread(alloc, file, Origin::Typed, 0);
-    frame.read(alloc, text)?;
-    Ok(frame)
-}
-
-// Adds the commands of the command line.
-fn add_typed(alloc: Global, frames: &mut Vec<Frame>, texts: &[Bytes]) -> Result<(), NoMemory>
-    ensures { OnOk result (plain_frames frames.new
-        ≡ plain_frames frames.old ++ map spec.typed_frame (map (λ text. text.items) texts.now)) }
-{
-    let mut left = texts;
-    while let Some((text, rest)) = left.split_first() {
-        frames.push(typed_frame(alloc, text.as_slice())?)?;
-        left = rest;
-    }
-    Ok(())
-}
-
-// Adds the command that sets the kind of new folders, where one is given.
-fn add_kind(alloc: Global, frames: &mut Vec<Frame>, kind: Option<Kind>) -> Result<(), NoMemory>
-    ensures { OnOk result (plain_frames frames.new
-        ≡ plain_frames frames.old ++ spec.kind_frames kind) }
-{
-    match kind {
-        Some(kind) => frames.push(typed_frame(alloc, kind_command(kind))?)?,
-        None => {}
-    }
-    Ok(())
-}
-
-fn kind_command(kind: Kind) -> &'static [u8]
-    ensures { result.now ≡ spec.kind_command kind }
-{
-    match kind {
-        Kind::Mbox => b"set mbox_type=mbox",
-        Kind::Maildir => b"set mbox_type=Maildir",
-        Kind::Mh => b"set mbox_type=MH",
-        Kind::Mmdf => b"set mbox_type=MMDF",
     }
 }

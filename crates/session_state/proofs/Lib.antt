@@ -1,5 +1,3 @@
 mod Fitting
 mod Shape
-mod KeysLemmas
 mod CommandsLemmas
-mod TurnLemmas

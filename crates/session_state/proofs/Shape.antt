@@ -1,19 +1,12 @@
--- The shape of a screen: so many lines, and none wider than the columns.
+-- The shape of a line of a screen: no wider than the columns, and without control characters.
 use Rattle.std.proofs.Common.{◌≡◌, ◌+◌, ◌-◌, ◌≤◌, ◌&&◌, ℕ, Bool, true, false, not, List, [], ◌∷◌}
-use Rattle.std.proofs.Common.{◌++◌}
-use Rattle.std.proofs.Common.{suc, cond, length, map, replicate, drop, nat_le, nat_lt, refl, ap}
-use Rattle.std.proofs.Common.{◌∙◌, arith, length-append}
+use Rattle.std.proofs.Common.{cond, map, nat_le, nat_lt, refl, ap, ◌∙◌, arith}
 use Rattle.std.proofs.lemmas.Bool.Decides.{nat_tests}
-use Rattle.std.proofs.lemmas.List.{length-replicate, length-take}
 use Rattle.std.specs.List.{list_all}
 use Rattle.std.specs.Str.{chars}
 use Rattle.unicode_width.specs.Width.{char_width}
-use Rattle.folder_core.specs.Letters.{Mail}
-use Rattle.folder_core.specs.declared.listing.Listed.{Listed}
 use Rattle.session_state.specs.Columns.{blank_in, columns_in, columns_of, fitting, is_control}
 use Rattle.session_state.specs.Columns.{shown, shown_char}
-use Rattle.session_state.specs.declared.desk.Desk.{Desk}
-use Rattle.session_state.specs.Screen.{index_rows, page, page_size, page_start, screen}
 
 -- Columns.
 
@@ -105,39 +98,3 @@ fitting_plain cols (c ∷ rest) all =
 pub shown_plain : (cols : ℕ) (text : List ℕ) → list_all (λ c. not (is_control c)) (shown cols text)
     ≡ true
 shown_plain cols text = fitting_plain cols (map shown_char (chars text)) (plain_chars (chars text))
-
--- Rows.
-
-rows-length : (archive : List Mail) (cols cursor place : ℕ) (listing : List Listed)
-    → length (index_rows archive cols cursor place listing) ≡ length listing
-rows-length archive cols cursor place [] = refl
-rows-length archive cols cursor place (listed ∷ listing) =
-    ap (λ (n : ℕ). suc n) (rows-length archive cols cursor (place + 1) listing)
-
-lines-length : (rows : List (List ℕ)) (blanks : ℕ) (status message : List ℕ)
-    → length (rows ++ replicate blanks [] ++ status ∷ message ∷ []) ≡ length rows + blanks + 2
-lines-length rows blanks status message =
-    let front = length-append (rows ++ replicate blanks []) (status ∷ message ∷ []) in
-    let filled = length-append rows (replicate blanks []) in
-    let blank : length {A = List ℕ} (replicate blanks []) ≡ blanks = length-replicate blanks [] in
-    omega (arith, front, filled, blank)
-
-page_short : (listing : List Listed) (desk : Desk) → length (page listing desk) ≤ page_size desk
-page_short listing desk = omega
-    (arith, length-take (page_size desk) (drop (page_start desk) listing))
-
-filled : (shown size rows : ℕ) → shown ≤ size → size ≡ rows - 2 → 2 ≤ rows
-    → shown + (size - shown) + 2 ≡ rows
-filled shown size rows short is tall = omega arith
-
--- the screen has exactly its rows
-pub screen_rows : (archive : List Mail) (listing : List Listed) (desk : Desk) → 6 ≤ desk.rows
-    → length (screen archive listing desk) ≡ desk.rows
-unfolding screen
-screen_rows archive listing desk tall =
-    lines-length (index_rows archive desk.cols desk.cursor (page_start desk) (page listing desk))
-    (page_size desk - length (page listing desk)) _ _
-    ∙ ap (λ (n : ℕ). n + (page_size desk - length (page listing desk)) + 2)
-    (rows-length archive desk.cols desk.cursor (page_start desk) (page listing desk))
-    ∙ filled (length (page listing desk)) (page_size desk) desk.rows (page_short listing desk) refl
-    (omega (arith, tall))

@@ -2,8 +2,8 @@ pub mod Rules
 pub mod Places
 pub mod Commands
 pub mod Frames
-pub mod Effects
-pub mod Functions
-pub mod Keys
+pub mod Beginning
 pub mod Columns
-pub mod Screen
+pub mod Tuning
+pub mod Sorting
+pub mod Formats

@@ -77,6 +77,22 @@ impl Rules {
         }
     }
 
+    /// Runs a command of `set` and its kin by the texts of its words; the words before a faulty one
+    /// stay applied.
+    pub fn set_by(&mut self, words: &Words) -> Result<(), NoMemory>
+        ensures { OnOk result (self.new ≡ record self.old {
+          settings = (outcome self.old.settings (plain_texts words.now)).values;
+        }) }
+    {
+        match self.set(words) {
+            Ok(_) => Ok(()),
+            Err(error) => match error.fault {
+                RcFault::NoMemory => Err(NoMemory),
+                _ => Ok(()),
+            },
+        }
+    }
+
     fn bind(&mut self, words: &Words) -> Result<Option<Line>, RcError>
         ensures { spec.IsRan result self.new
             (spec.bound_by (spec.bind_of (plain_texts words.now)) self.old) }

@@ -1,28 +1,31 @@
-//! What a session stands on between its events: what muttrc has set (`Rules`, `run_frames`), what
-//! keys act on (`Core`, `settle`), and the screen (`screen_lines`).
+//! What a session stands on beside the index: what muttrc has set (`Rules`, `first_frames`,
+//! `run_frames`), how the index stands by the variables (`options_of`, `format_in`), and lines cut
+//! at the columns (`cut`).
 #![tactic(auto)]
 
-mod acting;
+mod beginning;
 mod columns;
 mod commands;
-mod core_state;
-mod desk;
-mod effect;
+mod formats;
 mod frame;
 mod note;
 mod places;
 mod request;
-mod row;
 mod rules;
-mod screen;
-mod turn;
+mod sorting;
+mod stage;
+mod text;
+mod tuning;
+mod window;
 
+pub use beginning::first_frames;
+pub use columns::cut;
 pub use commands::Obeyed;
-pub use core_state::Core;
-pub use desk::{Desk, MessageLine, Stage, Wanted};
-pub use effect::{Effect, Motion};
+pub use formats::{ROW_LETTERS, STATUS_LETTERS, format_in};
 pub use frame::{Frame, Origin, read_first, run_frames, skip_first};
-pub use row::text_of;
 pub use rules::Rules;
-pub use screen::screen_lines;
-pub use turn::settle;
+pub use sorting::sort_words;
+pub use stage::Stage;
+pub use text::text_of;
+pub use tuning::{is_set, options_of};
+pub use window::Window;

@@ -48,6 +48,13 @@ impl Rules {
         })
     }
 
+    /// The variables.
+    pub fn settings(&self) -> &Settings
+        ensures { result.now ≡ self.now.settings }
+    {
+        &self.settings
+    }
+
     /// Takes the keys that commands have put.
     pub fn take_put(&mut self) -> Keys
         ensures keys { result.items ≡ self.old.put }

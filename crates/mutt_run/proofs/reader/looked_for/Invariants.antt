@@ -1,5 +1,5 @@
 use Rattle.std.proofs.Common.{◌≡◌, length}
-use Rattle.session.specs.Events.{plain_events}
+use Rattle.session_events.specs.Events.{plain_events}
 use Rattle.mutt_run.specs.Notes.{folder_in}
 use Rattle.mutt_run.proofs.reader.looked_for.Given as goal
 

@@ -1,9 +1,9 @@
 use Rattle.std.proofs.Common.{ap, refl, sym, ◌∙◌}
-use Rattle.std.proofs.lemmas.Int.{to_z-of_z}
-use Rattle.session.specs.Events.{plain_events}
+use Rattle.std.proofs.Math.Facts.{to_z-of_z}
+use Rattle.session_events.specs.Events.{plain_events}
 use Rattle.mutt_words.specs.Options.{plain_options}
-use Rattle.mutt_run.proofs.WordsLemmas.{reads_chosen, reads_driven, setup_is, task_reads}
-use Rattle.mutt_run.proofs.WordsLemmas.{task_tells, version_counts, version_reads}
+use Rattle.mutt_run.proofs.WordsLemmas.{offset_fits, reads_chosen, reads_driven, setup_is}
+use Rattle.mutt_run.proofs.WordsLemmas.{task_reads, task_tells, version_counts, version_reads}
 use Rattle.mutt_run.proofs.reader.obey.Goals as goal
 
 pub returns-then-options-clause-reads : goal.returns-then-options-clause-reads
@@ -19,7 +19,8 @@ returns-then-options-clause-faults g c =
 pub returns-then-are_asked-clause-reads : goal.returns-then-are_asked-clause-reads
 returns-then-are_asked-clause-reads g c =
     reads_driven _ c.answer.ensures.files
-    (c.answer.ensures.reads (plain_options c.args.options) (setup_is c.args.options)
+    ((rw (to_z-of_z (offset_fits c.args.options.offset c.requires.usable.offset))
+    at c.answer.ensures.reads) (plain_options c.args.options) (setup_is c.args.options)
     (task_tells c.args.options c.if-options.false
     (λ none. c.are_asked.ensures.some c.if-are_asked.true (c.as_slice.ensures ∙ none))) _ _ _)
 
@@ -28,7 +29,8 @@ returns-then-are_asked-clause-faults g c = c.answer.ensures.faults _ _
 
 pub returns-clause-reads : goal.returns-clause-reads
 returns-clause-reads g c =
-    reads_chosen (simp (to_z-of_z, c.ranges.moment)) refl
-    (c.read.ensures.reads (plain_options c.args.options) (setup_is c.args.options) refl
+    reads_chosen (simp (to_z-of_z c.ranges.moment)) refl
+    ((rw (to_z-of_z (offset_fits c.args.options.offset c.requires.usable.offset))
+    at c.read.ensures.reads) (plain_options c.args.options) (setup_is c.args.options) refl
     (task_reads c.args.options c.if-options.false
     (sym c.as_slice.ensures ∙ c.are_asked.ensures.none c.if-are_asked.false)))

@@ -1,6 +1,6 @@
 use Rattle.std.proofs.Common.{ap, refl}
 use Rattle.std.proofs.lemmas.Int.{to_z-of_z}
-use Rattle.session.specs.Events.{plain_events}
+use Rattle.session_events.specs.Events.{plain_events}
 use Rattle.mutt_run.proofs.WordsLemmas.{memory_reads, nothing_owed, owed, quiet_counts}
 use Rattle.mutt_run.proofs.WordsLemmas.{reads_chosen, usage_reads}
 use Rattle.mutt_run.proofs.reader.obey_words.Goals as goal

@@ -1,4 +1,4 @@
-use Rattle.std.proofs.Common.{arith, refl}
+use Rattle.std.proofs.Common.{refl}
 use Rattle.std.proofs.lemmas.Int.{to_z-of_z}
 use Rattle.session.proofs.GivenLemmas.{given_here}
 use Rattle.mutt_run.proofs.ReadsLemmas.{fails_fault, fails_memory, fails_refused, starts_here}
@@ -26,8 +26,3 @@ returns-in-Ok-clause-reads g c = λ o is skips task.
     c.read_on.ensures.reads o skips task _ _ _ (λ given h.
     starts_here o _ _ _ given _ _ _ _ _ (simp (to_z-of_z, c.ranges.moment)) is
     (c.in-Ok.ensures.ok given h))
-
-pub read_on-requires : goal.read_on-requires
-read_on-requires g c = record {
-  tall = omega (arith, (c.in-Ok.ensures.ok _ (given_here _ _)).rows, c.requires.tall);
-}

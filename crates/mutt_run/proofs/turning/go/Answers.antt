@@ -3,8 +3,9 @@ use Rattle.mail_base.specs.Series.{Held}
 use Rattle.mail_base.proofs.Sending.{appends_none}
 use Rattle.folder_core.specs.Letters.{plain_letter}
 use Rattle.folder_core.specs.declared.letter.Letter.{Letter}
-use Rattle.session.specs.Events.{plain_events}
-use Rattle.session.specs.declared.event.Event.{Event}
+use Rattle.session_events.specs.Events.{plain_events}
+use Rattle.session_events.specs.declared.event.Event.{Event}
+use Rattle.session.specs.Runs.{plain_session}
 use Rattle.session.proofs.GivenLemmas.{keeps_more}
 use Rattle.mutt_run.proofs.KeysLemmas.{ends_broken, ends_over, presses_none, presses_same}
 use Rattle.mutt_run.proofs.KeysLemmas.{told_same}
@@ -40,7 +41,7 @@ returns-in-Err-show-clause-ended g c = λ given is first waits.
     ended_broken _ _ c.in-Err-show.ensures.which (breaks_cut given first _ _ []
     (c.in-Ok-Go.ensures.stood given is first waits) _ _ (appends_none _) _
     (rw c.in-Ok-Go.field-0-is at c.in-Ok-Go.ensures.next)
-    (cut_given given _ _ _ _ _ is.mails_are c.in-Err-show.ensures.err))
+    (cut_given given _ (plain_session c.pushed.new.self c.pushed.new.trace.notes) _ _ is.mails_are c.in-Err-show.ensures.err))
 
 pub returns-in-Err-show-clause-pressed : goal.returns-in-Err-show-clause-pressed
 returns-in-Err-show-clause-pressed g c =
@@ -56,7 +57,8 @@ returns-clause-ended g c = λ given is first waits.
     c.press_all.ensures.ended given is first _ (goes_shown given first _ _ []
     (c.in-Ok-Go.ensures.stood given before first waits) _ _ (appends_none _) _
     (rw c.in-Ok-Go.field-0-is at c.in-Ok-Go.ensures.next)
-    (shown_given given _ _ _ _ _ before.mails_are c.in_default.ensures.ok))
+    (shown_given given _ (plain_session c.pushed.new.self c.pushed.new.trace.notes) _ _
+    before.mails_are c.in_default.ensures.ok))
 
 pub returns-clause-told : goal.returns-clause-told
 returns-clause-told g c = λ given first before seen h.

@@ -1,4 +1,4 @@
-use Rattle.std.proofs.Common.{◌∙◌, arith, ap, length, map, refl}
+use Rattle.std.proofs.Common.{◌∙◌, Err, arith, ap, length, map, refl}
 use Rattle.std.proofs.Common.{FitsSigned, w64}
 use Rattle.std.proofs.lemmas.Int.{ints as signed_arith}
 use Rattle.std.proofs.lemmas.Int.{to_z-of_z}
@@ -6,9 +6,9 @@ use Rattle.mail_base.specs.Series.{Held}
 use Rattle.folder_core.specs.Letters.{plain_letter}
 use Rattle.folder_core.specs.declared.letter.Letter.{Letter}
 use Rattle.keymap.specs.Reader.{PlainReader}
-use Rattle.session.specs.Events.{plain_events}
+use Rattle.session_events.specs.Events.{plain_events}
 use Rattle.session.proofs.GivenLemmas.{keeps_more, keeps_same, keeps_then}
-use Rattle.mutt_run.proofs.KeysLemmas.{counted_key, ends_broken, ends_fault}
+use Rattle.mutt_run.proofs.KeysLemmas.{counted_key, counts_turned, ends_broken, ends_fault}
 use Rattle.mutt_run.proofs.KeysLemmas.{ends_limit, ends_over, presses_key, presses_new}
 use Rattle.mutt_run.proofs.KeysLemmas.{presses_stop, pushed_on, told_same}
 use Rattle.mutt_run.proofs.ScreensLemmas.{ended_broken, goes_broken, goes_same}
@@ -20,7 +20,7 @@ loop-turn-init g c = record {
   presses = presses_new _ _ _ _ c.new-reader.ensures;
   count = omega (arith, ap (λ (r : PlainReader). length r.pending) c.new-reader.ensures);
   idle = c.requires.idle;
-  tall = c.requires.tall;
+  fits = c.requires.fits;
   told = λ given first before seen h. h;
   archive = refl;
   kept = keeps_same _;
@@ -43,7 +43,7 @@ loop-turn-preserved g c = record {
   count = counted_key _ _ _ _ _ _ (rw c.in-Ok-Some.field-0-is at c.in-Ok-Some.ensures.key)
       c.loop-turn.invariant.count;
   idle = rw c.in-Ok-Go.field-0-is at c.in-Ok-Go.ensures.to;
-  tall = c.in-Ok-Go.ensures.tall;
+  fits = c.in-Ok-Go.ensures.fits;
   told = λ given first before seen h. c.turn.ensures.told given first before seen
       (told_same (ap plain_events c.reserve.ensures.items)
       (c.loop-turn.invariant.told given first before seen h));
@@ -142,3 +142,8 @@ returns-in-Ok-Quit-clause-kept g c = keeps_then c.loop-turn.invariant.kept c.tur
 
 pub returns-in-Err-clause-kept : goal.returns-in-Err-clause-kept
 returns-in-Err-clause-kept g c = keeps_then c.loop-turn.invariant.kept c.turn.ensures.kept
+
+pub returns-in-Err-clause-faults : goal.returns-in-Err-clause-faults
+returns-in-Err-clause-faults g c =
+    counts_turned _ _ _ _ _ _ c.in-Err.ensures.to (λ is. c.in-Err.ensures.cause (ap Err is))
+    c.loop-turn.invariant.out c.turn.ensures.later

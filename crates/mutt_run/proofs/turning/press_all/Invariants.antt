@@ -1,11 +1,13 @@
 use Rattle.std.proofs.Common.{◌≡◌, ◌≤◌, ◌+◌, ℕ, List, Any, Option, length, map}
 use Rattle.disk_model.specs.Seen.{Seen}
 use Rattle.folder_core.specs.Letters.{plain_letter}
-use Rattle.session.specs.Events.{plain_events}
-use Rattle.session.specs.Given.{Given, IsGiven, Keeps}
+use Rattle.session_events.specs.Events.{plain_events}
+use Rattle.session.specs.Fitting.{Fits}
+use Rattle.session.specs.Given.{Given, IsGiven}
+use Rattle.patterns.specs.Causes.{Keeps}
 use Rattle.session.specs.Runs.{State, plain_session}
 use Rattle.session.specs.Telling.{Witnessed}
-use Rattle.session_state.specs.declared.desk.Stage.TheVariants.{Idle}
+use Rattle.session_state.specs.declared.stage.Stage.TheVariants.{Idle}
 use Rattle.mutt_run.specs.Going.{Goes, Presses}
 use Rattle.mutt_run.proofs.turning.press_all.Given as goal
 
@@ -24,7 +26,7 @@ invariant-loop-turn g l = record {
       (g.C.Clock.moments l.initial.clock) (g.C.Clock.moments l.clock);
   count : l._turn + length l.reader.pending ≤ l.reader.taken;
   idle : l.session.stage ≡ Idle;
-  tall : 6 ≤ l.session.core.desk.rows;
+  fits : Fits (map plain_letter l.trace.archive.items) l.session;
   told : (given : Given) → (first : State) → (before seen : Seen)
       → Witnessed (λ kind. Any (λ d.
       (goal.Driver-dyn g (d.vtable, d.value)).sort d.value ≡ kind) l.drivers.list.items)

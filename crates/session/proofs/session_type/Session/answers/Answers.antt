@@ -1,5 +1,6 @@
-use Rattle.std.proofs.Common.{[], ap, refl}
-use Rattle.session.specs.Events.{plain_events}
+use Rattle.std.proofs.Common.{[], ap, refl, subst, sym}
+use Rattle.session_events.specs.Events.{plain_events}
+use Rattle.session.specs.Core.{IsWindow}
 use Rattle.session.specs.Runs.{State, plain_session}
 use Rattle.session.specs.Starting.{first_state, plain_setup}
 use Rattle.session.proofs.BeginningLemmas.{ok_at}
@@ -14,15 +15,18 @@ returns-in_err-session-clause-sources g c =
 
 pub answer-requires : goal.answer-requires
 answer-requires g c =
-    ap (λ (s : State). s.turn.stage)
-    (c.in_ok-session.ensures (record { items = []; room = 0 }) refl)
+    let is = c.in_ok-session.ensures.state (record { items = []; room = 0 }) refl in
+    record {
+      unopened = ap (λ (s : State). s.turn.stage) is;
+      window = subst IsWindow (sym (ap (λ (s : State). s.window) is)) c.requires.window;
+    }
 
 pub returns-clause-ok : goal.returns-clause-ok
 returns-clause-ok g c =
     ok_at _ _ _ c.answer.ensures.ok (first_state (plain_setup c.args.setup)) _
     (sources_begun (first_state (plain_setup c.args.setup))
     (plain_session c.in_ok-session.session c.args.trace.now.notes) _ _
-    (c.in_ok-session.ensures c.args.trace.now.notes c.requires.notes)
+    (c.in_ok-session.ensures.state c.args.trace.now.notes c.requires.notes)
     (ap plain_events c.requires.events))
 
 pub returns-clause-sources : goal.returns-clause-sources
@@ -30,5 +34,5 @@ returns-clause-sources g c =
     c.answer.ensures.sources (first_state (plain_setup c.args.setup)) _
     (sources_begun (first_state (plain_setup c.args.setup))
     (plain_session c.in_ok-session.session c.args.trace.now.notes) _ _
-    (c.in_ok-session.ensures c.args.trace.now.notes c.requires.notes)
+    (c.in_ok-session.ensures.state c.args.trace.now.notes c.requires.notes)
     (ap plain_events c.requires.events))

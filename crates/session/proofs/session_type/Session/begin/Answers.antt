@@ -1,6 +1,7 @@
-use Rattle.std.proofs.Common.{ap, map, ◌∙◌}
+use Rattle.std.proofs.Common.{ap, map, subst, sym, ◌∙◌}
 use Rattle.std.proofs.Math.Facts.{to_z-of_z}
 use Rattle.folder_core.specs.Letters.{plain_letter}
+use Rattle.session.specs.Core.{IsEmpty}
 use Rattle.session.proofs.BeginningLemmas.{err_from, fails_early, no_memory, ok_from}
 use Rattle.session.proofs.session_type.Session.begin.Goals as goal
 
@@ -20,3 +21,7 @@ pub returns-clause-err : goal.returns-clause-err
 returns-clause-err g c =
     err_from _ _ _ _ c.in_ok-source_all.ensures.sources
     (rw (to_z-of_z c.ranges.moment) at c.open_wished.ensures.err)
+
+pub open_wished-requires-clause-empty : goal.open_wished-requires-clause-empty
+open_wished-requires-clause-empty g c =
+    subst IsEmpty (sym c.in_ok-source_all.ensures.view) c.requires.empty

@@ -1,17 +1,15 @@
-use Rattle.std.proofs.Common.{[], ap, ◌∙◌}
-use Rattle.session_state.specs.declared.desk.Stage.{Stage}
-use Rattle.session.specs.Runs.{State, plain_session, taken_at}
-use Rattle.session.proofs.StepsLemmas.{taken_rows}
+use Rattle.std.proofs.Common.{map, subst, sym}
+use Rattle.folder_core.specs.Letters.{plain_letter}
+use Rattle.index_view.specs.View.{IsOf}
+use Rattle.session.proofs.FittingLemmas.{fits_as}
 use Rattle.session.proofs.session_type.Session.check.Goals as goal
 
 pub returns-clause-ready : goal.returns-clause-ready
-returns-clause-ready g c =
-    let s : State = plain_session c.args.self.now (record { items = []; room = 0 }) in
-    ap (λ (t : State). t.turn.stage) (c.take_key.ensures (record { items = []; room = 0 }))
-    ∙ ap (λ (stage : Stage). (taken_at stage s).turn.stage) c.requires
+returns-clause-ready g c = c.take_key.ensures.stage c.requires.idle
 
-pub returns-clause-rows : goal.returns-clause-rows
-returns-clause-rows g c =
-    let s : State = plain_session c.args.self.now (record { items = []; room = 0 }) in
-    ap (λ (t : State). t.turn.core.desk.rows) (c.take_key.ensures (record { items = []; room = 0 }))
-    ∙ taken_rows s
+pub returns-clause-fits : goal.returns-clause-fits
+returns-clause-fits g c =
+    let mails = map plain_letter c.args.trace.now.archive.items in
+    fits_as mails c.args.self.now c.take_key.new.self
+    (subst (IsOf mails) (sym c.take_key.ensures.view) c.requires.fits.is_of)
+    c.take_key.ensures.window c.take_key.ensures.checked c.requires.fits

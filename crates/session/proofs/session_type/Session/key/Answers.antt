@@ -1,6 +1,6 @@
 use Rattle.std.proofs.Common.{ℤ, ap, refl, subst, sym, ◌∙◌}
 use Rattle.std.proofs.Math.Facts.{to_z-of_z}
-use Rattle.session.specs.Events.{Happening, KeyPressed}
+use Rattle.session_events.specs.Events.{Happening, KeyPressed}
 use Rattle.session.specs.Runs.{arrived, plain_session}
 use Rattle.session.specs.Steps.{IsNext}
 use Rattle.session.specs.declared.setup.Next.{Next}
@@ -20,7 +20,7 @@ returns-clause-pressed g c =
     ∙ ap (λ (m : ℤ). KeyPressed c.args.key m) (to_z-of_z c.ranges.moment) in
     key_presses c.args.key c.args.moment (plain_session c.args.self.now c.args.trace.now.notes) _ _
     _ refl (put_plain _ _ _ _ c.in_ok-push.ensures.ok is) _ _
-    (plain_session c.take-taken.new.self c.take-taken.new.notes) c.requires
+    (plain_session c.take-taken.new.self c.take-taken.new.notes) c.requires.ready
     (λ given h. c.in_ok-taken.ensures.arrived given h
     ∙ ap (λ (e : Happening). arrived given (plain_session c.args.self.now c.args.trace.now.notes) e)
     is)

@@ -3,7 +3,7 @@ use Rattle.session.specs.Runs.{plain_session}
 use Rattle.session.specs.Steps.{IsNext}
 use Rattle.session.specs.declared.setup.Next.{Next}
 use Rattle.session.proofs.BeginningLemmas.{waits_then}
-use Rattle.session.proofs.StepsLemmas.{pushed_next, pushed_rows}
+use Rattle.session.proofs.StepsLemmas.{pushed_next}
 use Rattle.session.proofs.session_type.Session.pushed.Goals as goal
 
 pub returns-clause-next : goal.returns-clause-next
@@ -12,12 +12,6 @@ returns-clause-next g c =
     (pushed_next (plain_session c.args.self.now c.args.trace.now.notes)
     (plain_session c.push_keys.new.self c.args.trace.now.notes)
     (λ given is. c.in_ok-push_keys.ensures.pushed given is c.args.trace.now.notes))
-
-pub returns-clause-rows : goal.returns-clause-rows
-returns-clause-rows g c =
-    pushed_rows (plain_session c.args.self.now c.args.trace.now.notes)
-    (plain_session c.push_keys.new.self c.args.trace.now.notes)
-    (λ given is. c.in_ok-push_keys.ensures.pushed given is c.args.trace.now.notes)
 
 pub returns-clause-stood : goal.returns-clause-stood
 returns-clause-stood g c given is first waits =

@@ -1,4 +1,5 @@
-use Rattle.std.proofs.Common.{refl, ◌∙◌}
+use Rattle.std.proofs.Common.{refl, subst, sym, ◌∙◌}
+use Rattle.session.specs.Core.{IsWindow}
 use Rattle.session.specs.Runs.{plain_session}
 use Rattle.session.proofs.StepsLemmas.{sources_off}
 use Rattle.session.proofs.session_type.Session.source_all.Goals as goal
@@ -10,6 +11,8 @@ returns-in_err-source_next-clause-off g c first before sources =
 pub loop-turn-preserved : goal.loop-turn-preserved
 loop-turn-preserved g c = record {
   unopened = c.in_ok-source_next.ensures.unopened;
+  view = c.in_ok-source_next.ensures.view ∙ c.loop-turn.invariant.view;
+  window = c.source_next.ensures.window ∙ c.loop-turn.invariant.window;
   archive = c.source_next.ensures.archive ∙ c.loop-turn.invariant.archive;
   sources = λ first before sources.
       c.in_ok-source_next.ensures.sources first before
@@ -29,3 +32,22 @@ pub returns-clause-off : goal.returns-clause-off
 returns-clause-off g c first before sources =
     sources_off first (plain_session c.loop-turn.self c.loop-turn.trace.notes) _ _ before _ _ refl
     refl (c.loop-turn.invariant.sources first before sources)
+
+pub source_next-requires-clause-window : goal.source_next-requires-clause-window
+source_next-requires-clause-window g c =
+    subst IsWindow (sym c.loop-turn.invariant.window) c.requires.window
+
+pub returns-in_err-source_next-clause-window : goal.returns-in_err-source_next-clause-window
+returns-in_err-source_next-clause-window g c =
+    c.source_next.ensures.window ∙ c.loop-turn.invariant.window
+
+pub returns-then-not-branch-clause-view : goal.returns-then-not-branch-clause-view
+returns-then-not-branch-clause-view g c =
+    c.in_ok-source_next.ensures.view ∙ c.loop-turn.invariant.view
+
+pub returns-then-not-branch-clause-window : goal.returns-then-not-branch-clause-window
+returns-then-not-branch-clause-window g c =
+    c.source_next.ensures.window ∙ c.loop-turn.invariant.window
+
+pub returns-clause-window : goal.returns-clause-window
+returns-clause-window g c = c.loop-turn.invariant.window

@@ -1,14 +1,16 @@
 use Rattle.std.proofs.Common.{◌≡◌}
 use Rattle.disk_model.specs.Seen.{Seen}
-use Rattle.session.specs.Events.{plain_events}
+use Rattle.session_events.specs.Events.{plain_events}
 use Rattle.session.specs.Runs.{State, plain_session}
 use Rattle.session.specs.Steps.{Sources}
-use Rattle.session_state.specs.declared.desk.Stage.TheVariants.{Unopened}
+use Rattle.session_state.specs.declared.stage.Stage.TheVariants.{Unopened}
 use Rattle.session.proofs.session_type.Session.source_all.Given as goal
 
 abbrev pub invariant-loop-turn : goal.invariant-loop-turn
 invariant-loop-turn g l = record {
   unopened : l.self.stage ≡ Unopened;
+  view : l.self.core.desk.view ≡ l.fn.self.core.desk.view;
+  window : l.self.window ≡ l.fn.self.window;
   archive : l.trace.archive ≡ l.fn.trace.archive;
   sources : (first : State) → (before : Seen)
       → Sources first (plain_events l.fn.trace.events.items)

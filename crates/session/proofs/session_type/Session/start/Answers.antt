@@ -1,10 +1,11 @@
-use Rattle.std.proofs.Common.{[], ap, map, refl, ◌∙◌}
+use Rattle.std.proofs.Common.{[], ap, map, refl, subst, sym, ◌∙◌}
 use Rattle.std.proofs.Math.Facts.{to_z-of_z}
 use Rattle.folder_core.specs.Letters.{plain_letter}
-use Rattle.session.specs.Events.{plain_events}
+use Rattle.session_events.specs.Events.{plain_events}
+use Rattle.session.specs.Core.{IsWindow}
 use Rattle.session.specs.Runs.{State, plain_session}
 use Rattle.session.specs.Starting.{first_state, plain_setup}
-use Rattle.session.proofs.BeginningLemmas.{fails_early, if_error, no_memory}
+use Rattle.session.proofs.BeginningLemmas.{fails_early, if_error, no_answer, no_memory}
 use Rattle.session.proofs.StepsLemmas.{sources_begun, sources_off}
 use Rattle.session.proofs.session_type.Session.start.Goals as goal
 
@@ -18,11 +19,15 @@ returns-in_err-session-clause-err g c =
     (first_state (plain_setup c.args.setup)) _ _ refl (ap plain_events c.requires.events))))
 
 pub begin-requires : goal.begin-requires
-begin-requires g c = record {
-  unopened = ap (λ (s : State). s.turn.stage)
-      (c.in_ok-session.ensures (record { items = []; room = 0 }) refl);
-  archive = c.requires.archive;
-}
+begin-requires g c =
+    let is = c.in_ok-session.ensures.state (record { items = []; room = 0 }) refl in
+    record {
+      unopened = ap (λ (s : State). s.turn.stage) is;
+      archive = c.requires.archive;
+      window = subst IsWindow (sym (ap (λ (s : State). s.window) is)) c.requires.window;
+      moment = rw (to_z-of_z c.ranges.moment) c.requires.moment;
+      empty = c.in_ok-session.ensures.empty;
+    }
 
 pub returns-in_err-begin-clause-err : goal.returns-in_err-begin-clause-err
 returns-in_err-begin-clause-err g c =
@@ -31,7 +36,7 @@ returns-in_err-begin-clause-err g c =
     (first_state (plain_setup c.args.setup)) _
     (sources_begun (first_state (plain_setup c.args.setup))
     (plain_session c.in_ok-session.session c.args.trace.now.notes) _ _
-    (c.in_ok-session.ensures c.args.trace.now.notes c.requires.notes)
+    (c.in_ok-session.ensures.state c.args.trace.now.notes c.requires.notes)
     (ap plain_events c.requires.events)))
 
 pub returns-clause-ok : goal.returns-clause-ok
@@ -40,5 +45,13 @@ returns-clause-ok g c =
     (first_state (plain_setup c.args.setup)) _
     (sources_begun (first_state (plain_setup c.args.setup))
     (plain_session c.in_ok-session.session c.args.trace.now.notes) _ _
-    (c.in_ok-session.ensures c.args.trace.now.notes c.requires.notes)
+    (c.in_ok-session.ensures.state c.args.trace.now.notes c.requires.notes)
     (ap plain_events c.requires.events))
+
+pub returns-in_err-begin-clause-fits : goal.returns-in_err-begin-clause-fits
+returns-in_err-begin-clause-fits g c =
+    no_answer c.from_residual-in_err-begin.result _ _ c.from_residual-in_err-begin.ensures.1
+
+pub returns-in_err-begin-clause-ok : goal.returns-in_err-begin-clause-ok
+returns-in_err-begin-clause-ok g c =
+    no_answer c.from_residual-in_err-begin.result _ _ c.from_residual-in_err-begin.ensures.1

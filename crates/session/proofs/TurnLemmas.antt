@@ -1,0 +1,135 @@
+-- How the loop over keys that wait goes on behind one press.
+use Rattle.std.proofs.Common.{◌≡◌, ◌+◌, ◌-◌, ◌*◌, ◌^◌, ◌<◌, ◌≤◌, ℕ, zero, suc, List, [], ◌∷◌}
+use Rattle.std.proofs.Common.{Option, Some, None, is_some, true, false, length}
+use Rattle.std.proofs.Common.{refl, sym, ◌∙◌, ap, subst, arith, inl, inr}
+use Rattle.keymap.specs.Press.{Pressed, pressed_queue}
+use Rattle.keymap.specs.Queue.{PlainQueue}
+use Rattle.keymap.specs.declared.key.Key.{Key}
+use Rattle.keymap.specs.declared.menu.Menu.TheVariants.{Index}
+use Rattle.keymap.specs.declared.press.Press.{Press}
+use Rattle.session_index.specs.Desk.{PlainWanted}
+use Rattle.session_state.specs.Commands.{IsPressed}
+use Rattle.session_state.specs.Rules.{PlainRules}
+use Rattle.session.specs.Acting.{acted, prompted}
+use Rattle.session.specs.Answers.{granted}
+use Rattle.session.specs.Core.{CoreState, Ground}
+use Rattle.session.specs.Keys.{Steps, behind, run_keys, settled, stage_after, stop_by, stopped}
+use Rattle.session.specs.Keys.{turn_of, with_begun}
+use Rattle.session_state.specs.declared.stage.Stage.{Stage}
+use Rattle.session_state.specs.declared.stage.Stage.TheVariants.{Idle}
+use Rattle.session.proofs.KeysLemmas.{IsLess, by_pressed, less_is, press_is, type_is}
+
+abbrev answered : Press → PlainRules → PlainQueue → Pressed
+answered press rules queue =
+    record {
+      press = press;
+      begun = rules.keymap.begun;
+      waiting = queue.items;
+      replaced =
+          queue.replaced;
+    }
+
+-- A press took the core and the queue to others.
+module _ (g : Ground) (core next : CoreState) (rules : PlainRules) (queue queue' : PlainQueue)
+    (press : Press)
+    (few : queue.replaced ≤ 1024) (none : core.desk.prompt ≡ None)
+    (is : IsPressed press core.rules rules queue queue')
+    (acts : next ≡ acted g press (record core { rules = rules })) where
+  core_is : with_begun rules.keymap.begun core ≡ record core { rules = rules }
+  core_is = ap (λ (r : PlainRules). let c : CoreState = record core { rules = r } in c) (sym is.same)
+
+  settled_is : settled g core queue
+      ≡ stop_by (stage_after press next.desk.wanted) queue'.replaced queue'.items
+      (run_keys g (1024 - queue'.replaced) queue'.replaced queue'.items) next
+  settled_is =
+      let most : 1024 - queue.replaced + queue.replaced ≡ 1024 = omega arith in
+      press_is g (1024 - queue.replaced) queue.replaced queue.items core none
+      ∙ ap (λ (n : ℕ). by_pressed g n (pressed_queue core.rules.keymap Index queue) core) most
+      ∙ ap (λ (p : Pressed). by_pressed g 1024 p core) (sym is.outcome)
+      ∙ ap (λ (c : CoreState). behind g press queue'.replaced queue'.items
+      (run_keys g (1024 - queue'.replaced) queue'.replaced queue'.items) c) core_is
+      ∙ ap (λ (c : CoreState). stop_by (stage_after press c.desk.wanted) queue'.replaced queue'.items
+      (run_keys g (1024 - queue'.replaced) queue'.replaced queue'.items) c) (sym acts)
+
+  -- the keys stop
+  stops_at : (stage : Stage) (last : CoreState) → stage_after press next.desk.wanted ≡ Some stage → last
+      ≡ granted next
+      → turn_of stage last queue' ≡ settled g core queue
+  stops_at stage last stops grants =
+      ap (λ (c : CoreState). turn_of stage c queue') grants
+      ∙ sym (settled_is ∙ ap (λ (o : Option Stage). stop_by o queue'.replaced queue'.items
+      (run_keys g (1024 - queue'.replaced) queue'.replaced queue'.items) next) stops)
+
+  -- the keys go on
+  goes_on : stage_after press next.desk.wanted ≡ None → settled g next queue'
+      ≡ settled g core queue
+  goes_on goes =
+      sym (settled_is ∙ ap (λ (o : Option Stage). stop_by o queue'.replaced queue'.items
+      (run_keys g (1024 - queue'.replaced) queue'.replaced queue'.items) next) goes)
+
+  pub steps_stop : (o : Option Stage) (last : CoreState) → is_some o ≡ true
+      → o ≡ stage_after press next.desk.wanted → last ≡ granted next
+      → Steps o g core last queue queue'
+  steps_stop (Some stage) last some at grants = stops_at stage last (sym at) grants
+  steps_stop None last some at grants = absurd (cc)
+
+  pub steps_on : (o : Option Stage) → is_some o ≡ false
+      → o ≡ stage_after press next.desk.wanted → Steps o g core next queue queue'
+  steps_on (Some stage) none at = absurd (cc)
+  steps_on None none at = goes_on (sym at)
+
+-- the prompt that stands took the first key
+pub typed_on : (g : Ground) (core next : CoreState) (queue queue' : PlainQueue) (key : Key)
+    → ¬ (core.desk.prompt ≡ None) → queue.items ≡ key ∷ queue'.items
+    → queue'.replaced ≡ queue.replaced → next ≡ prompted g key core
+    → settled g next queue' ≡ settled g core queue
+typed_on g core next queue queue' key some items replaced acts =
+    ap (λ (c : CoreState). settled g c queue') acts
+    ∙ ap (λ (n : ℕ). run_keys g (1024 - n) n queue'.items (prompted g key core)) replaced
+    ∙ type_is g (1024 - queue.replaced) queue.replaced key queue'.items core some
+    ∙ ap (λ (keys : List Key). run_keys g (1024 - queue.replaced) queue.replaced keys core)
+    (sym items)
+
+none_left : (g : Ground) (left replaced : ℕ) (c : CoreState)
+    → run_keys g left replaced [] c ≡ stopped Idle replaced [] c
+unfolding run_keys
+none_left g zero replaced c = refl
+none_left g (suc left) replaced c = refl
+
+none_in : (keys : List Key) → length keys ≡ 0 → keys ≡ []
+none_in [] h = refl
+none_in (key ∷ keys) h = absurd (omega (arith, h))
+
+-- no key waits any more
+pub none_waits : (g : Ground) (core last : CoreState) (queue : PlainQueue)
+    → length queue.items ≡ 0
+    → last ≡ granted core → turn_of Idle last queue ≡ settled g core queue
+none_waits g core last queue empty grants =
+    let none : queue.items ≡ [] = none_in queue.items empty in
+    ap (λ (c : CoreState). turn_of Idle c queue) grants
+    ∙ ap (λ (keys : List Key). stopped Idle queue.replaced keys core) none
+    ∙ sym (ap (λ (keys : List Key). run_keys g (1024 - queue.replaced) queue.replaced keys
+    core) none
+    ∙ none_left g (1024 - queue.replaced) queue.replaced core)
+
+module _ (wanted : PlainWanted) (old new : PlainRules) (queue queue' : PlainQueue) (press : Press)
+    (few : queue.replaced ≤ 1024) (is : IsPressed press old new queue queue') where
+  less : IsLess wanted (1024 - queue.replaced) queue.replaced queue.items
+      (answered press new queue')
+  less = subst (λ (p : Pressed). IsLess wanted (1024 - queue.replaced) queue.replaced queue.items p)
+      (sym is.outcome)
+      (less_is wanted old.keymap (1024 - queue.replaced) queue.replaced old.keymap.begun
+      queue.items)
+
+  pub still_few : queue'.replaced ≤ 1024
+  still_few = omega (arith, less.within)
+
+  pub falls : stage_after press wanted ≡ None → length queue'.items < 2 ^ 64
+      → (1024 - queue'.replaced) * 2 ^ 64 + length queue'.items < (1024 - queue.replaced) * 2 ^ 64 +
+      length queue.items
+  falls goes short =
+      elim (less.less goes) [
+        | inl e ↦ omega (arith, e.0, e.1)
+        | inr e ↦ omega
+            (arith, e, less.within)
+      ]

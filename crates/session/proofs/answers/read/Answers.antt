@@ -1,0 +1,49 @@
+use Rattle.std.proofs.Common.{◌∙◌, FitsSigned, List, Some, ap, arith, sym, w32, w64, ℕ, ℤ}
+use Rattle.jiff_core.proofs.SignedLemmas.{signed_arith}
+use Rattle.std.proofs.lemmas.Int.{to_z-of_z}
+use Rattle.std.specs.Prelude.{option_map}
+use Rattle.index_view.specs.Limit.{PlainLimit}
+use Rattle.patterns_match.specs.Pattern.{pattern_tree}
+use Rattle.patterns_match.specs.Trees.{Tree}
+use Rattle.session.specs.Days.{reading}
+use Rattle.session.proofs.ReadingLemmas.{no_reading, reads_as}
+use Rattle.session.proofs.answers.read.Goals as goal
+
+pub returns-in-Ok-clause-read : goal.returns-in-Ok-clause-read
+returns-in-Ok-clause-read g c = λ later keeps.
+    let west = c.requires.window.west in
+    let east = c.requires.window.east in
+    let moment : FitsSigned w64 c.args.moment.0 = omega (arith, signed_arith) in
+    let offset : FitsSigned w32 c.args.window.offset = omega (arith, signed_arith) in
+    let same = simp to_z-of_z at c.in-Ok.ensures.offset in
+    let read = simp to_z-of_z at c.in-Ok.ensures.reads in
+    ap (λ (offset : ℤ). let limit : PlainLimit = record {
+      tree = pattern_tree c.in-Ok.pattern;
+      offset = offset;
+    } in Some limit) same
+    ∙ sym (ap (option_map (λ (tree : Tree). let limit : PlainLimit = record {
+      tree = tree;
+      offset = c.args.window.offset;
+    } in limit))
+    (ap (λ (text : List ℕ). reading later c.args.moment.0 c.args.window.offset text)
+    (sym c.as_slice.ensures.bytes)
+    ∙ reads_as _ _ _ _ _ _ _ _ read later keeps))
+
+pub returns-in-Err : goal.returns-in-Err
+returns-in-Err g c = record { keeps = c.in-Err.ensures.reads.read.judges.keeps; read = tt }
+
+pub returns-in-Err-2-clause-read : goal.returns-in-Err-2-clause-read
+returns-in-Err-2-clause-read g c = λ later keeps.
+    let west = c.requires.window.west in
+    let east = c.requires.window.east in
+    let moment : FitsSigned w64 c.args.moment.0 = omega (arith, signed_arith) in
+    let offset : FitsSigned w32 c.args.window.offset = omega (arith, signed_arith) in
+    let read = simp to_z-of_z at c.in-Err.ensures.reads in
+    sym (ap (option_map (λ (tree : Tree). let limit : PlainLimit = record {
+      tree = tree;
+      offset = c.args.window.offset;
+    } in limit))
+    (ap (λ (text : List ℕ). reading later c.args.moment.0 c.args.window.offset text)
+    (sym c.as_slice.ensures.bytes)
+    ∙ no_reading _ c.in-Err.error (reads_as _ _ _ _ _ _ _ _ read later keeps)
+    (sym c.is_memory.ensures ∙ c.if-is_memory.false)))

@@ -1,0 +1,20 @@
+use Rattle.std.proofs.Common.{◌∙◌, Option, ap, map, subst, sym}
+use Rattle.std.proofs.lemmas.Result.{on_ok_weaker}
+use Rattle.std.specs.Prelude.{option_map}
+use Rattle.folder_core.specs.Letters.{plain_letter}
+use Rattle.index_view.specs.Limit.{PlainLimit, plain_limit}
+use Rattle.index_view.specs.View.{IsOf}
+use Rattle.session.specs.Answers.{pattern_answered}
+use Rattle.session.specs.Core.{plain_core}
+use Rattle.session.proofs.core_state.Core.read_text.Goals as goal
+
+pub returns-in-None-clause-core : goal.returns-in-None-clause-core
+returns-in-None-clause-core g c =
+    let mails = map plain_letter c.args.archive.now.items in
+    on_ok_weaker c.refuse_pattern.result (λ is later keeps. record {
+      is_of = subst (IsOf mails) (sym c.refuse_pattern.ensures.view) c.requires.is_of;
+      same = is ∙ ap (λ (o : Option PlainLimit). pattern_answered mails c.args.asking
+          c.args.text.items o (plain_core c.args.self.now))
+          (ap (option_map plain_limit) (sym c.in-None.is)
+          ∙ c.in_ok-pattern.ensures.read later keeps);
+    }) c.refuse_pattern.ensures.core

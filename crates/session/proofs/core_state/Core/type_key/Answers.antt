@@ -1,0 +1,8 @@
+use Rattle.std.proofs.Common.{map, subst, sym}
+use Rattle.folder_core.specs.Letters.{plain_letter}
+use Rattle.index_view.specs.View.{IsOf}
+use Rattle.session.proofs.core_state.Core.type_key.Goals as goal
+
+pub heed-requires-clause-is_of : goal.heed-requires-clause-is_of
+heed-requires-clause-is_of g c = subst (IsOf (map plain_letter c.args.archive.now.items))
+    (sym c.type_key.ensures.view) c.requires.is_of

@@ -1,0 +1,26 @@
+use Rattle.std.proofs.Common.{◌∙◌, FitsSigned, ap, arith, map, subst, sym, w64}
+use Rattle.std.proofs.Math.Facts.{to_z-of_z}
+use Rattle.jiff_core.proofs.SignedLemmas.{signed_arith}
+use Rattle.std.proofs.lemmas.Result.{on_ok_weaker}
+use Rattle.folder_core.specs.Letters.{plain_letter}
+use Rattle.index_view.specs.View.{IsOf}
+use Rattle.session_events.specs.Events.{plain_event}
+use Rattle.session_events.specs.declared.event.Event.{Event}
+use Rattle.session.specs.Runs.{arrived, plain_session, typed}
+use Rattle.session.proofs.session_type.Session.take.Goals as goal
+
+pub type_in-requires-clause-is_of : goal.type_in-requires-clause-is_of
+type_in-requires-clause-is_of g c =
+    subst (IsOf (map plain_letter c.args.archive.now.items)) (sym c.take_key.ensures.view)
+    (rw c.in-Pressed.is at c.requires.fits).0
+
+pub returns-in-Pressed-clause-arrived : goal.returns-in-Pressed-clause-arrived
+returns-in-Pressed-clause-arrived g c =
+    let now = (rw c.in-Pressed.is at c.requires.fits).1 in
+    let fits : FitsSigned w64 c.in-Pressed.moment =
+    omega (arith, signed_arith, now.low, now.high) in
+    on_ok_weaker c.type_in.result (λ types given is. types given is c.args.notes.now
+    ∙ ap (typed given c.in-Pressed.key c.in-Pressed.moment)
+    (c.take_key.ensures.taken c.args.notes.now)
+    ∙ ap (λ (e : Event). arrived given (plain_session c.args.self.now c.args.notes.now)
+    (plain_event e)) (sym c.in-Pressed.is)) (rw (to_z-of_z fits) at c.type_in.ensures.typed)

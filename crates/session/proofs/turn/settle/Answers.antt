@@ -1,0 +1,40 @@
+use Rattle.std.proofs.Common.{◌∙◌, arith, map, subst, sym}
+use Rattle.folder_core.specs.Letters.{plain_letter}
+use Rattle.index_view.specs.View.{IsOf}
+use Rattle.session.specs.Core.{ground_of, plain_core}
+use Rattle.session.proofs.GivenLemmas.{keeps_then}
+use Rattle.session.proofs.TurnLemmas.{none_waits}
+use Rattle.session.proofs.turn.settle.Goals as goal
+
+pub returns-in-Some-clause-keeps : goal.returns-in-Some-clause-keeps
+returns-in-Some-clause-keeps g c =
+    keeps_then c.loop-waiting.invariant.keeps c.go_on.ensures.keeps
+
+pub returns-in-Some-clause-settled : goal.returns-in-Some-clause-settled
+returns-in-Some-clause-settled g c = λ later keeps.
+    (rw c.in-Some.is at c.in_ok-go_on.ensures.steps) later keeps
+    ∙ c.loop-waiting.invariant.went later (keeps_then c.go_on.ensures.keeps keeps)
+
+pub loop-waiting-preserved : goal.loop-waiting-preserved
+loop-waiting-preserved g c = record {
+  keeps = keeps_then c.loop-waiting.invariant.keeps c.go_on.ensures.keeps;
+  is_of = c.in_ok-go_on.ensures.is_of;
+  went = λ later keeps. (rw c.in-None.is at c.in_ok-go_on.ensures.steps) later keeps
+      ∙ c.loop-waiting.invariant.went later (keeps_then c.go_on.ensures.keeps keeps);
+  waits = c.len-waiting-in-loop-waiting.ensures;
+  few = c.in_ok-go_on.ensures.few;
+}
+
+pub returns-clause-is_of : goal.returns-clause-is_of
+returns-clause-is_of g c =
+    subst (IsOf (map plain_letter c.args.archive.now.items)) (sym c.grant.ensures.view)
+    c.loop-waiting.invariant.is_of
+
+pub returns-clause-settled : goal.returns-clause-settled
+returns-clause-settled g c = λ later keeps.
+    none_waits (ground_of (map plain_letter c.args.archive.now.items) later c.args.window
+    c.args.moment.0) (plain_core c.loop-waiting.core) (plain_core c.grant.new.self)
+    c.loop-waiting.queue
+    (omega (arith, c.loop-waiting-test.false, c.loop-waiting.invariant.waits))
+    c.grant.ensures.core
+    ∙ c.loop-waiting.invariant.went later keeps

@@ -1,0 +1,107 @@
+-- What answers to prompts do (Mutt's manual, "Functions").
+use Rattle.std.specs.Prelude.{◌==◌, ◌||◌, ◌++◌, ℕ, ℤ, Bool, true, false, List, Option, None}
+use Rattle.std.specs.Prelude.{Some, codes, length, option_map, if◌then◌else◌}
+use Rattle.std.specs.Str.{bytes_eq}
+use Rattle.folder_core.specs.Letters.{Mail}
+use Rattle.index_view.specs.Limit.{PlainLimit}
+use Rattle.patterns.specs.declared.pattern_error.PatternError.{PatternError}
+use Rattle.patterns.specs.declared.pattern_error.PatternError.TheVariants as error
+use Rattle.people.specs.Judged.{PlainJudged}
+use Rattle.prompts.specs.declared.asking.Asking.{Asking}
+use Rattle.prompts.specs.declared.asking.Asking.TheVariants as asking
+use Rattle.rc_lang.specs.Settings.{outcome}
+use Rattle.rc_lang.specs.Values.{PlainValue}
+use Rattle.session_index.specs.Answering.{answered, chosen, limited}
+use Rattle.session_index.specs.Desk.{PlainWanted, ToAnswer, ToChoose, ToEnd, Unasked}
+use Rattle.session_index.specs.Opening.{tuned as tuned_desk}
+use Rattle.session.specs.Core.{CoreState, Ground, with_desk}
+use Rattle.session.specs.Days.{reading}
+use Rattle.session.specs.Rules.{rule_of}
+use Rattle.session_state.specs.Sorting.{sort_words}
+use Rattle.session_state.specs.Tuning.{options_of}
+use Rattle.session_state.specs.declared.window.Window.{Window}
+
+-- Patterns.
+
+-- a text takes the limit away
+abbrev pub is_no_limit : List ℕ → Bool
+is_no_limit text = (length text == 0) || bytes_eq text (codes "all")
+
+abbrev pub bad_pattern : List ℕ → CoreState → CoreState
+bad_pattern text c = with_desk (record c.desk { message = codes "bad pattern: " ++ text }) c
+
+-- the text of a limit is kept for the status line
+abbrev pub limit_kept : Asking → List ℕ → CoreState → CoreState
+limit_kept asking.Limit text c = record c { limit = Some text }
+limit_kept _ text c = c
+
+-- a text that is this pattern, or none, is answered
+abbrev pub pattern_answered : List Mail → Asking → List ℕ → Option PlainLimit → CoreState
+    → CoreState
+pattern_answered mails asking text None c = bad_pattern text c
+pattern_answered mails asking text (Some pattern) c =
+    limit_kept asking text (with_desk (answered mails asking pattern c.desk) c)
+
+abbrev pub without_limit : List Mail → CoreState → CoreState
+without_limit mails c = record c { desk = limited mails None c.desk; limit = None }
+
+-- the pattern that a text is by these verdicts, at a moment
+abbrev pub reading_of : List PlainJudged → Window → ℤ → List ℕ → Option PlainLimit
+reading_of verdicts window moment text = option_map
+    (λ tree. record { tree = tree; offset = window.offset })
+    (reading verdicts moment window.offset text)
+
+abbrev pub text_read : Ground → Asking → List ℕ → CoreState → CoreState
+text_read g asking text c = pattern_answered g.given.mails asking text
+    (reading_of g.given.verdicts g.window g.moment text) c
+
+abbrev pub limit_answered : Ground → List ℕ → CoreState → CoreState
+limit_answered g text c =
+    if is_no_limit text then without_limit g.given.mails c else text_read g asking.Limit text c
+
+abbrev pub text_answered : Ground → Asking → List ℕ → CoreState → CoreState
+text_answered g asking.Limit text c = limit_answered g text c
+text_answered g asking text c = text_read g asking text c
+
+-- Orders.
+
+-- the index as the variables have it now
+abbrev pub tuned : List Mail → CoreState → CoreState
+tuned mails c = with_desk (tuned_desk mails (options_of c.rules.settings) c.desk) c
+
+abbrev pub with_settings : List PlainValue → CoreState → CoreState
+with_settings values c = record c { rules = record c.rules { settings = values } }
+
+-- `$sort` is set, and the index stands by it
+abbrev pub sorted : List Mail → Bool → ℕ → CoreState → CoreState
+sorted mails reversed key c =
+    tuned mails (with_settings (outcome c.rules.settings (sort_words reversed key)).values c)
+
+abbrev pub choice_made : List Mail → Window → Asking → ℕ → CoreState → CoreState
+choice_made mails window asking.Sort key c = sorted mails false key c
+choice_made mails window asking.ReverseSort key c = sorted mails true key c
+choice_made mails window asking key c =
+    with_desk (chosen (rule_of c.rules.settings window) mails asking key c.desk) c
+
+-- What keys want of the outside.
+
+-- what was wanted is taken up
+abbrev pub granted : CoreState → CoreState
+granted c = with_desk (record c.desk { wanted = Unasked }) c
+
+abbrev pub heeded_by : Ground → PlainWanted → CoreState → CoreState
+heeded_by g Unasked c = c
+heeded_by g ToEnd c = c
+heeded_by g (ToAnswer asking text) c = text_answered g asking text (granted c)
+heeded_by g (ToChoose asking key) c = choice_made g.given.mails g.window asking key (granted c)
+
+-- an answer to a prompt is taken up; only an end is still wanted then
+abbrev pub heeded : Ground → CoreState → CoreState
+heeded g c = heeded_by g c.desk.wanted c
+
+-- For the code alone.
+
+-- memory is in the way of a pattern
+abbrev pub is_memory : PatternError → Bool
+is_memory error.NoMemory = true
+is_memory _ = false

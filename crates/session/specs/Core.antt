@@ -1,0 +1,87 @@
+-- What keys act on, and what they are lent.
+use Rattle.std.specs.Prelude.{◌≡◌, ◌≤◌, ◌≤ℤ◌, ℕ, ℤ, pos, neg_ℤ, Bool, false, List, [], Option}
+use Rattle.std.specs.Prelude.{None, option_map}
+use Rattle.folder_core.specs.Letters.{Mail}
+use Rattle.index_view.specs.View.{IsOf, PlainView, first_view}
+use Rattle.people.specs.People.{no_people}
+use Rattle.people.specs.Judged.{PlainJudged}
+use Rattle.session_index.specs.Desk.{PlainDesk, Unasked, plain_desk}
+use Rattle.session_index.specs.Index.{index_of}
+use Rattle.session_index.specs.Effects.{said as said_on}
+use Rattle.session_index.specs.declared.notice.Notice.{Notice}
+use Rattle.session_state.specs.Rules.{PlainRules, first_rules}
+use Rattle.session_state.specs.Tuning.{options_of}
+use Rattle.session.specs.Given.{Given, given_of}
+use Rattle.session.specs.declared.core_state.Core.{Core}
+use Rattle.session_state.specs.declared.window.Window.{Window}
+
+-- what muttrc has set, what the index shows, and the text of its limit
+pub record CoreState : Type 0 where
+  pub rules : PlainRules
+  pub desk : PlainDesk
+  pub limit : Option (List ℕ)
+
+abbrev pub plain_core : Core → CoreState
+plain_core core = record {
+  rules = core.rules;
+  desk = plain_desk core.desk;
+  limit = option_map (λ text. text.items) core.limit;
+}
+
+-- before a muttrc is read and a folder is open
+abbrev pub first_core : Bool → CoreState
+first_core read_only = record {
+  rules = first_rules;
+  desk = record {
+    index = index_of (first_view (options_of first_rules.settings) no_people []);
+    message = [];
+    prompt = None;
+    search = None;
+    prefix = false;
+    read_only = read_only;
+    wanted = Unasked;
+  };
+  limit = None;
+}
+
+-- a core that is this one, over these letters
+pub record Stands (mails : List Mail) (wanted : CoreState) (core : Core) : Type 0 where
+  pub is_of : IsOf mails core.desk.view
+  pub same : plain_core core ≡ wanted
+
+-- an index without messages, which is of all letters
+pub record IsEmpty (view : PlainView) : Type 0 where
+  pub none : view.items ≡ []
+  pub is_of : (mails : List Mail) → IsOf mails view
+
+-- what keys are lent: letters and verdicts, the window, and the moment at which they act
+pub record Ground : Type 0 where
+  pub given : Given
+  pub window : Window
+  pub moment : ℤ
+
+abbrev pub with_desk : PlainDesk → CoreState → CoreState
+with_desk d c = record c { desk = d }
+
+-- the last line says this
+abbrev pub said : Notice → CoreState → CoreState
+said notice c = with_desk (said_on notice c.desk) c
+
+abbrev pub ground_of : List Mail → List PlainJudged → Window → ℤ → Ground
+ground_of mails verdicts window moment = record {
+  given = given_of mails verdicts;
+  window = window;
+  moment = moment;
+}
+
+-- a screen on which a page has room, and an offset of less than a day
+pub record IsWindow (window : Window) : Type 0 where
+  pub tall : 6 ≤ window.rows
+  pub wide : 2 ≤ window.cols
+  pub west : neg_ℤ (pos 86_400) ≤ℤ window.offset
+  pub east : window.offset ≤ℤ pos 86_400
+
+-- a moment that the calendar has
+pub record IsMoment (moment : ℤ) : Type 0 where
+  pub low : pos 0 ≤ℤ moment
+  pub high : moment ≤ℤ pos 253_000_000_000

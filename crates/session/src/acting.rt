@@ -1,0 +1,84 @@
+//! How keys act.
+
+ghost use Rattle.std.specs.Prelude.{◌≡◌};
+ghost use Rattle.session.specs.Acting as spec;
+
+use crate::core_state::Core;
+use crate::moment::Moment;
+use folder_core::Archive;
+use keymap::{Function, Key, Press};
+use mail_base::NoMemory;
+use people::Verdicts;
+use session_index::Notice;
+use session_state::Window;
+
+// Whether the function asks for a command.
+fn is_command(function: Function) -> bool
+    ensures { result ≡ spec.is_command function }
+{
+    matches!(function, Function::EnterCommand)
+}
+
+impl Core {
+    ghost use Rattle.std.specs.Prelude.{◌≡◌, ℤ, List, map, OnOk};
+    ghost use Rattle.folder_core.specs.Letters.{plain_letter};
+    ghost use Rattle.index_view.specs.View.{IsOf};
+    ghost use Rattle.people.specs.Judged.{PlainJudged};
+    ghost use Rattle.session.specs.Acting as spec;
+    ghost use Rattle.session.specs.Core.{IsMoment, IsWindow, Stands, ground_of, plain_core};
+    ghost use Rattle.patterns.specs.Causes.{Keeps};
+
+    /// Does what keys have come to.
+    #[tactic(auto, unfolding(crate::specs::Acting::acted))]
+    pub fn act(&mut self, window: Window, archive: &Archive, press: Press) -> Result<(), NoMemory>
+        requires window { IsWindow window }
+        requires is_of { IsOf (map plain_letter archive.now.items) self.old.desk.view }
+        ensures { OnOk result ((verdicts : List PlainJudged) → (moment : ℤ)
+            → Stands (map plain_letter archive.now.items) (spec.acted
+            (ground_of (map plain_letter archive.now.items) verdicts window moment)
+            press (plain_core self.old)) self.new) }
+    {
+        match press {
+            Press::Wait => Ok(()),
+            Press::Unbound => {
+                self.desk.say(Notice::NotBound);
+                Ok(())
+            }
+            Press::Function(function) if is_command(function) => {
+                self.desk.say(Notice::NotBound);
+                Ok(())
+            }
+            Press::Function(function) => {
+                let rule = self.rule(window);
+                self.desk.perform(rule, archive, function)
+            }
+            Press::Loop => {
+                self.desk.say(Notice::MacroLoop);
+                Ok(())
+            }
+        }
+    }
+
+    /// Takes a key at a prompt, and does what it answers.
+    #[tactic(auto, unfolding(crate::specs::Acting::prompted))]
+    pub fn type_key(
+        &mut self,
+        window: Window,
+        moment: Moment,
+        archive: &Archive,
+        verdicts: &mut Verdicts,
+        key: Key,
+    ) -> Result<(), NoMemory>
+        requires window { IsWindow window }
+        requires moment { IsMoment moment.0 }
+        requires is_of { IsOf (map plain_letter archive.now.items) self.old.desk.view }
+        ensures keeps { Keeps verdicts.old.kept verdicts.new.kept }
+        ensures core { OnOk result ((later : List PlainJudged) → Keeps verdicts.new.kept later
+            → Stands (map plain_letter archive.now.items) (spec.prompted
+            (ground_of (map plain_letter archive.now.items) later window moment.0)
+            key (plain_core self.old)) self.new) }
+    {
+        self.desk.type_key(key)?;
+        self.heed(window, moment, archive, verdicts)
+    }
+}

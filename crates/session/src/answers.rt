@@ -1,0 +1,266 @@
+//! What answers to prompts do (Mutt's manual, "Functions").
+
+ghost use Rattle.std.specs.Prelude.{◌≡◌, IfOk};
+ghost use Rattle.std.specs.Prelude.{List, option_map};
+ghost use Rattle.index_view.specs.Limit.{plain_limit};
+ghost use Rattle.people.specs.Judged.{PlainJudged};
+ghost use Rattle.session.specs.Answers as spec;
+ghost use Rattle.session.specs.Core.{IsMoment, IsWindow};
+ghost use Rattle.patterns.specs.Causes.{Keeps};
+
+use crate::core_state::Core;
+use crate::moment::Moment;
+use folder_core::Archive;
+use index_rows::clocks_say_their_parts;
+use mail_base::{Line, NoMemory};
+use patterns::{PatternError, read_pattern};
+use patterns_match::Pattern;
+use people::Verdicts;
+use prompts::Asking;
+use session_index::{Message, Wanted};
+use session_state::{Window, options_of, sort_words, text_of};
+use std::alloc::Global;
+
+// Whether a text takes the limit away.
+fn is_no_limit(text: &[u8]) -> bool
+    ensures { result ≡ spec.is_no_limit text.now }
+{
+    text.is_empty() || text == b"all".as_slice()
+}
+
+// Whether memory is in the way of a pattern.
+fn is_memory(error: PatternError) -> bool
+    ensures { result ≡ spec.is_memory error }
+{
+    matches!(error, PatternError::NoMemory)
+}
+
+// The pattern that a text is, if it is one.
+fn read(
+    alloc: Global,
+    text: &Line,
+    window: Window,
+    moment: Moment,
+    verdicts: &mut Verdicts,
+) -> Result<Option<Pattern>, NoMemory>
+    requires window { IsWindow window }
+    requires moment { IsMoment moment.0 }
+    ensures keeps { Keeps verdicts.old.kept verdicts.new.kept }
+    ensures read { IfOk result (λ pattern. (later : List PlainJudged)
+        → Keeps verdicts.new.kept later
+        → option_map plain_limit pattern ≡ spec.reading_of later window moment.0 text.now.items) }
+{
+    clocks_say_their_parts();
+    match read_pattern(alloc, text.as_slice(), moment.0, window.offset, verdicts) {
+        Ok(pattern) => Ok(Some(pattern)),
+        Err(error) if is_memory(error) => Err(NoMemory),
+        Err(_) => Ok(None),
+    }
+}
+
+impl Core {
+    ghost use Rattle.std.specs.Prelude.{◌≡◌, None, Some, List, map, option_map, IfOk, OnOk};
+    ghost use Rattle.folder_core.specs.Letters.{plain_letter};
+    ghost use Rattle.index_view.specs.Limit.{plain_limit};
+    ghost use Rattle.index_view.specs.View.{IsOf};
+    ghost use Rattle.people.specs.Judged.{PlainJudged};
+    ghost use Rattle.session_index.specs.Desk.{plain_wanted};
+    ghost use Rattle.session.specs.Answers as spec;
+    ghost use Rattle.session.specs.Core.{IsMoment, IsWindow, Stands, ground_of, plain_core};
+    ghost use Rattle.patterns.specs.Causes.{Keeps};
+
+    // Tells that a text is no pattern.
+    fn refuse_pattern(&mut self, text: &Line) -> Result<(), NoMemory>
+        ensures core { OnOk result
+            (plain_core self.new ≡ spec.bad_pattern text.now.items (plain_core self.old)) }
+        ensures view { self.new.desk.view ≡ self.old.desk.view }
+    {
+        let mut line = Line::new(self.desk.alloc);
+        line.append("bad pattern: ")?;
+        line.append(text_of(text))?;
+        self.desk.message = Message::Text(line);
+        Ok(())
+    }
+
+    // Keeps the text of a limit for the status line.
+    fn keep_limit(&mut self, asking: Asking, text: Line)
+        ensures core { plain_core self.new ≡ spec.limit_kept asking text.items (plain_core self.old) }
+        ensures view { self.new.desk.view ≡ self.old.desk.view }
+    {
+        if let Asking::Limit = asking {
+            self.limit = Some(text);
+        }
+    }
+
+    // Does what a text does that is this pattern.
+    fn take_pattern(
+        &mut self,
+        archive: &Archive,
+        asking: Asking,
+        text: Line,
+        pattern: Pattern,
+    ) -> Result<(), NoMemory>
+        requires { IsOf (map plain_letter archive.now.items) self.old.desk.view }
+        ensures { OnOk result (Stands (map plain_letter archive.now.items)
+            (spec.pattern_answered (map plain_letter archive.now.items) asking text.items
+            (Some (plain_limit pattern)) (plain_core self.old)) self.new) }
+    {
+        self.desk.answer(archive, asking, pattern)?;
+        self.keep_limit(asking, text);
+        Ok(())
+    }
+
+    // Does what a text does that is read as a pattern.
+    fn read_text(
+        &mut self,
+        window: Window,
+        moment: Moment,
+        archive: &Archive,
+        verdicts: &mut Verdicts,
+        asking: Asking,
+        text: Line,
+    ) -> Result<(), NoMemory>
+        requires window { IsWindow window }
+        requires moment { IsMoment moment.0 }
+        requires is_of { IsOf (map plain_letter archive.now.items) self.old.desk.view }
+        ensures keeps { Keeps verdicts.old.kept verdicts.new.kept }
+        ensures core { OnOk result ((later : List PlainJudged) → Keeps verdicts.new.kept later
+            → Stands (map plain_letter archive.now.items) (spec.text_read
+            (ground_of (map plain_letter archive.now.items) later window moment.0)
+            asking text.items (plain_core self.old)) self.new) }
+    {
+        match read(self.desk.alloc, &text, window, moment, verdicts)? {
+            Some(pattern) => self.take_pattern(archive, asking, text, pattern),
+            None => self.refuse_pattern(&text),
+        }
+    }
+
+    fn drop_limit(&mut self, archive: &Archive) -> Result<(), NoMemory>
+        requires { IsOf (map plain_letter archive.now.items) self.old.desk.view }
+        ensures { OnOk result (Stands (map plain_letter archive.now.items)
+            (spec.without_limit (map plain_letter archive.now.items) (plain_core self.old))
+            self.new) }
+    {
+        self.desk.limit_to(archive, None)?;
+        self.limit = None;
+        Ok(())
+    }
+
+    // Does what a text does that is answered to a prompt.
+    fn take_text(
+        &mut self,
+        window: Window,
+        moment: Moment,
+        archive: &Archive,
+        verdicts: &mut Verdicts,
+        asking: Asking,
+        text: Line,
+    ) -> Result<(), NoMemory>
+        requires window { IsWindow window }
+        requires moment { IsMoment moment.0 }
+        requires is_of { IsOf (map plain_letter archive.now.items) self.old.desk.view }
+        ensures keeps { Keeps verdicts.old.kept verdicts.new.kept }
+        ensures core { OnOk result ((later : List PlainJudged) → Keeps verdicts.new.kept later
+            → Stands (map plain_letter archive.now.items) (spec.text_answered
+            (ground_of (map plain_letter archive.now.items) later window moment.0)
+            asking text.items (plain_core self.old)) self.new) }
+    {
+        match asking {
+            Asking::Limit if is_no_limit(text.as_slice()) => self.drop_limit(archive),
+            _ => self.read_text(window, moment, archive, verdicts, asking, text),
+        }
+    }
+
+    /// The index stands as the variables have it now.
+    pub fn tune(&mut self, archive: &Archive) -> Result<(), NoMemory>
+        requires { IsOf (map plain_letter archive.now.items) self.old.desk.view }
+        ensures { OnOk result (Stands (map plain_letter archive.now.items)
+            (spec.tuned (map plain_letter archive.now.items) (plain_core self.old)) self.new) }
+    {
+        let options = options_of(self.rules.settings());
+        self.desk.tune(archive, options)
+    }
+
+    // Sets `$sort`.
+    fn sort(&mut self, archive: &Archive, reversed: bool, key: char) -> Result<(), NoMemory>
+        requires { IsOf (map plain_letter archive.now.items) self.old.desk.view }
+        ensures { OnOk result (Stands (map plain_letter archive.now.items)
+            (spec.sorted (map plain_letter archive.now.items) reversed key (plain_core self.old))
+            self.new) }
+    {
+        let words = sort_words(self.desk.alloc, reversed, key)?;
+        self.rules.set_by(&words)?;
+        self.tune(archive)
+    }
+
+    // Does what a key does that is answered to a prompt of one key.
+    fn take_choice(
+        &mut self,
+        window: Window,
+        archive: &Archive,
+        asking: Asking,
+        key: char,
+    ) -> Result<(), NoMemory>
+        requires window { IsWindow window }
+        requires is_of { IsOf (map plain_letter archive.now.items) self.old.desk.view }
+        ensures { OnOk result (Stands (map plain_letter archive.now.items) (spec.choice_made
+            (map plain_letter archive.now.items) window asking key (plain_core self.old))
+            self.new) }
+    {
+        match asking {
+            Asking::Sort => self.sort(archive, false, key),
+            Asking::ReverseSort => self.sort(archive, true, key),
+            _ => {
+                let rule = self.rule(window);
+                self.desk.choose(rule, archive, asking, key)
+            }
+        }
+    }
+
+    /// Takes up an answer to a prompt.
+    pub fn heed(
+        &mut self,
+        window: Window,
+        moment: Moment,
+        archive: &Archive,
+        verdicts: &mut Verdicts,
+    ) -> Result<(), NoMemory>
+        requires window { IsWindow window }
+        requires moment { IsMoment moment.0 }
+        requires is_of { IsOf (map plain_letter archive.now.items) self.old.desk.view }
+        ensures keeps { Keeps verdicts.old.kept verdicts.new.kept }
+        ensures core { OnOk result ((later : List PlainJudged) → Keeps verdicts.new.kept later
+            → Stands (map plain_letter archive.now.items) (spec.heeded
+            (ground_of (map plain_letter archive.now.items) later window moment.0)
+            (plain_core self.old)) self.new) }
+    {
+        match self.take_wanted() {
+            Wanted::Unasked => Ok(()),
+            Wanted::ToEnd => {
+                self.desk.wanted = Wanted::ToEnd;
+                Ok(())
+            }
+            Wanted::ToAnswer(asking, text) => {
+                self.take_text(window, moment, archive, verdicts, asking, text)
+            }
+            Wanted::ToChoose(asking, key) => self.take_choice(window, archive, asking, key),
+        }
+    }
+
+    // Takes up what is wanted.
+    fn take_wanted(&mut self) -> Wanted
+        ensures wanted { plain_wanted result ≡ (plain_core self.old).desk.wanted }
+        ensures core { plain_core self.new ≡ spec.granted (plain_core self.old) }
+        ensures view { self.new.desk.view ≡ self.old.desk.view }
+    {
+        std::mem::replace(&mut self.desk.wanted, Wanted::Unasked)
+    }
+
+    /// Nothing is wanted any more.
+    pub fn grant(&mut self)
+        ensures core { plain_core self.new ≡ spec.granted (plain_core self.old) }
+        ensures view { self.new.desk.view ≡ self.old.desk.view }
+    {
+        self.desk.wanted = Wanted::Unasked;
+    }
+}

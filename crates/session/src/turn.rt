@@ -1,0 +1,153 @@
+//! The keys that wait, one after the other.
+
+ghost use Rattle.std.specs.Prelude.{◌≡◌, ◌≢◌, ◌≤◌, ◌<◌, ◌^◌, ℤ, None, List, IfOk, OnOk, length, map};
+ghost use Rattle.folder_core.specs.Letters.{plain_letter};
+ghost use Rattle.index_view.specs.View.{IsOf};
+ghost use Rattle.keymap.specs.Queue.{most_replacements};
+ghost use Rattle.people.specs.Judged.{PlainJudged};
+ghost use Rattle.session_index.specs.Desk.{plain_wanted};
+ghost use Rattle.session.specs.Core.{IsMoment, IsWindow, ground_of, plain_core};
+ghost use Rattle.patterns.specs.Causes.{Keeps};
+ghost use Rattle.session.specs.Keys.{Steps, fuel, settled, turn_of};
+ghost use Rattle.session.specs.Keys.{stage_after as stage_after_press};
+
+use crate::core_state::Core;
+use crate::moment::Moment;
+use folder_core::Archive;
+use keymap::{KeyQueue, Press};
+use mail_base::NoMemory;
+use people::Verdicts;
+use session_index::Wanted;
+use session_state::{Stage, Window};
+
+/// Lets the keys that wait act, until none waits or something is wanted, and tells what comes then.
+pub fn settle(
+    core: &mut Core,
+    queue: &mut KeyQueue,
+    window: Window,
+    moment: Moment,
+    archive: &Archive,
+    verdicts: &mut Verdicts,
+) -> Result<Stage, NoMemory>
+    requires window { IsWindow window }
+    requires moment { IsMoment moment.0 }
+    requires is_of { IsOf (map plain_letter archive.now.items) core.old.desk.view }
+    requires few { queue.old.replaced ≤ most_replacements }
+    ensures keeps { Keeps verdicts.old.kept verdicts.new.kept }
+    ensures is_of { OnOk result (IsOf (map plain_letter archive.now.items) core.new.desk.view) }
+    ensures settled { IfOk result (λ stage. (later : List PlainJudged)
+        → Keeps verdicts.new.kept later
+        → turn_of stage (plain_core core.new) queue.new ≡ settled
+        (ground_of (map plain_letter archive.now.items) later window moment.0)
+        (plain_core core.old) queue.old) }
+{
+    let mut waiting = queue.len();
+    while waiting > 0 {
+        match go_on(core, queue, window, moment, archive, verdicts)? {
+            None => {}
+            Some(stage) => return Ok(stage),
+        }
+        waiting = queue.len();
+    }
+    core.grant();
+    Ok(Stage::Idle)
+}
+
+// Lets the first key act, and where no prompt stands the keys behind it up to an answer.
+fn go_on(
+    core: &mut Core,
+    queue: &mut KeyQueue,
+    window: Window,
+    moment: Moment,
+    archive: &Archive,
+    verdicts: &mut Verdicts,
+) -> Result<Option<Stage>, NoMemory>
+    requires window { IsWindow window }
+    requires moment { IsMoment moment.0 }
+    requires is_of { IsOf (map plain_letter archive.now.items) core.old.desk.view }
+    requires some { 0 < length queue.old.items }
+    requires few { queue.old.replaced ≤ most_replacements }
+    ensures keeps { Keeps verdicts.old.kept verdicts.new.kept }
+    ensures is_of { OnOk result (IsOf (map plain_letter archive.now.items) core.new.desk.view) }
+    ensures steps { IfOk result (λ stopped. (later : List PlainJudged)
+        → Keeps verdicts.new.kept later → Steps stopped
+        (ground_of (map plain_letter archive.now.items) later window moment.0)
+        (plain_core core.old) (plain_core core.new) queue.old queue.new) }
+    ensures few { OnOk result (queue.new.replaced ≤ most_replacements) }
+    ensures falls { IfOk result (λ stopped. stopped ≡ None → length queue.new.items < 2 ^ 64
+        → fuel queue.new < fuel queue.old) }
+{
+    if core.desk.prompt.is_some() {
+        return type_next(core, queue, window, moment, archive, verdicts);
+    }
+    press_next(core, queue, window, archive)
+}
+
+// The prompt that stands takes the first key.
+fn type_next(
+    core: &mut Core,
+    queue: &mut KeyQueue,
+    window: Window,
+    moment: Moment,
+    archive: &Archive,
+    verdicts: &mut Verdicts,
+) -> Result<Option<Stage>, NoMemory>
+    requires window { IsWindow window }
+    requires moment { IsMoment moment.0 }
+    requires is_of { IsOf (map plain_letter archive.now.items) core.old.desk.view }
+    requires prompt { (plain_core core.old).desk.prompt ≢ None }
+    requires some { 0 < length queue.old.items }
+    requires few { queue.old.replaced ≤ most_replacements }
+    ensures keeps { Keeps verdicts.old.kept verdicts.new.kept }
+    ensures is_of { OnOk result (IsOf (map plain_letter archive.now.items) core.new.desk.view) }
+    ensures steps { IfOk result (λ stopped. (later : List PlainJudged)
+        → Keeps verdicts.new.kept later → Steps stopped
+        (ground_of (map plain_letter archive.now.items) later window moment.0)
+        (plain_core core.old) (plain_core core.new) queue.old queue.new) }
+    ensures few { queue.new.replaced ≤ most_replacements }
+    ensures falls { IfOk result (λ stopped. fuel queue.new < fuel queue.old) }
+{
+    if let Some(key) = queue.take_first() {
+        core.type_key(window, moment, archive, verdicts, key)?;
+    }
+    Ok(None)
+}
+
+// Presses keys up to an answer, and acts on it.
+fn press_next(
+    core: &mut Core,
+    queue: &mut KeyQueue,
+    window: Window,
+    archive: &Archive,
+) -> Result<Option<Stage>, NoMemory>
+    requires window { IsWindow window }
+    requires is_of { IsOf (map plain_letter archive.now.items) core.old.desk.view }
+    requires prompt { (plain_core core.old).desk.prompt ≡ None }
+    requires few { queue.old.replaced ≤ most_replacements }
+    ensures is_of { OnOk result (IsOf (map plain_letter archive.now.items) core.new.desk.view) }
+    ensures steps { IfOk result (λ stopped. (verdicts : List PlainJudged) → (moment : ℤ)
+        → Steps stopped (ground_of (map plain_letter archive.now.items) verdicts window moment)
+        (plain_core core.old) (plain_core core.new) queue.old queue.new) }
+    ensures few { OnOk result (queue.new.replaced ≤ most_replacements) }
+    ensures falls { IfOk result (λ stopped. stopped ≡ None → length queue.new.items < 2 ^ 64
+        → fuel queue.new < fuel queue.old) }
+{
+    let press = core.rules.press(queue)?;
+    core.act(window, archive, press)?;
+    let stopped = stage_after(press, &core.desk.wanted);
+    if stopped.is_some() {
+        core.grant();
+    }
+    Ok(stopped)
+}
+
+// Where the keys stop, if they do.
+fn stage_after(press: Press, wanted: &Wanted) -> Option<Stage>
+    ensures { result ≡ stage_after_press press (plain_wanted wanted.now) }
+{
+    match (press, wanted) {
+        (Press::Wait | Press::Loop, _) => Some(Stage::Idle),
+        (_, Wanted::ToEnd) => Some(Stage::Over),
+        (_, _) => None,
+    }
+}

@@ -1,0 +1,42 @@
+use Rattle.std.proofs.Common.{refl, rules}
+use Rattle.session_events.proofs.opening.open_event.Goals as goal
+
+pub returns-in-Ok-clause-tells : goal.returns-in-Ok-clause-tells
+returns-in-Ok-clause-tells g c = record {
+  marks = record {
+    mark_before = c.mark-mark_before.result;
+    mark_after = c.mark.result;
+    faults_before = c.faults-faults_before.result;
+    faults_after = c.faults.result;
+  };
+  marked = refl;
+  before = search rules;
+  after = search rules;
+  on = c.in-Ok.ensures.only.marks;
+  faults = c.in-Ok.ensures.only.faults;
+  cause = c.in-Ok.ensures.driver;
+  happened = rw c.requires.name c.in-Ok.ensures.looked;
+  looks = c.in-Ok.ensures.only.looks;
+  first = search rules;
+  last = search rules;
+}
+
+pub returns-in-Err-clause-tells : goal.returns-in-Err-clause-tells
+returns-in-Err-clause-tells g c = record {
+  marks = record {
+    mark_before = c.mark-mark_before.result;
+    mark_after = c.mark.result;
+    faults_before = c.faults-faults_before.result;
+    faults_after = c.faults.result;
+  };
+  marked = refl;
+  before = search rules;
+  after = search rules;
+  on = c.in-Err.ensures.only.marks;
+  faults = c.in-Err.ensures.only.faults;
+  cause = rw (c.faults-faults_before.ensures, c.faults.ensures) c.in-Err.ensures.cause;
+  happened = rw c.requires.name c.in-Err.ensures.looked;
+  looks = c.in-Err.ensures.only.looks;
+  first = search rules;
+  last = search rules;
+}

@@ -1,0 +1,45 @@
+-- What happened in a run, without the rooms of its lists.
+use Rattle.std.specs.Prelude.{ℕ, ℤ, List, [], ◌∷◌, map}
+use Rattle.mail_base.specs.declared.kind.Kind.{Kind}
+use Rattle.disk_model.specs.declared.answers.DiskError.{DiskError}
+use Rattle.folder_core.specs.declared.listing.Listed.{Listed}
+use Rattle.keymap.specs.declared.key.Key.{Key}
+use Rattle.session_events.specs.declared.event.Event.{Event}
+use Rattle.session_events.specs.declared.event.Event.TheVariants.{Sourced, NotSourced, Pressed, Opened}
+use Rattle.session_events.specs.declared.event.Event.TheVariants.{NotOpened}
+use Rattle.session_events.specs.declared.event.Marks.{Marks}
+use Rattle.session_events.specs.declared.event.OpenFault.{OpenFault}
+
+-- a file of commands was read, or was not; a key was pressed at a moment; a folder was opened, and
+-- these messages came, or was not
+pub data Happening : Type 0 where
+  FileRead : (path : List ℕ) → (text : List ℕ) → (marks : Marks) → Happening
+  FileRefused : (path : List ℕ) → (why : DiskError) → (marks : Marks) → Happening
+  KeyPressed : (key : Key) → (moment : ℤ) → Happening
+  FolderOpened : (path : List ℕ) → (kind : Kind) → (moment : ℤ) → (came : List Listed)
+      → (marks : Marks) → Happening
+  FolderRefused : (path : List ℕ) → (why : OpenFault) → (marks : Marks) → Happening
+
+abbrev pub plain_event : Event → Happening
+plain_event (Sourced path text marks) = FileRead path.items text.items marks
+plain_event (NotSourced path why marks) = FileRefused path.items why marks
+plain_event (Pressed key moment) = KeyPressed key moment
+plain_event (Opened path kind moment came marks) =
+    FolderOpened path.items kind moment came.items marks
+plain_event (NotOpened path why marks) = FolderRefused path.items why marks
+
+-- events by their values
+abbrev pub plain_events : List Event → List Happening
+plain_events events = map plain_event events
+
+-- the event is that of a file of commands
+abbrev pub IsFile : Happening → Type 0
+IsFile (FileRead path text marks) = Unit {0}
+IsFile (FileRefused path why marks) = Unit {0}
+IsFile (KeyPressed key moment) = ⊥
+IsFile (FolderOpened path kind moment came marks) = ⊥
+IsFile (FolderRefused path why marks) = ⊥
+
+abbrev pub AreFiles : List Happening → Type 0
+AreFiles [] = Unit {0}
+AreFiles (event ∷ events) = IsFile event × AreFiles events

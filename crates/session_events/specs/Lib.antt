@@ -1,0 +1,5 @@
+pub mod Events
+pub mod Wishes
+pub mod Happened
+pub mod Telling
+pub mod Opening

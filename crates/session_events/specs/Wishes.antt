@@ -1,0 +1,27 @@
+-- What a run wishes, and what an event answers.
+use Rattle.std.specs.Prelude.{ℕ, ℤ, pos, List}
+use Rattle.session_events.specs.Events.{Happening, FileRead, FileRefused, KeyPressed, FolderOpened}
+use Rattle.session_events.specs.Events.{FolderRefused}
+
+-- nothing, a file of commands, a folder, or a key
+pub data Wish : Type 0 where
+  Nothing : Wish
+  Source : (path : List ℕ) → Wish
+  Open : (path : List ℕ) → Wish
+  Press : (moment : ℤ) → Wish
+
+-- the moment of an event that has one
+abbrev pub moment_of : Happening → ℤ
+moment_of (FileRead path text marks) = pos 0
+moment_of (FileRefused path why marks) = pos 0
+moment_of (KeyPressed key moment) = moment
+moment_of (FolderOpened path kind moment came marks) = moment
+moment_of (FolderRefused path why marks) = pos 0
+
+-- the wish that an event answers
+abbrev pub answered : Happening → Wish
+answered (FileRead path text marks) = Source path
+answered (FileRefused path why marks) = Source path
+answered (KeyPressed key moment) = Press moment
+answered (FolderOpened path kind moment came marks) = Open path
+answered (FolderRefused path why marks) = Open path

@@ -1,0 +1,11 @@
+//! What happens in a run: the reading of a file of commands, the opening of a folder, and keys, each
+//! an event with what it says of the disk, and the trace of them all.
+#![tactic(auto)]
+
+mod event;
+mod opening;
+mod source;
+
+pub use event::{Event, Events, Marks, OpenFault, Trace};
+pub use opening::open_event;
+pub use source::source_event;

@@ -1,0 +1,103 @@
+//! The opening of a folder, with its event.
+
+ghost use Rattle.std.specs.Prelude.{◌≡◌, [], Any, map};
+ghost use Rattle.folder_core.specs.Letters.{plain_letter};
+ghost use Rattle.session_events.specs.Events.{plain_event};
+ghost use Rattle.session_events.specs.Happened.{IsListed};
+ghost use Rattle.session_events.specs.Opening.{IsOpening, ReadsFolder};
+ghost use Rattle.session_events.specs.Wishes.{Open, answered};
+ghost use Rattle.session_events.specs.Telling.{Tells};
+
+use crate::event::{Event, Marks, OpenFault};
+use disk_model::Device;
+use folder_core::{Archive, Drivers, Known, Listing, ScanError, kind_of};
+use mail_base::{Bytes, Kind};
+use std::alloc::Global;
+
+/// A folder that was read: its kind and its messages.
+#[derive(Drop)]
+pub struct Opened {
+    pub kind: Kind,
+    pub came: Listing,
+}
+
+/// Opens the folder, where an empty file is of this kind, and tells what happened. The name is that
+/// of the path.
+pub fn open_event(
+    alloc: Global,
+    dev: &mut Device,
+    drivers: &Drivers,
+    empty: Kind,
+    path: &str,
+    name: Bytes,
+    moment: i64,
+    archive: &mut Archive,
+) -> Event
+    requires archive { archive.old.items ≡ [] }
+    requires name { name.items ≡ path.now }
+    ensures tells { Tells (λ kind. Any (λ d. sort (d.vtable, d.value) ≡ kind)
+        drivers.now.list.items) empty (map plain_letter archive.new.items) (plain_event result)
+        (seen (dev.old.disk.vtable, dev.old.disk.value))
+        (seen (dev.new.disk.vtable, dev.new.disk.value)) }
+    ensures answers { answered (plain_event result) ≡ Open name.items }
+    ensures listed { IsListed (map plain_letter archive.new.items) (plain_event result) }
+    ensures opening { IsOpening moment (plain_event result) }
+{
+    let mark_before = dev.mark();
+    let faults_before = dev.faults();
+    let answer = read_folder(alloc, path, empty, dev, drivers, archive);
+    let marks = Marks {
+        mark_before,
+        mark_after: dev.mark(),
+        faults_before,
+        faults_after: dev.faults(),
+    };
+    match answer {
+        Ok(opened) => Event::Opened {
+            path: name,
+            kind: opened.kind,
+            moment,
+            came: opened.came,
+            marks,
+        },
+        Err(why) => Event::NotOpened {
+            path: name,
+            why,
+            marks,
+        },
+    }
+}
+
+// Reads the folder at a path into an archive that is empty yet.
+fn read_folder(
+    alloc: Global,
+    path: &str,
+    empty: Kind,
+    dev: &mut Device,
+    drivers: &Drivers,
+    archive: &mut Archive,
+) -> Result<Opened, OpenFault>
+    requires { archive.old.items ≡ [] }
+    ensures { ReadsFolder (λ kind. Any (λ d. sort (d.vtable, d.value) ≡ kind)
+        drivers.now.list.items) empty (map plain_letter archive.new.items) path.now result
+        (seen (dev.old.disk.vtable, dev.old.disk.value))
+        (seen (dev.new.disk.vtable, dev.new.disk.value)) }
+{
+    let kind = match kind_of(alloc, dev, path, empty) {
+        Ok(kind) => kind,
+        Err(why) => return Err(OpenFault::Folder(why)),
+    };
+    if !drivers.has(kind) {
+        return Err(OpenFault::NoDriver(kind));
+    }
+    let Ok(mut known) = Known::new(alloc, path, kind) else {
+        return Err(OpenFault::Folder(ScanError::NoMemory));
+    };
+    match drivers.scan(alloc, kind, dev, &mut known, archive) {
+        Ok(found) => Ok(Opened {
+            kind,
+            came: found.came,
+        }),
+        Err(why) => Err(OpenFault::Folder(why)),
+    }
+}

@@ -1,0 +1,22 @@
+-- The formats that variables have.
+use Rattle.std.specs.Prelude.{ℕ, List, [], codes, Result, Ok, Err}
+use Rattle.expando.specs.Formats.{PlainPiece, format_of}
+use Rattle.rc_lang.specs.Values.{PlainValue}
+use Rattle.rc_lang.specs.declared.variable.Variable.{Variable}
+use Rattle.session_state.specs.Places.{text_of}
+
+-- the letters of a row of the index and of the status line
+abbrev pub row_letters : List ℕ
+row_letters = codes "CmZS{[anFLtiscNly"
+
+abbrev pub status_letters : List ℕ
+status_letters = codes "frmMnoudFtVsSP"
+
+-- a format that is none shows nothing
+abbrev pub pieces_or_none : Result (List PlainPiece) ℕ → List PlainPiece
+pieces_or_none (Ok pieces) = pieces
+pieces_or_none (Err place) = []
+
+-- the format that a variable has
+abbrev pub format_in : List ℕ → List PlainValue → Variable → List PlainPiece
+format_in letters values v = pieces_or_none (format_of letters (text_of values v))

@@ -1,0 +1,15 @@
+//! How far a run is.
+
+/// What a run wants next.
+#[derive(Clone, Copy, Debug, PartialEq, Eq)]
+pub enum Stage {
+    /// Files of commands are still to be read, or the folder is to be opened.
+    Unopened,
+    /// The folder is open, and the keys that the commands put still wait.
+    Pushing,
+    /// A key is wanted.
+    Idle,
+    /// A key was taken.
+    Ready,
+    Over,
+}
