@@ -17,7 +17,7 @@ use Rattle.rc_lang.specs.Numbers.{has_leading_zero, number_within}
 use Rattle.rc_lang.specs.Quads.{quad_of, opposite_quad}
 use Rattle.rc_lang.specs.Requests as change
 use Rattle.rc_lang.specs.Requests.{PlainChange}
-use Rattle.rc_lang.specs.Rules.{allows}
+use Rattle.rc_lang.specs.Rules.{allows, refusal_of}
 use Rattle.rc_lang.specs.Settings.{defaults}
 use Rattle.rc_lang.specs.Values.{PlainValue, Flag, Number, Text, Quad}
 use Rattle.rc_lang.specs.Variables as kind
@@ -159,7 +159,7 @@ quad_fits d w (Some q) makes =
     let is : Quad q ≡ w = cc in subst (λ x. fits (kind.Quad d) x ≡ true) is refl
 
 text_fits : (rule : Rule) (d t : List ℕ) (w : PlainValue) (b : Bool) → allows rule t ≡ b
-    → (if b then Ok (Text t) else Err BadValue) ≡ Ok w → fits (kind.Text rule d) w ≡ true
+    → (if b then Ok (Text t) else Err (refusal_of rule)) ≡ Ok w → fits (kind.Text rule d) w ≡ true
 text_fits rule d t w true test makes =
     let is : Text t ≡ w = cc in subst (λ x. fits (kind.Text rule d) x ≡ true) is test
 text_fits rule d t w false test makes = cc

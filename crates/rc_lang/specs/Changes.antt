@@ -8,7 +8,7 @@ use Rattle.rc_lang.specs.declared.value.Value.{Value}
 use Rattle.rc_lang.specs.Numbers.{number_within}
 use Rattle.rc_lang.specs.Quads.{quad_of, opposite_quad}
 use Rattle.rc_lang.specs.Requests as change
-use Rattle.rc_lang.specs.Rules.{allows}
+use Rattle.rc_lang.specs.Rules.{allows, refusal_of}
 use Rattle.rc_lang.specs.Values.{PlainValue, Flag, Number, Text, Quad, plain_value}
 use Rattle.rc_lang.specs.Variables as kind
 
@@ -52,7 +52,7 @@ value_named (kind.Number number most) text =
     ok_or (option_map (λ n. Number (pos n)) (number_within most text)) BadValue
 value_named (kind.Quad quad) text = ok_or (option_map Quad (quad_of text)) BadValue
 value_named (kind.Text rule default) text =
-    if allows rule text then Ok (Text text) else Err BadValue
+    if allows rule text then Ok (Text text) else Err (refusal_of rule)
 
 -- what a change makes of a value of the kind
 abbrev pub changed_value : kind.PlainKind → change.PlainChange → PlainValue

@@ -7,7 +7,8 @@ use Rattle.rc_lang.specs.declared.quad.Quad.{Quad as FourWay}
 use Rattle.rc_lang.specs.declared.quad.Quad.TheVariants.{Yes, No, AskYes}
 use Rattle.rc_lang.specs.declared.rule.Rule.{Rule}
 use Rattle.rc_lang.specs.declared.rule.Rule.TheVariants.{Any, FolderKind, SixAscii, Sort as IsSort}
-use Rattle.rc_lang.specs.declared.rule.Rule.TheVariants.{SortAux as IsSortAux}
+use Rattle.rc_lang.specs.declared.rule.Rule.TheVariants.{SortAux as IsSortAux, RowFormat}
+use Rattle.rc_lang.specs.declared.rule.Rule.TheVariants.{StatusFormat as IsStatusFormat}
 use Rattle.rc_lang.specs.declared.variable.Variable.{Variable}
 use Rattle.rc_lang.specs.declared.variable.Variable.TheVariants.{MarkOld, Resolve, SortRe, Weed}
 use Rattle.rc_lang.specs.declared.variable.Variable.TheVariants.{DuplicateThreads, StrictThreads}
@@ -80,9 +81,9 @@ row_of Sort = row 15 (codes "sort") (Text IsSort (codes "date-sent"))
 row_of SortAux = row 16 (codes "sort_aux") (Text IsSortAux (codes "date-sent"))
 row_of ToChars = row 17 (codes "to_chars") (Text SixAscii (codes " +TCFL"))
 row_of IndentString = row 18 (codes "indent_string") (Text Any (codes "> "))
-row_of IndexFormat = row 19 (codes "index_format") (Text Any index_format)
-row_of PagerFormat = row 20 (codes "pager_format") (Text Any pager_format)
-row_of StatusFormat = row 21 (codes "status_format") (Text Any status_format)
+row_of IndexFormat = row 19 (codes "index_format") (Text RowFormat index_format)
+row_of PagerFormat = row 20 (codes "pager_format") (Text RowFormat pager_format)
+row_of StatusFormat = row 21 (codes "status_format") (Text IsStatusFormat status_format)
 row_of Editor = row 22 (codes "editor") (Text Any [])
 row_of Sendmail = row 23 (codes "sendmail") (Text Any [])
 row_of Realname = row 24 (codes "realname") (Text Any [])

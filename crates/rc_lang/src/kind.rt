@@ -50,10 +50,10 @@ impl Kind {
                 Some(quad) => Ok(Value::Quad(quad)),
                 None => Err(RcFault::BadValue),
             },
-            Kind::Text(rule, _) if rule.allows(text) => Ok(Value::Text(Bytes::copy_of(
-                alloc, text,
-            )?)),
-            Kind::Text(..) => Err(RcFault::BadValue),
+            Kind::Text(rule, _) => {
+                rule.judge(alloc, text)?;
+                Ok(Value::Text(Bytes::copy_of(alloc, text)?))
+            }
         }
     }
 }

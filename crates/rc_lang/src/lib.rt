@@ -21,6 +21,7 @@ pub use quad::Quad;
 pub use rc_lang_words::{
     RcError, RcFault, RcLine, RcLines, RcPiece, RcPieces, RcWord, RcWords, read_rc,
 };
+pub use rule::{ROW_LETTERS, STATUS_LETTERS};
 pub use settings::Settings;
 pub use value::Value;
 pub use variable::{Variable, is_variable};

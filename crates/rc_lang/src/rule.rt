@@ -1,8 +1,19 @@
 //! Which texts a variable takes.
 
-ghost use Rattle.std.specs.Prelude.{◌≡◌};
+ghost use Rattle.std.specs.Prelude.{◌≡◌, IfOk};
 ghost use Rattle.std.specs.List.{list_all};
 ghost use Rattle.rc_lang.specs.Rules as spec;
+
+use expando::{FormatError, read_format};
+use mail_base::NoMemory;
+use rc_lang_words::RcFault;
+use std::alloc::Global;
+
+/// The letters of a row of the index (Mutt's manual, "index_format").
+pub const ROW_LETTERS: &[u8] = b"CmZS{[anFLtiscNly";
+
+/// The letters of the status line (Mutt's manual, "status_format").
+pub const STATUS_LETTERS: &[u8] = b"frmMnoudFtVsSP";
 
 /// What the text of a variable has to be.
 #[derive(Clone, Copy, Debug, PartialEq, Eq)]
@@ -16,19 +27,55 @@ pub enum Rule {
     Sort,
     /// An order, perhaps with `reverse-` and then `last-` before it.
     SortAux,
+    /// A format of a row of the index.
+    RowFormat,
+    /// A format of the status line.
+    StatusFormat,
 }
 
 impl Rule {
-    pub fn allows(self, text: &[u8]) -> bool
-        ensures { result ≡ spec.allows self text.now }
+    // Whether a variable takes the text.
+    fn allows(self, alloc: Global, text: &[u8]) -> Result<bool, NoMemory>
+        ensures { IfOk result (λ allowed. allowed ≡ spec.allows self text.now) }
     {
         match self {
-            Rule::Any => true,
-            Rule::FolderKind => is_folder_kind(text),
-            Rule::SixAscii => text.len() == 6 && is_ascii(text),
-            Rule::Sort => is_order(behind_front(b"reverse-", text)),
-            Rule::SortAux => is_order(behind_front(b"last-", behind_front(b"reverse-", text))),
+            Rule::Any => Ok(true),
+            Rule::FolderKind => Ok(is_folder_kind(text)),
+            Rule::SixAscii => Ok(text.len() == 6 && is_ascii(text)),
+            Rule::Sort => Ok(is_order(behind_front(b"reverse-", text))),
+            Rule::SortAux => Ok(is_order(behind_front(b"last-", behind_front(b"reverse-", text)))),
+            Rule::RowFormat => is_format(alloc, ROW_LETTERS, text),
+            Rule::StatusFormat => is_format(alloc, STATUS_LETTERS, text),
         }
+    }
+
+    fn refusal(self) -> RcFault
+        ensures { result ≡ spec.refusal_of self }
+    {
+        match self {
+            Rule::RowFormat | Rule::StatusFormat => RcFault::BadFormat,
+            _ => RcFault::BadValue,
+        }
+    }
+
+    /// Refuses a text that a variable does not take.
+    pub fn judge(self, alloc: Global, text: &[u8]) -> Result<(), RcFault>
+        ensures { spec.IsJudged self text.now result }
+    {
+        if self.allows(alloc, text)? {
+            return Ok(());
+        }
+        Err(self.refusal())
+    }
+}
+
+fn is_format(alloc: Global, letters: &[u8], text: &[u8]) -> Result<bool, NoMemory>
+    ensures { IfOk result (λ is. is ≡ spec.is_format letters.now text.now) }
+{
+    match read_format(alloc, text, letters) {
+        Ok(_) => Ok(true),
+        Err(FormatError::BadFormat(_)) => Ok(false),
+        Err(FormatError::NoMemory) => Err(NoMemory),
     }
 }
 

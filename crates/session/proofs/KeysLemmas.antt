@@ -11,12 +11,14 @@ use Rattle.keymap.specs.declared.function.Function.{Function}
 use Rattle.keymap.specs.declared.key.Key.{Key}
 use Rattle.keymap.specs.declared.menu.Menu.TheVariants.{Index}
 use Rattle.keymap.specs.declared.press.Press.{Press}
+use Rattle.keymap.specs.declared.press.Press.TheVariants as press
 use Rattle.prompts.specs.Prompts.{PlainPrompt}
 use Rattle.session_index.specs.Desk.{PlainWanted}
 use Rattle.session.specs.Acting.{acted, prompted}
 use Rattle.session.specs.Core.{CoreState, Ground}
-use Rattle.session.specs.Keys.{TurnState, behind, drop_all, keys_by, run_keys, stage_after}
-use Rattle.session.specs.Keys.{step, step_at, with_begun}
+use Rattle.session.specs.Keys.{TurnState, behind, drop_all, keys_by, put_or, run_keys}
+use Rattle.session.specs.Keys.{stage_after, step, step_at, stopped, with_begun, with_put}
+use Rattle.session_state.specs.declared.stage.Stage.TheVariants.{Idle}
 
 -- The begun sequence stands apart from the bindings.
 
@@ -71,18 +73,26 @@ module _ (g : Ground) (replaced : ℕ) (again : List Key → CoreState → TurnS
   at_step None Begun keys begun c further more = more
   at_step None Unbound keys begun c further more = refl
 
-  reach : (keys : List Key) (c : CoreState) → c.desk.prompt ≡ None
+  -- where no keys that commands have put are left
+  pub none_put : (keys : List Key) (rest : CoreState → TurnState) (c : CoreState)
+      → c.rules.put ≡ [] → put_or c.rules.put again keys rest c ≡ rest c
+  none_put keys rest c empty =
+      ap (λ (texts : List (List Key)). put_or texts again keys rest c) empty
+
+  reach : (keys : List Key) (c : CoreState) → c.rules.put ≡ [] → c.desk.prompt ≡ None
       → keys_by g replaced again keys c
       ≡ by_reached (reached c.rules.keymap Index c.rules.keymap.begun keys) c
   unfolding acted
-  reach [] c none = refl
-  reach (key ∷ keys) c none =
+  reach [] c empty none = none_put [] (stopped Idle replaced []) c empty
+  reach (key ∷ keys) c empty none =
       let begun : List Key = c.rules.keymap.begun ++ key ∷ [] in
-      ap (λ (p : Option PlainPrompt). step_at g replaced again key keys
+      none_put (key ∷ keys) (step_at g replaced again key keys (keys_by g replaced again keys)
+      c.desk.prompt) c empty
+      ∙ ap (λ (p : Option PlainPrompt). step_at g replaced again key keys
       (keys_by g replaced again keys) p c) none
       ∙ at_step (called key) (found_in c.rules.keymap Index begun) keys begun c
       (reached c.rules.keymap Index begun keys)
-      (reach keys (with_begun begun c) none
+      (reach keys (with_begun begun c) empty none
       ∙ ap (λ (x : Reached). by_reached x (with_begun begun c))
       (reached_begun c.rules.keymap begun begun keys)
       ∙ same_core (reached c.rules.keymap Index begun keys) begun c)
@@ -120,12 +130,14 @@ module _ (g : Ground) where
       ap (λ (rest : CoreState → TurnState). behind g press replaced keys rest (with_begun begun c))
       (sym (runs keys) ∙ ap (λ (n : ℕ). run_keys g n replaced keys) same)
 
-  press_last : (replaced : ℕ) (c : CoreState) (x : Reached)
+  press_last : (replaced : ℕ) (c : CoreState) (x : Reached) → c.rules.put ≡ []
       → by_reached g replaced (drop_all g replaced) x c
       ≡ by_pressed g (zero + replaced) (last_answer replaced x) c
-  press_last replaced c (Answered press begun waiting) =
+  press_last replaced c (Answered press begun waiting) empty =
       answer_is zero replaced (drop_all g replaced) (run_zero replaced) press begun waiting c
-  press_last replaced c (Replaced text waiting) = refl
+  press_last replaced c (Replaced text waiting) empty =
+      ap (λ (texts : List (List Key)). stopped Idle replaced []
+      (acted g press.Loop (with_put texts (with_begun [] c)))) (sym empty)
 
   press_next : (left replaced : ℕ) (c : CoreState) (x : Reached)
       → ((keys : List Key) → run_keys g left (replaced + 1) keys (with_begun [] c)
@@ -146,19 +158,20 @@ module _ (g : Ground) where
       ∙ ap (λ (n : ℕ). by_pressed g n
       (pressed c.rules.keymap Index left (replaced + 1) [] (text ++ waiting)) c) same
 
-  pub press_is : (left replaced : ℕ) (keys : List Key) (c : CoreState) → c.desk.prompt ≡ None
+  pub press_is : (left replaced : ℕ) (keys : List Key) (c : CoreState) → c.rules.put ≡ []
+      → c.desk.prompt ≡ None
       → run_keys g left replaced keys c
       ≡ by_pressed g (left + replaced)
       (pressed c.rules.keymap Index left replaced c.rules.keymap.begun keys) c
-  press_is zero replaced keys c none =
+  press_is zero replaced keys c empty none =
       ap (λ (f : CoreState → TurnState). f c) (run_zero replaced keys)
-      ∙ reach g replaced (drop_all g replaced) keys c none
-      ∙ press_last replaced c (reached c.rules.keymap Index c.rules.keymap.begun keys)
-  press_is (suc left) replaced keys c none =
+      ∙ reach g replaced (drop_all g replaced) keys c empty none
+      ∙ press_last replaced c (reached c.rules.keymap Index c.rules.keymap.begun keys) empty
+  press_is (suc left) replaced keys c empty none =
       ap (λ (f : CoreState → TurnState). f c) (run_suc left replaced keys)
-      ∙ reach g replaced (run_keys g left (replaced + 1)) keys c none
+      ∙ reach g replaced (run_keys g left (replaced + 1)) keys c empty none
       ∙ press_next left replaced c (reached c.rules.keymap Index c.rules.keymap.begun keys)
-      (λ more. press_is left (replaced + 1) more (with_begun [] c) none)
+      (λ more. press_is left (replaced + 1) more (with_begun [] c) empty none)
 
   typed_by : (replaced : ℕ) (again : List Key → CoreState → TurnState) (key : Key)
       (keys : List Key) (o : Option PlainPrompt) (c : CoreState) → ¬ (o ≡ None)
@@ -168,15 +181,60 @@ module _ (g : Ground) where
   typed_by replaced again key keys (Some prompt) c some = refl
 
   -- a prompt that stands takes the first key
+  type_by : (replaced : ℕ) (again : List Key → CoreState → TurnState) (key : Key)
+      (keys : List Key) (c : CoreState) → c.rules.put ≡ [] → ¬ (c.desk.prompt ≡ None)
+      → keys_by g replaced again keys (prompted g key c) ≡ keys_by g replaced again (key ∷ keys) c
+  type_by replaced again key keys c empty some =
+      sym (none_put g replaced again (key ∷ keys) (step_at g replaced again key keys
+      (keys_by g replaced again keys) c.desk.prompt) c empty
+      ∙ typed_by replaced again key keys c.desk.prompt c some)
+
   pub type_is : (left replaced : ℕ) (key : Key) (keys : List Key) (c : CoreState)
-      → ¬ (c.desk.prompt ≡ None)
+      → c.rules.put ≡ [] → ¬ (c.desk.prompt ≡ None)
       → run_keys g left replaced keys (prompted g key c)
       ≡ run_keys g left replaced (key ∷ keys) c
   unfolding run_keys
-  type_is zero replaced key keys c some =
-      sym (typed_by replaced (drop_all g replaced) key keys c.desk.prompt c some)
-  type_is (suc left) replaced key keys c some =
-      sym (typed_by replaced (run_keys g left (replaced + 1)) key keys c.desk.prompt c some)
+  type_is zero replaced key keys c empty some =
+      type_by replaced (drop_all g replaced) key keys c empty some
+  type_is (suc left) replaced key keys c empty some =
+      type_by replaced (run_keys g left (replaced + 1)) key keys c empty some
+
+  -- keys that a command has put stand first
+
+  put_by : (replaced : ℕ) (again : List Key → CoreState → TurnState) (text : List Key)
+      (texts : List (List Key)) (keys : List Key) (c : CoreState) → c.rules.put ≡ text ∷ texts
+      → keys_by g replaced again keys c ≡ again (text ++ keys) (with_put texts c)
+  put_by replaced again text texts [] c is =
+      ap (λ (puts : List (List Key)). put_or puts again [] (stopped Idle replaced []) c) is
+  put_by replaced again text texts (key ∷ keys) c is =
+      ap (λ (puts : List (List Key)). put_or puts again (key ∷ keys)
+      (step_at g replaced again key keys (keys_by g replaced again keys) c.desk.prompt) c) is
+
+  pub put_is : (left replaced : ℕ) (text : List Key) (texts : List (List Key)) (keys : List Key)
+      (c : CoreState) → c.rules.put ≡ text ∷ texts
+      → run_keys g left (replaced + 1) (text ++ keys) (with_put texts c)
+      ≡ run_keys g (suc left) replaced keys c
+  unfolding run_keys
+  put_is left replaced text texts keys c is =
+      sym (put_by replaced (run_keys g left (replaced + 1)) text texts keys c is)
+
+  -- they are one replacement too many
+  pub put_drops : (replaced : ℕ) (text : List Key) (texts : List (List Key)) (keys : List Key)
+      (c : CoreState) → c.rules.put ≡ text ∷ texts
+      → run_keys g zero replaced keys c
+      ≡ stopped Idle replaced [] (acted g press.Loop (with_put [] c))
+  unfolding run_keys
+  put_drops replaced text texts keys c is =
+      put_by replaced (drop_all g replaced) text texts keys c is
+
+  -- no key is left
+  pub none_left : (left replaced : ℕ) (c : CoreState) → c.rules.put ≡ []
+      → run_keys g left replaced [] c ≡ stopped Idle replaced [] c
+  unfolding run_keys
+  none_left zero replaced c empty =
+      none_put g replaced (drop_all g replaced) [] (stopped Idle replaced []) c empty
+  none_left (suc left) replaced c empty =
+      none_put g replaced (run_keys g left (replaced + 1)) [] (stopped Idle replaced []) c empty
 
 -- Fewer keys wait behind an answer that does not stop them, or more replacements were made.
 

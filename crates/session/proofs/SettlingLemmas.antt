@@ -16,8 +16,8 @@ use Rattle.session_state.specs.declared.stage.Stage.TheVariants.{Unopened, Pushi
 use Rattle.session_state.specs.declared.stage.Stage.TheVariants.{Over}
 use Rattle.session.specs.Acting.{acted, prompted}
 use Rattle.session.specs.Core.{CoreState, Ground}
-use Rattle.session.specs.Keys.{TurnState, drop_all, keys_by, run_keys, stage_after, step, step_at}
-use Rattle.session.specs.Keys.{stop_by, with_begun}
+use Rattle.session.specs.Keys.{TurnState, drop_all, keys_by, put_or, run_keys, stage_after, step}
+use Rattle.session.specs.Keys.{step_at, stop_by, stopped, with_begun, with_put}
 use Rattle.session.specs.Steps.{IsNext, next_of}
 
 -- a key is wanted, or the run is over
@@ -79,13 +79,25 @@ module _ (g : Ground) where
         step_settles again loops (c.rules.keymap.begun ++ key ∷ []) (called key)
         (found_in c.rules.keymap Index (c.rules.keymap.begun ++ key ∷ [])) c
 
+  put_settles : (again : List Key → CoreState → TurnState)
+      → ((more : List Key) (c : CoreState) → IsSettled (again more c).stage)
+      → (texts : List (List Key)) (keys : List Key) (rest : CoreState → TurnState)
+      → ((c : CoreState) → IsSettled (rest c).stage) → (c : CoreState)
+      → IsSettled (put_or texts again keys rest c).stage
+  put_settles again loops [] keys rest goes c = goes c
+  put_settles again loops (text ∷ texts) keys rest goes c =
+      loops (text ++ keys) (with_put texts c)
+
   keys_settle : (replaced : ℕ) (again : List Key → CoreState → TurnState)
       → ((more : List Key) (c : CoreState) → IsSettled (again more c).stage)
       → (keys : List Key) (c : CoreState) → IsSettled (keys_by g replaced again keys c).stage
-  keys_settle replaced again loops [] c = tt
+  keys_settle replaced again loops [] c =
+      put_settles again loops c.rules.put [] (stopped Idle replaced []) (λ d. tt) c
   keys_settle replaced again loops (key ∷ keys) c =
-      at_settles replaced keys (keys_by g replaced again keys)
-      (λ d. keys_settle replaced again loops keys d) again loops key c.desk.prompt c
+      put_settles again loops c.rules.put (key ∷ keys)
+      (step_at g replaced again key keys (keys_by g replaced again keys) c.desk.prompt)
+      (λ d. at_settles replaced keys (keys_by g replaced again keys)
+      (λ e. keys_settle replaced again loops keys e) again loops key c.desk.prompt d) c
 
   run_settles : (left replaced : ℕ) (keys : List Key) (c : CoreState)
       → IsSettled (run_keys g left replaced keys c).stage

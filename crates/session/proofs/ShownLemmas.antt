@@ -15,7 +15,8 @@ use Rattle.session_index.specs.Counting.{counts_of}
 use Rattle.session_index.specs.Index.{answers_of, index_of}
 use Rattle.session_index.specs.Status.{PlainBanner, summary_of}
 use Rattle.session_index.specs.declared.counts.Counts.{Counts}
-use Rattle.session_state.specs.Formats.{format_in, row_letters, status_letters}
+use Rattle.rc_lang.specs.Rules.{row_letters, status_letters}
+use Rattle.session_state.specs.Formats.{format_in}
 use Rattle.session_state.specs.Places.{text_of}
 use Rattle.session_state.specs.declared.window.Window.{Window}
 use Rattle.session.specs.Core.{CoreState}

@@ -5,6 +5,7 @@ use Rattle.std.proofs.lemmas.List.{append-nil, map-append}
 use Rattle.folder_core.specs.Letters.{Mail}
 use Rattle.keymap.specs.Queue.{most_replacements}
 use Rattle.keymap.specs.declared.key.Key.{Key}
+use Rattle.session_state.specs.Rules.{put_all, without_puts}
 use Rattle.session_state.specs.declared.stage.Stage.{Stage}
 use Rattle.session_state.specs.declared.stage.Stage.TheVariants.{Ready}
 use Rattle.session_state.specs.declared.stage.Stage.TheVariants.{Unopened}
@@ -150,8 +151,8 @@ module _ {mails : List Mail} {kept : List PlainJudged} (old new : State) where
       → IsNext (next_of new.turn.stage) new.turn.stage
   pushed_next goes =
       keys_next (ground (given_of mails kept) old.checked old) most_replacements 0
-      old.turn.core.rules.put
-      (record old.turn.core { rules = record old.turn.core.rules { put = [] } })
+      (put_all old.turn.core.rules.put)
+      (record old.turn.core { rules = without_puts old.turn.core.rules })
       new.turn.stage (ap (λ (s : State). s.turn.stage)
       (goes (given_of mails kept) (given_here mails kept)))
 

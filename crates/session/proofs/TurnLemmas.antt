@@ -1,12 +1,14 @@
 -- How the loop over keys that wait goes on behind one press.
-use Rattle.std.proofs.Common.{◌≡◌, ◌+◌, ◌-◌, ◌*◌, ◌^◌, ◌<◌, ◌≤◌, ℕ, zero, suc, List, [], ◌∷◌}
-use Rattle.std.proofs.Common.{Option, Some, None, is_some, true, false, length}
+use Rattle.std.proofs.Common.{◌≡◌, ◌+◌, ◌-◌, ◌*◌, ◌^◌, ◌<◌, ◌≤◌, ℕ, zero, suc, List, [], ◌∷◌, ◌++◌}
+use Rattle.std.proofs.Common.{Bool, Option, Some, None, is_some, true, false, length, nat_lt}
 use Rattle.std.proofs.Common.{refl, sym, ◌∙◌, ap, subst, arith, inl, inr}
+use Rattle.std.proofs.lemmas.Bool.Decides.{nat_tests}
 use Rattle.keymap.specs.Press.{Pressed, pressed_queue}
 use Rattle.keymap.specs.Queue.{PlainQueue}
 use Rattle.keymap.specs.declared.key.Key.{Key}
 use Rattle.keymap.specs.declared.menu.Menu.TheVariants.{Index}
 use Rattle.keymap.specs.declared.press.Press.{Press}
+use Rattle.keymap.specs.declared.press.Press.TheVariants as press
 use Rattle.session_index.specs.Desk.{PlainWanted}
 use Rattle.session_state.specs.Commands.{IsPressed}
 use Rattle.session_state.specs.Rules.{PlainRules}
@@ -14,10 +16,11 @@ use Rattle.session.specs.Acting.{acted, prompted}
 use Rattle.session.specs.Answers.{granted}
 use Rattle.session.specs.Core.{CoreState, Ground}
 use Rattle.session.specs.Keys.{Steps, behind, run_keys, settled, stage_after, stop_by, stopped}
-use Rattle.session.specs.Keys.{turn_of, with_begun}
+use Rattle.session.specs.Keys.{turn_of, with_begun, with_put}
 use Rattle.session_state.specs.declared.stage.Stage.{Stage}
 use Rattle.session_state.specs.declared.stage.Stage.TheVariants.{Idle}
-use Rattle.session.proofs.KeysLemmas.{IsLess, by_pressed, less_is, press_is, type_is}
+use Rattle.session.proofs.KeysLemmas.{IsLess, by_pressed, less_is, none_left, press_is}
+use Rattle.session.proofs.KeysLemmas.{put_drops, put_is, type_is}
 
 abbrev answered : Press → PlainRules → PlainQueue → Pressed
 answered press rules queue =
@@ -32,7 +35,7 @@ answered press rules queue =
 -- A press took the core and the queue to others.
 module _ (g : Ground) (core next : CoreState) (rules : PlainRules) (queue queue' : PlainQueue)
     (press : Press)
-    (few : queue.replaced ≤ 1024) (none : core.desk.prompt ≡ None)
+    (few : queue.replaced ≤ 1024) (empty : core.rules.put ≡ []) (none : core.desk.prompt ≡ None)
     (is : IsPressed press core.rules rules queue queue')
     (acts : next ≡ acted g press (record core { rules = rules })) where
   core_is : with_begun rules.keymap.begun core ≡ record core { rules = rules }
@@ -43,7 +46,7 @@ module _ (g : Ground) (core next : CoreState) (rules : PlainRules) (queue queue'
       (run_keys g (1024 - queue'.replaced) queue'.replaced queue'.items) next
   settled_is =
       let most : 1024 - queue.replaced + queue.replaced ≡ 1024 = omega arith in
-      press_is g (1024 - queue.replaced) queue.replaced queue.items core none
+      press_is g (1024 - queue.replaced) queue.replaced queue.items core empty none
       ∙ ap (λ (n : ℕ). by_pressed g n (pressed_queue core.rules.keymap Index queue) core) most
       ∙ ap (λ (p : Pressed). by_pressed g 1024 p core) (sym is.outcome)
       ∙ ap (λ (c : CoreState). behind g press queue'.replaced queue'.items
@@ -80,37 +83,95 @@ module _ (g : Ground) (core next : CoreState) (rules : PlainRules) (queue queue'
 
 -- the prompt that stands took the first key
 pub typed_on : (g : Ground) (core next : CoreState) (queue queue' : PlainQueue) (key : Key)
-    → ¬ (core.desk.prompt ≡ None) → queue.items ≡ key ∷ queue'.items
+    → core.rules.put ≡ [] → ¬ (core.desk.prompt ≡ None) → queue.items ≡ key ∷ queue'.items
     → queue'.replaced ≡ queue.replaced → next ≡ prompted g key core
     → settled g next queue' ≡ settled g core queue
-typed_on g core next queue queue' key some items replaced acts =
+typed_on g core next queue queue' key empty some items replaced acts =
     ap (λ (c : CoreState). settled g c queue') acts
     ∙ ap (λ (n : ℕ). run_keys g (1024 - n) n queue'.items (prompted g key core)) replaced
-    ∙ type_is g (1024 - queue.replaced) queue.replaced key queue'.items core some
+    ∙ type_is g (1024 - queue.replaced) queue.replaced key queue'.items core empty some
     ∙ ap (λ (keys : List Key). run_keys g (1024 - queue.replaced) queue.replaced keys core)
     (sym items)
 
-none_left : (g : Ground) (left replaced : ℕ) (c : CoreState)
-    → run_keys g left replaced [] c ≡ stopped Idle replaced [] c
-unfolding run_keys
-none_left g zero replaced c = refl
-none_left g (suc left) replaced c = refl
+-- keys that a command has put stand first
+pub put_on : (g : Ground) (core next : CoreState) (queue queue' : PlainQueue) (text : List Key)
+    (texts : List (List Key)) → queue.replaced < 1024 → core.rules.put ≡ text ∷ texts
+    → next ≡ with_put texts core → queue'.items ≡ text ++ queue.items
+    → queue'.replaced ≡ queue.replaced + 1 → settled g next queue' ≡ settled g core queue
+put_on g core next queue queue' text texts few puts is items replaced =
+    let left : ℕ = 1024 - (queue.replaced + 1) in
+    let more : suc left ≡ 1024 - queue.replaced = omega (arith, few) in
+    ap (λ (c : CoreState). settled g c queue') is
+    ∙ ap (λ (n : ℕ). run_keys g (1024 - n) n queue'.items (with_put texts core)) replaced
+    ∙ ap (λ (keys : List Key). run_keys g left (queue.replaced + 1) keys (with_put texts core))
+    items
+    ∙ put_is g left queue.replaced text texts queue.items core puts
+    ∙ ap (λ (n : ℕ). run_keys g n queue.replaced queue.items core) more
 
-none_in : (keys : List Key) → length keys ≡ 0 → keys ≡ []
+some_put : (puts : List (List Key)) → ¬ (puts ≡ [])
+    → (text : List Key) × (texts : List (List Key)) × (puts ≡ text ∷ texts)
+some_put [] some = absurd (some refl)
+some_put (text ∷ texts) some = (text, texts, refl)
+
+-- a replacement that was counted was not one too many
+pub few_left : (counted : Bool) (n : ℕ) → counted ≡ true → (n ≡ 1024 → counted ≡ false)
+    → n ≤ 1024 → n < 1024
+few_left true n is full few =
+    let some : ¬ (n ≡ 1024) = λ h. absurd (let t : true ≡ false = full h in cc) in
+    omega (arith, few, some)
+few_left false n is full few = absurd (cc)
+
+same_queue : (g : Ground) (core : CoreState) (queue queue' : PlainQueue)
+    → queue'.items ≡ queue.items → queue'.replaced ≡ queue.replaced
+    → settled g core queue' ≡ settled g core queue
+same_queue g core queue queue' items replaced =
+    ap (λ (n : ℕ). run_keys g (1024 - n) n queue'.items core) replaced
+    ∙ ap (λ (keys : List Key). run_keys g (1024 - queue.replaced) queue.replaced keys core) items
+
+-- the same keys wait, whatever the room
+pub steps_same : (o : Option Stage) (g : Ground) (core last : CoreState)
+    (queue queue' next : PlainQueue)
+    → queue'.items ≡ queue.items → queue'.replaced ≡ queue.replaced
+    → Steps o g core last queue' next → Steps o g core last queue next
+steps_same None g core last queue queue' next items replaced h =
+    h ∙ same_queue g core queue queue' items replaced
+steps_same (Some stage) g core last queue queue' next items replaced h =
+    h ∙ same_queue g core queue queue' items replaced
+
+-- they are one replacement too many
+pub put_off : (g : Ground) (core last : CoreState) (queue queue' : PlainQueue)
+    → queue.replaced ≡ 1024 → ¬ (core.rules.put ≡ [])
+    → last ≡ granted (acted g press.Loop (with_put [] core)) → queue'.items ≡ []
+    → queue'.replaced ≡ queue.replaced → turn_of Idle last queue' ≡ settled g core queue
+put_off g core last queue queue' full some is items replaced =
+    let put = some_put core.rules.put some in
+    let none : 1024 - queue.replaced ≡ zero = omega (arith, full) in
+    ap (λ (c : CoreState). turn_of Idle c queue') is
+    ∙ ap (λ (keys : List Key). stopped Idle queue'.replaced keys
+    (acted g press.Loop (with_put [] core))) items
+    ∙ ap (λ (n : ℕ). stopped Idle n [] (acted g press.Loop (with_put [] core))) replaced
+    ∙ sym (put_drops g queue.replaced put.0 put.1 queue.items core put.2)
+    ∙ sym (ap (λ (n : ℕ). run_keys g n queue.replaced queue.items core) none)
+
+none_in : {X : Type 0} → (keys : List X) → length keys ≡ 0 → keys ≡ []
 none_in [] h = refl
 none_in (key ∷ keys) h = absurd (omega (arith, h))
 
+pub none_is : (n : ℕ) → nat_lt 0 n ≡ false → n ≡ 0
+none_is n h = grind (arith, nat_tests)
+
 -- no key waits any more
 pub none_waits : (g : Ground) (core last : CoreState) (queue : PlainQueue)
-    → length queue.items ≡ 0
+    → length core.rules.put + length queue.items ≡ 0
     → last ≡ granted core → turn_of Idle last queue ≡ settled g core queue
 none_waits g core last queue empty grants =
-    let none : queue.items ≡ [] = none_in queue.items empty in
+    let none : queue.items ≡ [] = none_in queue.items (omega (arith, empty)) in
+    let no_put : core.rules.put ≡ [] = none_in core.rules.put (omega (arith, empty)) in
     ap (λ (c : CoreState). turn_of Idle c queue) grants
     ∙ ap (λ (keys : List Key). stopped Idle queue.replaced keys core) none
     ∙ sym (ap (λ (keys : List Key). run_keys g (1024 - queue.replaced) queue.replaced keys
     core) none
-    ∙ none_left g (1024 - queue.replaced) queue.replaced core)
+    ∙ none_left g (1024 - queue.replaced) queue.replaced core no_put)
 
 module _ (wanted : PlainWanted) (old new : PlainRules) (queue queue' : PlainQueue) (press : Press)
     (few : queue.replaced ≤ 1024) (is : IsPressed press old new queue queue') where

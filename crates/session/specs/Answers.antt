@@ -11,6 +11,7 @@ use Rattle.prompts.specs.declared.asking.Asking.{Asking}
 use Rattle.prompts.specs.declared.asking.Asking.TheVariants as asking
 use Rattle.rc_lang.specs.Settings.{outcome}
 use Rattle.rc_lang.specs.Values.{PlainValue}
+use Rattle.rc_lang_words.specs.Words.{lines_of}
 use Rattle.session_index.specs.Answering.{answered, chosen, limited}
 use Rattle.session_index.specs.Desk.{PlainWanted, ToAnswer, ToChoose, ToEnd, Unasked}
 use Rattle.session_index.specs.Opening.{tuned as tuned_desk}
@@ -19,6 +20,7 @@ use Rattle.session.specs.Days.{reading}
 use Rattle.session.specs.Rules.{rule_of}
 use Rattle.session_state.specs.Sorting.{sort_words}
 use Rattle.session_state.specs.Tuning.{options_of}
+use Rattle.session_state.specs.Typed.{Typed, typed_run}
 use Rattle.session_state.specs.declared.window.Window.{Window}
 
 -- Patterns.
@@ -59,15 +61,32 @@ abbrev pub limit_answered : Ground → List ℕ → CoreState → CoreState
 limit_answered g text c =
     if is_no_limit text then without_limit g.given.mails c else text_read g asking.Limit text c
 
-abbrev pub text_answered : Ground → Asking → List ℕ → CoreState → CoreState
-text_answered g asking.Limit text c = limit_answered g text c
-text_answered g asking text c = text_read g asking text c
-
--- Orders.
+-- Commands.
 
 -- the index as the variables have it now
 abbrev pub tuned : List Mail → CoreState → CoreState
 tuned mails c = with_desk (tuned_desk mails (options_of c.rules.settings) c.desk) c
+
+-- the last line shows this of commands, or what it showed before
+abbrev pub shown_on : Option (List ℕ) → CoreState → CoreState
+shown_on None c = c
+shown_on (Some text) c = with_desk (record c.desk { message = text }) c
+
+abbrev pub told : Typed → CoreState → CoreState
+told t c = shown_on t.shown (record c { rules = t.rules })
+
+-- a line of commands was typed: they are run, and the index stands by the variables
+abbrev pub commanded : List Mail → List ℕ → CoreState → CoreState
+commanded mails text c = tuned mails (told (typed_run None (lines_of text) c.rules) c)
+
+-- Texts.
+
+abbrev pub text_answered : Ground → Asking → List ℕ → CoreState → CoreState
+text_answered g asking.Limit text c = limit_answered g text c
+text_answered g asking.Command text c = commanded g.given.mails text c
+text_answered g asking text c = text_read g asking text c
+
+-- Orders.
 
 abbrev pub with_settings : List PlainValue → CoreState → CoreState
 with_settings values c = record c { rules = record c.rules { settings = values } }

@@ -1,4 +1,5 @@
--- Keys that wait act one after the other; a macro's text stands in place of its keys.
+-- Keys that wait act one after the other; a macro's text stands in place of its keys, and what
+-- commands put stands before those that wait.
 use Rattle.std.specs.Prelude.{◌≡◌, ◌+◌, ◌-◌, ◌*◌, ◌^◌, ℕ, zero, suc, List, [], ◌∷◌, ◌++◌, Option}
 use Rattle.std.specs.Prelude.{Some, None, length}
 use Rattle.keymap.specs.Bindings.{Begun, Bound, Found, Replace, Run, Unbound}
@@ -81,16 +82,26 @@ step_at g replaced again key keys rest None c =
     step g replaced again keys rest (c.rules.keymap.begun ++ key ∷ []) (called key)
     (found_in c.rules.keymap Index (c.rules.keymap.begun ++ key ∷ [])) c
 
+-- these keys that commands have put are left
+abbrev pub with_put : List (List Key) → CoreState → CoreState
+with_put left c = record c { rules = record c.rules { put = left } }
+
+-- keys that a command has put stand before the others, as one replacement
+abbrev pub put_or : List (List Key) → (List Key → CoreState → TurnState) → List Key
+    → (CoreState → TurnState) → CoreState → TurnState
+put_or [] again keys rest c = rest c
+put_or (text ∷ left) again keys rest c = again (text ++ keys) (with_put left c)
+
 -- these keys act, where `again` is what comes after a replacement
 abbrev pub keys_by : Ground → ℕ → (List Key → CoreState → TurnState) → List Key → CoreState
     → TurnState
-keys_by g replaced again [] c = stopped Idle replaced [] c
-keys_by g replaced again (key ∷ keys) c =
-    step_at g replaced again key keys (keys_by g replaced again keys) c.desk.prompt c
+keys_by g replaced again [] c = put_or c.rules.put again [] (stopped Idle replaced []) c
+keys_by g replaced again (key ∷ keys) c = put_or c.rules.put again (key ∷ keys)
+    (step_at g replaced again key keys (keys_by g replaced again keys) c.desk.prompt) c
 
 -- one replacement too many: all that waits is dropped
 abbrev pub drop_all : Ground → ℕ → List Key → CoreState → TurnState
-drop_all g replaced keys c = stopped Idle replaced [] (acted g press.Loop c)
+drop_all g replaced keys c = stopped Idle replaced [] (acted g press.Loop (with_put [] c))
 
 -- these keys act, with so many replacements left and so many made
 unfoldable pub run_keys : Ground → ℕ → ℕ → List Key → CoreState → TurnState

@@ -20,6 +20,7 @@ use Rattle.session_state.specs.declared.stage.Stage.TheVariants.{Over}
 use Rattle.session_state.specs.declared.window.Window.{Window}
 use Rattle.session_state.specs.Frames.{PlainFrame, Script, plain_frames, read_script, skip_script}
 use Rattle.session_state.specs.Places.{folder_path}
+use Rattle.session_state.specs.Rules.{put_all, without_puts}
 use Rattle.session.specs.Core.{CoreState, Ground, plain_core, with_desk}
 use Rattle.session.specs.Given.{Given}
 use Rattle.session.specs.Keys.{TurnState, run_keys}
@@ -126,8 +127,8 @@ acting given moment keys c s =
 -- the keys that commands have put act, at the moment of the opening
 abbrev pub pushed : Given → State → State
 pushed given s =
-    acting given s.checked s.turn.core.rules.put
-    (record s.turn.core { rules = record s.turn.core.rules { put = [] } }) s
+    acting given s.checked (put_all s.turn.core.rules.put)
+    (record s.turn.core { rules = without_puts s.turn.core.rules }) s
 
 abbrev pub opened_by : List Mail → List ℕ → Kind → ℤ → List Listed → State → State
 opened_by mails path kind moment came s = record s {

@@ -14,7 +14,8 @@ use Rattle.session_index.specs.Counting.{counts_of}
 use Rattle.session_index.specs.Index.{PlainIndex, answers_of}
 use Rattle.session_index.specs.Status.{PlainBanner, summary_of}
 use Rattle.session_state.specs.Columns.{cut}
-use Rattle.session_state.specs.Formats.{format_in, row_letters, status_letters}
+use Rattle.rc_lang.specs.Rules.{row_letters, status_letters}
+use Rattle.session_state.specs.Formats.{format_in}
 use Rattle.session_state.specs.Places.{text_of}
 use Rattle.session.specs.Core.{CoreState}
 use Rattle.session.specs.Rules.{page_rows}

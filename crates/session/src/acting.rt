@@ -1,23 +1,13 @@
 //! How keys act.
 
-ghost use Rattle.std.specs.Prelude.{◌≡◌};
-ghost use Rattle.session.specs.Acting as spec;
-
 use crate::core_state::Core;
 use crate::moment::Moment;
 use folder_core::Archive;
-use keymap::{Function, Key, Press};
+use keymap::{Key, Press};
 use mail_base::NoMemory;
 use people::Verdicts;
 use session_index::Notice;
 use session_state::Window;
-
-// Whether the function asks for a command.
-fn is_command(function: Function) -> bool
-    ensures { result ≡ spec.is_command function }
-{
-    matches!(function, Function::EnterCommand)
-}
 
 impl Core {
     ghost use Rattle.std.specs.Prelude.{◌≡◌, ℤ, List, map, OnOk};
@@ -41,10 +31,6 @@ impl Core {
         match press {
             Press::Wait => Ok(()),
             Press::Unbound => {
-                self.desk.say(Notice::NotBound);
-                Ok(())
-            }
-            Press::Function(function) if is_command(function) => {
                 self.desk.say(Notice::NotBound);
                 Ok(())
             }

@@ -68,6 +68,8 @@ impl Core {
     ghost use Rattle.session.specs.Answers as spec;
     ghost use Rattle.session.specs.Core.{IsMoment, IsWindow, Stands, ground_of, plain_core};
     ghost use Rattle.patterns.specs.Causes.{Keeps};
+    ghost use Rattle.rc_lang_words.specs.Words.{lines_of};
+    ghost use Rattle.session_state.specs.Typed.{typed_run};
 
     // Tells that a text is no pattern.
     fn refuse_pattern(&mut self, text: &Line) -> Result<(), NoMemory>
@@ -167,8 +169,36 @@ impl Core {
     {
         match asking {
             Asking::Limit if is_no_limit(text.as_slice()) => self.drop_limit(archive),
+            Asking::Command => self.command(archive, &text),
             _ => self.read_text(window, moment, archive, verdicts, asking, text),
         }
+    }
+
+    // Runs the commands that were typed.
+    fn run_typed(&mut self, text: &Line) -> Result<(), NoMemory>
+        ensures core { OnOk result (plain_core self.new ≡ spec.told
+            (typed_run None (lines_of text.now.items) (plain_core self.old).rules)
+            (plain_core self.old)) }
+        ensures view { self.new.desk.view ≡ self.old.desk.view }
+    {
+        match self.rules.run_typed(text.as_slice())? {
+            None => Ok(()),
+            Some(line) => {
+                self.desk.message = Message::Text(line);
+                Ok(())
+            }
+        }
+    }
+
+    // Does what commands do that were typed.
+    fn command(&mut self, archive: &Archive, text: &Line) -> Result<(), NoMemory>
+        requires { IsOf (map plain_letter archive.now.items) self.old.desk.view }
+        ensures { OnOk result (Stands (map plain_letter archive.now.items) (spec.commanded
+            (map plain_letter archive.now.items) text.now.items (plain_core self.old))
+            self.new) }
+    {
+        self.run_typed(text)?;
+        self.tune(archive)
     }
 
     /// The index stands as the variables have it now.

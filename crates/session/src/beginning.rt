@@ -1,8 +1,6 @@
 //! How a session begins.
 
-ghost use Rattle.std.specs.Prelude.{◌≡◌, IfOk, map};
-ghost use Rattle.mail_base.specs.Series.{plain_texts};
-ghost use Rattle.session_state.specs.Rules.{answer_line};
+ghost use Rattle.std.specs.Prelude.{◌≡◌};
 ghost use Rattle.session.specs.Beginning as spec;
 ghost use Rattle.session_events.specs.Events.{plain_event};
 ghost use Rattle.session_events.specs.Opening as opening;
@@ -13,7 +11,7 @@ use disk_model::Device;
 use folder_core::{Archive, Drivers, ScanError};
 use mail_base::{Bytes, Lines, NoMemory, Words};
 use session_events::{Event, OpenFault, Trace, open_event};
-use session_state::{Rules, text_of};
+use session_state::text_of;
 use std::alloc::Global;
 
 impl Session {
@@ -162,7 +160,7 @@ impl Session {
         ensures archive { trace.new.archive ≡ trace.old.archive }
     {
         self.source_all(dev, trace)?;
-        answer_lines(self.alloc, &self.core.rules, names.as_slice())
+        self.core.rules.answers(self.alloc, names.as_slice())
     }
 
     // Opens the folder that is wished.
@@ -267,18 +265,4 @@ fn start_error(why: OpenFault) -> StartError
         OpenFault::Folder(ScanError::NoMemory) => StartError::NoMemory,
         why => StartError::NotOpened(why),
     }
-}
-
-// The lines that queries of these variables print.
-fn answer_lines(alloc: Global, rules: &Rules, names: &[Bytes]) -> Result<Lines, NoMemory>
-    ensures { IfOk result (λ lines. plain_texts lines
-        ≡ map (answer_line rules.now.settings) (map (λ name. name.items) names.now)) }
-{
-    let mut lines = Lines::new(alloc);
-    let mut left = names;
-    while let Some((name, rest)) = left.split_first() {
-        lines.push(rules.answer(alloc, name.as_slice())?)?;
-        left = rest;
-    }
-    Ok(lines)
 }

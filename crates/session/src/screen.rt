@@ -15,9 +15,9 @@ use folder_core::Archive;
 use index_rows::status_line as status_row;
 use index_view::View;
 use mail_base::{Kind, Line, Lines, NoMemory};
-use rc_lang::Variable;
+use rc_lang::{ROW_LETTERS, STATUS_LETTERS, Variable};
 use session_index::{Banner, Message, count_shown, summary};
-use session_state::{ROW_LETTERS, STATUS_LETTERS, Window, cut, format_in, text_of};
+use session_state::{Window, cut, format_in, text_of};
 use std::alloc::Global;
 
 /// The folder that is open.

@@ -265,9 +265,8 @@ impl Session {
         ensures checked { self.new.checked ≡ self.old.checked }
         ensures kept { Keeps verdicts.old.kept verdicts.new.kept }
     {
-        let put = self.core.rules.take_put();
         self.queue = KeyQueue::new(self.alloc);
-        self.queue.put_before(&put)?;
+        self.core.rules.put_into(&mut self.queue)?;
         self.settle_at(self.checked, archive, verdicts)
     }
 }

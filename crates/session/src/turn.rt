@@ -1,6 +1,7 @@
 //! The keys that wait, one after the other.
 
-ghost use Rattle.std.specs.Prelude.{◌≡◌, ◌≢◌, ◌≤◌, ◌<◌, ◌^◌, ℤ, None, List, IfOk, OnOk, length, map};
+ghost use Rattle.std.specs.Prelude.{◌≡◌, ◌≢◌, ◌≤◌, ◌<◌, ◌^◌, ◌+◌, ℤ, None, List, [], nat_lt};
+ghost use Rattle.std.specs.Prelude.{IfOk, OnOk, length, map};
 ghost use Rattle.folder_core.specs.Letters.{plain_letter};
 ghost use Rattle.index_view.specs.View.{IsOf};
 ghost use Rattle.keymap.specs.Queue.{most_replacements};
@@ -41,19 +42,30 @@ pub fn settle(
         (ground_of (map plain_letter archive.now.items) later window moment.0)
         (plain_core core.old) queue.old) }
 {
-    let mut waiting = queue.len();
-    while waiting > 0 {
+    let mut waiting = is_waiting(core, queue);
+    while waiting {
         match go_on(core, queue, window, moment, archive, verdicts)? {
             None => {}
             Some(stage) => return Ok(stage),
         }
-        waiting = queue.len();
+        waiting = is_waiting(core, queue);
     }
     core.grant();
     Ok(Stage::Idle)
 }
 
-// Lets the first key act, and where no prompt stands the keys behind it up to an answer.
+// Whether there are keys that wait or that commands have put.
+fn is_waiting(core: &Core, queue: &KeyQueue) -> bool
+    ensures some { result
+        ≡ nat_lt 0 (length (plain_core core.now).rules.put + length queue.now.items) }
+    ensures short { length queue.now.items < 2 ^ 64 }
+{
+    let waiting = queue.len();
+    waiting > 0 || core.rules.puts() > 0
+}
+
+// Lets the keys stand first that a command has put; else lets the first key act, and where no
+// prompt stands the keys behind it up to an answer.
 fn go_on(
     core: &mut Core,
     queue: &mut KeyQueue,
@@ -65,7 +77,7 @@ fn go_on(
     requires window { IsWindow window }
     requires moment { IsMoment moment.0 }
     requires is_of { IsOf (map plain_letter archive.now.items) core.old.desk.view }
-    requires some { 0 < length queue.old.items }
+    requires some { 0 < length (plain_core core.old).rules.put + length queue.old.items }
     requires few { queue.old.replaced ≤ most_replacements }
     ensures keeps { Keeps verdicts.old.kept verdicts.new.kept }
     ensures is_of { OnOk result (IsOf (map plain_letter archive.now.items) core.new.desk.view) }
@@ -77,10 +89,69 @@ fn go_on(
     ensures falls { IfOk result (λ stopped. stopped ≡ None → length queue.new.items < 2 ^ 64
         → fuel queue.new < fuel queue.old) }
 {
+    if core.rules.puts() > 0 {
+        return put_next(core, queue, window, archive);
+    }
     if core.desk.prompt.is_some() {
         return type_next(core, queue, window, moment, archive, verdicts);
     }
     press_next(core, queue, window, archive)
+}
+
+// The keys that a command has put stand first, or are one replacement too many.
+fn put_next(
+    core: &mut Core,
+    queue: &mut KeyQueue,
+    window: Window,
+    archive: &Archive,
+) -> Result<Option<Stage>, NoMemory>
+    requires window { IsWindow window }
+    requires is_of { IsOf (map plain_letter archive.now.items) core.old.desk.view }
+    requires some { (plain_core core.old).rules.put ≢ [] }
+    requires few { queue.old.replaced ≤ most_replacements }
+    ensures is_of { OnOk result (IsOf (map plain_letter archive.now.items) core.new.desk.view) }
+    ensures steps { IfOk result (λ stopped. (verdicts : List PlainJudged) → (moment : ℤ)
+        → Steps stopped (ground_of (map plain_letter archive.now.items) verdicts window moment)
+        (plain_core core.old) (plain_core core.new) queue.old queue.new) }
+    ensures few { OnOk result (queue.new.replaced ≤ most_replacements) }
+    ensures falls { IfOk result (λ stopped. stopped ≡ None → length queue.new.items < 2 ^ 64
+        → fuel queue.new < fuel queue.old) }
+{
+    if !queue.count_one() {
+        return drop_keys(core, queue, window, archive);
+    }
+    match core.rules.take_put() {
+        None => Ok(None),
+        Some(keys) => {
+            queue.put_before(&keys)?;
+            Ok(None)
+        }
+    }
+}
+
+// Drops all keys where a further replacement would be one too many.
+fn drop_keys(
+    core: &mut Core,
+    queue: &mut KeyQueue,
+    window: Window,
+    archive: &Archive,
+) -> Result<Option<Stage>, NoMemory>
+    requires window { IsWindow window }
+    requires is_of { IsOf (map plain_letter archive.now.items) core.old.desk.view }
+    requires some { (plain_core core.old).rules.put ≢ [] }
+    requires full { queue.old.replaced ≡ most_replacements }
+    ensures is_of { OnOk result (IsOf (map plain_letter archive.now.items) core.new.desk.view) }
+    ensures steps { IfOk result (λ stopped. (verdicts : List PlainJudged) → (moment : ℤ)
+        → Steps stopped (ground_of (map plain_letter archive.now.items) verdicts window moment)
+        (plain_core core.old) (plain_core core.new) queue.old queue.new) }
+    ensures few { queue.new.replaced ≡ queue.old.replaced }
+    ensures stops { IfOk result (λ stopped. stopped ≢ None) }
+{
+    core.rules.drop_puts();
+    queue.clear();
+    core.act(window, archive, Press::Loop)?;
+    core.grant();
+    Ok(Some(Stage::Idle))
 }
 
 // The prompt that stands takes the first key.
@@ -95,6 +166,7 @@ fn type_next(
     requires window { IsWindow window }
     requires moment { IsMoment moment.0 }
     requires is_of { IsOf (map plain_letter archive.now.items) core.old.desk.view }
+    requires put { (plain_core core.old).rules.put ≡ [] }
     requires prompt { (plain_core core.old).desk.prompt ≢ None }
     requires some { 0 < length queue.old.items }
     requires few { queue.old.replaced ≤ most_replacements }
@@ -122,6 +194,7 @@ fn press_next(
 ) -> Result<Option<Stage>, NoMemory>
     requires window { IsWindow window }
     requires is_of { IsOf (map plain_letter archive.now.items) core.old.desk.view }
+    requires put { (plain_core core.old).rules.put ≡ [] }
     requires prompt { (plain_core core.old).desk.prompt ≡ None }
     requires few { queue.old.replaced ≤ most_replacements }
     ensures is_of { OnOk result (IsOf (map plain_letter archive.now.items) core.new.desk.view) }

@@ -5,7 +5,6 @@ use Rattle.std.specs.Prelude.{true, false, codes, drop, length, nat_le, nat_lt, 
 use Rattle.std.specs.Prelude.{unwrap_or, if◌then◌else◌}
 use Rattle.std.specs.List.{list_all, slice_split}
 use Rattle.std.specs.Str.{bytes_eq}
-use Rattle.mail_base.specs.Series.{Held}
 use Rattle.mail_base.specs.Shown.{utf8_text}
 use Rattle.keymap.specs.Bindings.{PlainAction, Replace, Run}
 use Rattle.keymap.specs.Functions.{function_named}
@@ -22,7 +21,7 @@ use Rattle.keymap.specs.declared.menu.Menu.{Menu}
 use Rattle.keymap.specs.declared.menu.Menu.TheVariants.{Index, Pager, Attach, Generic}
 use Rattle.rc_lang.specs.Commands.{command_of}
 use Rattle.rc_lang.specs.Expansion.{before_rest, expanded_words}
-use Rattle.rc_lang.specs.Settings.{Outcome, fault_of, outcome, plain_shown}
+use Rattle.rc_lang.specs.Settings.{Outcome, fault_of, outcome}
 use Rattle.rc_lang.specs.declared.command.Command.{Command}
 use Rattle.rc_lang.specs.declared.command.Command.TheVariants.{Set, Unset, Toggle, Reset, Bind}
 use Rattle.rc_lang.specs.declared.command.Command.TheVariants.{Macro, Push, Exec}
@@ -32,9 +31,10 @@ use Rattle.rc_lang_words.specs.Words.{PlainPiece}
 use Rattle.rc_lang_words.specs.declared.fault.RcError.{RcError}
 use Rattle.rc_lang_words.specs.declared.fault.RcFault.TheVariants.{BadKey, UnknownFunction}
 use Rattle.rc_lang_words.specs.declared.fault.RcFault.TheVariants.{UnknownMenu}
+use Rattle.session_state.specs.declared.commands.Answer.{Answer}
+use Rattle.session_state.specs.declared.commands.Answer.TheVariants as answer
 use Rattle.session_state.specs.declared.commands.Obeyed.{Obeyed}
-use Rattle.session_state.specs.declared.commands.Obeyed.TheVariants.{Done, Source as SourceAt}
-use Rattle.session_state.specs.declared.commands.Obeyed.TheVariants.{Refused}
+use Rattle.session_state.specs.declared.commands.Obeyed.TheVariants.{Answered, Refused}
 use Rattle.session_state.specs.declared.request.BindRequest.{BindRequest}
 use Rattle.session_state.specs.declared.request.MacroRequest.{MacroRequest}
 use Rattle.session_state.specs.Rules.{PlainRules}
@@ -165,27 +165,34 @@ macro_of words = macro_keys (word_at words 1) (word_at words 3) (sequence_of (wo
 
 -- What commands do.
 
--- what muttrc has set behind a command, and a path to be read, or why the command is refused
+-- what a command answers: nothing, a path to be read, or a line to be shown where it was typed
+pub data PlainAnswer : Type 0 where
+  Quiet : PlainAnswer
+  ToRead : (path : List ℕ) → PlainAnswer
+  ToShow : (line : List ℕ) → PlainAnswer
+
+-- what muttrc has set behind a command, and its answer, or why it is refused
 pub record Ran : Type 0 where
   pub rules : PlainRules
-  pub answer : Result (Option (List ℕ)) Fault
+  pub answer : Result PlainAnswer Fault
 
 abbrev pub done : PlainRules → Ran
-done rules = record { rules = rules; answer = Ok None }
+done rules = record { rules = rules; answer = Ok Quiet }
 
 abbrev pub refused : Fault → PlainRules → Ran
 refused fault rules = record { rules = rules; answer = Err fault }
 
--- the line that `set` shows is dropped
-abbrev pub without_line : Result (Option (List ℕ)) Fault → Result (Option (List ℕ)) Fault
-without_line (Ok shown) = Ok None
-without_line (Err fault) = Err fault
+-- what `set` answers is shown
+abbrev pub shown_by : Result (Option (List ℕ)) Fault → Result PlainAnswer Fault
+shown_by (Ok None) = Ok Quiet
+shown_by (Ok (Some line)) = Ok (ToShow line)
+shown_by (Err fault) = Err fault
 
 -- `set` and its kin; words before a faulty one stay applied
 abbrev pub set_by : Outcome → PlainRules → Ran
 set_by o rules = record {
   rules = record rules { settings = o.values };
-  answer = without_line o.answer;
+  answer = shown_by o.answer;
 }
 
 -- keys do this in all of these menus
@@ -204,13 +211,13 @@ replaced_by (Ok m) rules =
     done (record rules { keymap = bound_all m.menus m.keys (Replace m.text) rules.keymap })
 replaced_by (Err fault) rules = refused fault rules
 
--- keys stand before all that were put
+-- keys are put
 abbrev pub put_by : Result (List Key) Fault → PlainRules → Ran
-put_by (Ok keys) rules = done (record rules { put = keys ++ rules.put })
+put_by (Ok keys) rules = done (record rules { put = rules.put ++ keys ∷ [] })
 put_by (Err fault) rules = refused fault rules
 
 abbrev pub sourcing : List ℕ → PlainRules → Ran
-sourcing path rules = record { rules = rules; answer = Ok (Some (utf8_text path)) }
+sourcing path rules = record { rules = rules; answer = Ok (ToRead (utf8_text path)) }
 
 -- a command with the texts of its words, its own name first; the others do nothing yet
 abbrev pub obeyed : Command → List (List ℕ) → PlainRules → Ran
@@ -240,14 +247,18 @@ ran words rules = obeyed_command words rules (command_of rules.settings words)
 
 -- For the code alone.
 
-abbrev pub plain_obeyed : Obeyed → Result (Option (List ℕ)) Fault
-plain_obeyed Done = Ok None
-plain_obeyed (SourceAt path) = Ok (Some path.items)
+abbrev pub plain_answer : Answer → PlainAnswer
+plain_answer answer.Quiet = Quiet
+plain_answer (answer.Source path) = ToRead path.items
+plain_answer (answer.Show line) = ToShow line.items
+
+abbrev pub plain_obeyed : Obeyed → Result PlainAnswer Fault
+plain_obeyed (Answered a) = Ok (plain_answer a)
 plain_obeyed (Refused e) = Err (plain_error e)
 
 -- a command left this, or memory ran out
-abbrev pub IsRan : Result (Option (Held ℕ)) RcError → PlainRules → Ran → Type 0
-IsRan (Ok source) rules wanted = wanted ≡ record { rules = rules; answer = Ok (plain_shown source) }
+abbrev pub IsRan : Result Answer RcError → PlainRules → Ran → Type 0
+IsRan (Ok a) rules wanted = wanted ≡ record { rules = rules; answer = Ok (plain_answer a) }
 IsRan (Err e) rules wanted =
     (wanted ≡ record { rules = rules; answer = Err (plain_error e) }) ⊎ (plain_error e ≡ no_memory)
 

@@ -1,16 +1,9 @@
 -- The formats that variables have.
-use Rattle.std.specs.Prelude.{ℕ, List, [], codes, Result, Ok, Err}
+use Rattle.std.specs.Prelude.{ℕ, List, [], Result, Ok, Err}
 use Rattle.expando.specs.Formats.{PlainPiece, format_of}
 use Rattle.rc_lang.specs.Values.{PlainValue}
 use Rattle.rc_lang.specs.declared.variable.Variable.{Variable}
 use Rattle.session_state.specs.Places.{text_of}
-
--- the letters of a row of the index and of the status line
-abbrev pub row_letters : List ℕ
-row_letters = codes "CmZS{[anFLtiscNly"
-
-abbrev pub status_letters : List ℕ
-status_letters = codes "frmMnoudFtVsSP"
 
 -- a format that is none shows nothing
 abbrev pub pieces_or_none : Result (List PlainPiece) ℕ → List PlainPiece

@@ -12,13 +12,13 @@ use Rattle.rc_lang_words.specs.Faults.{Fault, fault_text}
 use Rattle.rc_lang_words.specs.Words.{PlainLine, lines_of, plain_line}
 use Rattle.rc_lang_words.specs.declared.fault.RcFault.{RcFault}
 use Rattle.rc_lang_words.specs.declared.fault.RcFault.TheVariants.{TooMuchSource}
+use Rattle.session_state.specs.declared.commands.Answer.TheVariants as answer
 use Rattle.session_state.specs.declared.commands.Obeyed.{Obeyed}
-use Rattle.session_state.specs.declared.commands.Obeyed.TheVariants.{Done, Source as SourceAt}
-use Rattle.session_state.specs.declared.commands.Obeyed.TheVariants.{Refused}
+use Rattle.session_state.specs.declared.commands.Obeyed.TheVariants.{Answered, Refused}
 use Rattle.session_state.specs.declared.frame.Frame.{Frame}
 use Rattle.session_state.specs.declared.frame.Origin.{Origin}
 use Rattle.session_state.specs.declared.frame.Origin.TheVariants.{Default, Named, Typed}
-use Rattle.session_state.specs.Commands.{Ran, ran, refused}
+use Rattle.session_state.specs.Commands.{PlainAnswer, Quiet, Ran, ToRead, ToShow, ran, refused}
 use Rattle.session_state.specs.Rules.{PlainRules}
 
 -- a file, why it is read, and how deep it is nested
@@ -83,10 +83,11 @@ abbrev pub ran_line : PlainLine → PlainRules → Ran
 ran_line line rules = ran_read line.fault line rules
 
 -- a file that is nested too deep is not read
-abbrev pub judged : ℕ → Result (Option (List ℕ)) Fault → Result (Option (List ℕ)) Fault
-judged depth (Ok (Some path)) =
-    if nat_lt depth 16 then Ok (Some path) else Err (fault_of TooMuchSource [])
-judged depth (Ok None) = Ok None
+abbrev pub judged : ℕ → Result PlainAnswer Fault → Result PlainAnswer Fault
+judged depth (Ok (ToRead path)) =
+    if nat_lt depth 16 then Ok (ToRead path) else Err (fault_of TooMuchSource [])
+judged depth (Ok Quiet) = Ok Quiet
+judged depth (Ok (ToShow line)) = Ok (ToShow line)
 judged depth (Err fault) = Err fault
 
 -- commands were run up to one that names a file, or to the last one
@@ -96,11 +97,12 @@ pub record Half : Type 0 where
   pub left : List PlainLine
   pub source : Option (List ℕ)
 
--- behind a command the others, unless it names a file
+-- behind a command the others, unless it names a file; a line to be shown is dropped
 abbrev pub behind_line : Place → ℕ → List PlainLine → (PlainRules → List (List ℕ) → Half)
-    → PlainRules → List (List ℕ) → Result (Option (List ℕ)) Fault → Half
-behind_line place line lines more rules notes (Ok None) = more rules notes
-behind_line place line lines more rules notes (Ok (Some path)) =
+    → PlainRules → List (List ℕ) → Result PlainAnswer Fault → Half
+behind_line place line lines more rules notes (Ok Quiet) = more rules notes
+behind_line place line lines more rules notes (Ok (ToShow shown)) = more rules notes
+behind_line place line lines more rules notes (Ok (ToRead path)) =
     record { rules = rules; notes = notes; left = lines; source = Some path }
 behind_line place line lines more rules notes (Err fault) =
     more rules (notes ++ note_of place.file (line_number place.origin line) fault ∷ [])
@@ -181,6 +183,7 @@ script_of rules frames notes =
 
 -- a file that is to be read is not nested too deep
 abbrev pub IsNested : ℕ → Obeyed → Type 0
-IsNested depth Done = Unit {0}
-IsNested depth (SourceAt path) = depth < 16
+IsNested depth (Answered answer.Quiet) = Unit {0}
+IsNested depth (Answered (answer.Source path)) = depth < 16
+IsNested depth (Answered (answer.Show line)) = Unit {0}
 IsNested depth (Refused e) = Unit {0}

@@ -7,3 +7,4 @@ pub mod Columns
 pub mod Tuning
 pub mod Sorting
 pub mod Formats
+pub mod Typed

@@ -1,20 +1,29 @@
 -- What muttrc has set, and what commands make of it.
-use Rattle.std.specs.Prelude.{ℕ, List, [], Option, Some, None}
+use Rattle.std.specs.Prelude.{ℕ, List, [], ◌∷◌, ◌++◌, Option, Some, None}
 use Rattle.keymap.specs.Keymap.{PlainKeymap, default_keymap}
 use Rattle.keymap.specs.declared.key.Key.{Key}
 use Rattle.rc_lang.specs.Settings.{defaults, value_at}
 use Rattle.rc_lang.specs.Values.{PlainValue, shown_line}
 use Rattle.rc_lang.specs.Variables.{place_of}
 
--- the values of the variables, the bindings, and the keys that commands have put
+-- the values of the variables, the bindings, and the keys that commands have put, of each apart
 pub record PlainRules : Type 0 where
   pub settings : List PlainValue
   pub keymap : PlainKeymap
-  pub put : List Key
+  pub put : List (List Key)
 
 -- before a muttrc is read
 unfoldable pub first_rules : PlainRules
 first_rules = record { settings = defaults; keymap = default_keymap; put = [] }
+
+-- keys that commands have put, each before those that were put earlier
+abbrev pub put_all : List (List Key) → List Key
+put_all [] = []
+put_all (keys ∷ later) = put_all later ++ keys
+
+-- no keys that commands have put are left
+abbrev pub without_puts : PlainRules → PlainRules
+without_puts rules = record rules { put = [] }
 
 abbrev pub line_of : List ℕ → Option PlainValue → List ℕ
 line_of name None = []

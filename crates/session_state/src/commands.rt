@@ -8,16 +8,24 @@ ghost use Rattle.rc_lang_words.specs.Faults.{no_memory, plain_error};
 
 use crate::request::{BindRequest, MacroRequest, calls_of, key_text, word_at};
 use crate::rules::Rules;
-use keymap::{Key, Keymap, Keys};
+use keymap::{Keymap, Keys};
 use mail_base::{Line, NoMemory, Words, append_utf8};
 use rc_lang::{Command, RcError, RcFault, RcWords};
+
+/// What a command answers that is carried out.
+#[derive(Drop)]
+pub enum Answer {
+    Quiet,
+    /// The file at the path is to be read.
+    Source(Line),
+    /// The line is to be shown where the command was typed.
+    Show(Line),
+}
 
 /// What a command came to.
 #[derive(Drop)]
 pub enum Obeyed {
-    Done,
-    /// The file at the path is to be read.
-    Source(Line),
+    Answered(Answer),
     Refused(RcError),
 }
 
@@ -37,14 +45,13 @@ impl Rules {
         } ≡ spec.ran (plain_words words.now) self.old) }
     {
         match self.obey(words) {
-            Ok(None) => Ok(Obeyed::Done),
-            Ok(Some(path)) => Ok(Obeyed::Source(path)),
+            Ok(answer) => Ok(Obeyed::Answered(answer)),
             Err(error) => refusal(error),
         }
     }
 
     #[tactic(auto, unfolding(crate::specs::Commands::ran))]
-    fn obey(&mut self, words: &RcWords) -> Result<Option<Line>, RcError>
+    fn obey(&mut self, words: &RcWords) -> Result<Answer, RcError>
         ensures { spec.IsRan result self.new (spec.ran (plain_words words.now) self.old) }
     {
         let command = self.settings.read_command(self.alloc, words)?;
@@ -52,7 +59,7 @@ impl Rules {
         self.carry_out(command, &texts)
     }
 
-    fn carry_out(&mut self, command: Command, words: &Words) -> Result<Option<Line>, RcError>
+    fn carry_out(&mut self, command: Command, words: &Words) -> Result<Answer, RcError>
         ensures { spec.IsRan result self.new
             (spec.obeyed command (plain_texts words.now) self.old) }
     {
@@ -63,16 +70,17 @@ impl Rules {
             Command::Push => self.push(words),
             Command::Exec => self.exec(words),
             Command::Source => self.source(words),
-            _ => Ok(None),
+            _ => Ok(Answer::Quiet),
         }
     }
 
-    fn set(&mut self, words: &Words) -> Result<Option<Line>, RcError>
+    fn set(&mut self, words: &Words) -> Result<Answer, RcError>
         ensures { spec.IsRan result self.new
             (spec.set_by (outcome self.old.settings (plain_texts words.now)) self.old) }
     {
         match self.settings.apply(words) {
-            Ok(_) => Ok(None),
+            Ok(Some(line)) => Ok(Answer::Show(line)),
+            Ok(None) => Ok(Answer::Quiet),
             Err(error) => Err(error),
         }
     }
@@ -93,71 +101,61 @@ impl Rules {
         }
     }
 
-    fn bind(&mut self, words: &Words) -> Result<Option<Line>, RcError>
+    fn bind(&mut self, words: &Words) -> Result<Answer, RcError>
         ensures { spec.IsRan result self.new
             (spec.bound_by (spec.bind_of (plain_texts words.now)) self.old) }
     {
         let request = BindRequest::read(self.alloc, words)?;
         match bind_all(&mut self.keymap, &request) {
-            Ok(()) => Ok(None),
+            Ok(()) => Ok(Answer::Quiet),
             Err(NoMemory) => Err(RcError::no_memory(self.alloc)),
         }
     }
 
-    fn bind_macro(&mut self, words: &Words) -> Result<Option<Line>, RcError>
+    fn bind_macro(&mut self, words: &Words) -> Result<Answer, RcError>
         ensures { spec.IsRan result self.new
             (spec.replaced_by (spec.macro_of (plain_texts words.now)) self.old) }
     {
         let request = MacroRequest::read(self.alloc, words)?;
         match replace_all(&mut self.keymap, &request) {
-            Ok(()) => Ok(None),
+            Ok(()) => Ok(Answer::Quiet),
             Err(NoMemory) => Err(RcError::no_memory(self.alloc)),
         }
     }
 
-    fn push(&mut self, words: &Words) -> Result<Option<Line>, RcError>
+    fn push(&mut self, words: &Words) -> Result<Answer, RcError>
         ensures { spec.IsRan result self.new
             (spec.put_by (spec.text_of (spec.word_at (plain_texts words.now) 1)) self.old) }
     {
         let keys = key_text(self.alloc, word_at(words, 1))?;
-        self.put_keys(&keys)
+        self.put_keys(keys)
     }
 
-    fn exec(&mut self, words: &Words) -> Result<Option<Line>, RcError>
+    fn exec(&mut self, words: &Words) -> Result<Answer, RcError>
         ensures { spec.IsRan result self.new
             (spec.put_by (spec.calls_of (drop 1 (plain_texts words.now))) self.old) }
     {
         let names = words.as_slice().get(1..).unwrap_or(&[]);
         let keys = calls_of(self.alloc, names)?;
-        self.put_keys(&keys)
+        self.put_keys(keys)
     }
 
-    fn put_keys(&mut self, keys: &Keys) -> Result<Option<Line>, RcError>
-        ensures { spec.IsRan result self.new (spec.put_by (Ok keys.now.items) self.old) }
+    fn put_keys(&mut self, keys: Keys) -> Result<Answer, RcError>
+        ensures { spec.IsRan result self.new (spec.put_by (Ok keys.items) self.old) }
     {
-        match self.put_before(keys.as_slice()) {
-            Ok(()) => Ok(None),
-            Err(NoMemory) => Err(RcError::no_memory(self.alloc)),
+        match self.put.push(keys) {
+            Ok(()) => Ok(Answer::Quiet),
+            Err(_) => Err(RcError::no_memory(self.alloc)),
         }
     }
 
-    // Puts keys before all that were put.
-    fn put_before(&mut self, keys: &[Key]) -> Result<(), NoMemory>
-        ensures { OnOk result (self.new ≡ record self.old { put = keys.now ++ self.old.put }) }
-    {
-        let mut all = Vec::from_slice(self.alloc, keys)?;
-        all.extend_from_slice(self.put.as_slice())?;
-        self.put = Keys::from_vec(all);
-        Ok(())
-    }
-
-    fn source(&mut self, words: &Words) -> Result<Option<Line>, RcError>
+    fn source(&mut self, words: &Words) -> Result<Answer, RcError>
         ensures { spec.IsRan result self.new
             (spec.sourcing (spec.word_at (plain_texts words.now) 1) self.old) }
     {
         let mut path = Line::new(self.alloc);
         match append_utf8(&mut path, word_at(words, 1)) {
-            Ok(()) => Ok(Some(path)),
+            Ok(()) => Ok(Answer::Source(path)),
             Err(NoMemory) => Err(RcError::no_memory(self.alloc)),
         }
     }

@@ -7,14 +7,8 @@ ghost use Rattle.session_state.specs.Formats as spec;
 
 use expando::{Format, FormatError, read_format};
 use mail_base::NoMemory;
-use rc_lang::{Settings, Variable};
+use rc_lang::{ROW_LETTERS, Settings, Variable};
 use std::alloc::Global;
-
-/// The letters of a row of the index (Mutt's manual, "index_format").
-pub const ROW_LETTERS: &[u8] = b"CmZS{[anFLtiscNly";
-
-/// The letters of the status line (Mutt's manual, "status_format").
-pub const STATUS_LETTERS: &[u8] = b"frmMnoudFtVsSP";
 
 /// The format that a variable has; one that is none shows nothing.
 pub fn format_in(

@@ -6,7 +6,7 @@ ghost use Rattle.rc_lang_words.specs.Words.{plain_line};
 ghost use Rattle.session_state.specs.Commands.{plain_obeyed};
 ghost use Rattle.session_state.specs.Frames as spec;
 
-use crate::commands::{Obeyed, refusal};
+use crate::commands::{Answer, Obeyed, refusal};
 use crate::note::add_note;
 use crate::rules::Rules;
 use mail_base::{Bytes, Line, Lines, NoMemory};
@@ -92,8 +92,10 @@ impl Frame {
             self.next += 1;
             let obeyed = run_line(alloc, rules, line)?;
             match judge(alloc, self.depth, obeyed)? {
-                Obeyed::Done => {}
-                Obeyed::Source(path) => return Ok(Some(path)),
+                Obeyed::Answered(answer) => match answer {
+                    Answer::Source(path) => return Ok(Some(path)),
+                    Answer::Quiet | Answer::Show(_) => {}
+                },
                 Obeyed::Refused(error) => {
                     let number = line_number(self.origin, line.line);
                     add_note(alloc, notes, &self.file, number, &error)?;
@@ -113,8 +115,8 @@ fn line_number(origin: Origin, line: u32) -> u32
     }
 }
 
-// Runs a command, unless it is faulty as it was read.
-fn run_line(alloc: Global, rules: &mut Rules, line: &RcLine) -> Result<Obeyed, NoMemory>
+/// Runs a command, unless it is faulty as it was read.
+pub fn run_line(alloc: Global, rules: &mut Rules, line: &RcLine) -> Result<Obeyed, NoMemory>
     ensures { IfOk result (λ obeyed. record {
       rules = rules.new;
       answer = plain_obeyed obeyed;
@@ -133,7 +135,7 @@ fn judge(alloc: Global, depth: u8, obeyed: Obeyed) -> Result<Obeyed, NoMemory>
     ensures nested { IfOk result (spec.IsNested depth) }
 {
     match obeyed {
-        Obeyed::Source(_) if depth >= MOST_NESTED => {
+        Obeyed::Answered(Answer::Source(_)) if depth >= MOST_NESTED => {
             refusal(RcError::new(alloc, RcFault::TooMuchSource, b""))
         }
         obeyed => Ok(obeyed),

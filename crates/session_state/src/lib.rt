@@ -16,12 +16,13 @@ mod sorting;
 mod stage;
 mod text;
 mod tuning;
+mod typed;
 mod window;
 
 pub use beginning::first_frames;
 pub use columns::cut;
 pub use commands::Obeyed;
-pub use formats::{ROW_LETTERS, STATUS_LETTERS, format_in};
+pub use formats::format_in;
 pub use frame::{Frame, Origin, read_first, run_frames, skip_first};
 pub use rules::Rules;
 pub use sorting::sort_words;

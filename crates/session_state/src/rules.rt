@@ -1,21 +1,22 @@
 //! What muttrc has set.
 
 use keymap::{KeyQueue, Keymap, Keys, Menu, Press};
-use mail_base::{Line, NoMemory};
+use mail_base::{Bytes, Line, Lines, NoMemory};
 use rc_lang::Settings;
 use std::alloc::Global;
 use std::marker::Model;
 
-/// The variables, the bindings, and the keys that commands have put.
+/// The variables, the bindings, and the keys that commands have put, of each command apart.
 #[derive(Drop)]
 pub struct Rules {
     pub(crate) alloc: Global,
     pub(crate) settings: Settings,
     pub(crate) keymap: Keymap,
-    pub(crate) put: Keys,
+    pub(crate) put: Vec<Keys>,
 }
 
 impl Model for Rules {
+    ghost use Rattle.std.specs.Prelude.{map};
     ghost use Rattle.session_state.specs.Rules.{PlainRules};
 
     ghost Value = { PlainRules };
@@ -23,14 +24,16 @@ impl Model for Rules {
     ghost view = { λ r. record {
       settings = r.settings;
       keymap = r.keymap;
-      put = r.put.items;
+      put = map (λ keys. keys.items) r.put.items;
     } };
 }
 
 impl Rules {
-    ghost use Rattle.std.specs.Prelude.{◌≡◌, [], IfOk};
+    ghost use Rattle.std.specs.Prelude.{◌≡◌, ◌∷◌, ◌++◌, [], length, map};
+    ghost use Rattle.std.specs.Prelude.{IfOk, OnOk, MatchOption};
+    ghost use Rattle.mail_base.specs.Series.{plain_texts};
     ghost use Rattle.session_state.specs.Commands.{IsPressed};
-    ghost use Rattle.session_state.specs.Rules.{answer_line, first_rules};
+    ghost use Rattle.session_state.specs.Rules.{answer_line, first_rules, put_all, without_puts};
 
     /// What stands before a muttrc is read.
     #[tactic(auto, unfolding(crate::specs::Rules::first_rules))]
@@ -44,7 +47,7 @@ impl Rules {
             alloc,
             settings,
             keymap: Keymap::new(alloc)?,
-            put: Keys::new(alloc),
+            put: Vec::new(alloc),
         })
     }
 
@@ -55,12 +58,43 @@ impl Rules {
         &self.settings
     }
 
-    /// Takes the keys that commands have put.
-    pub fn take_put(&mut self) -> Keys
-        ensures keys { result.items ≡ self.old.put }
-        ensures taken { self.new ≡ record self.old { put = [] } }
+    /// How many commands have put keys that were not taken.
+    pub fn puts(&self) -> usize
+        ensures { result ≡ length self.now.put }
     {
-        std::mem::replace(&mut self.put, Keys::new(self.alloc))
+        self.put.len()
+    }
+
+    /// Takes the keys that the first of these commands has put.
+    pub fn take_put(&mut self) -> Option<Keys>
+        ensures keys { MatchOption result ((self.old.put ≡ []) × (self.new.put ≡ []))
+            (λ keys. self.old.put ≡ keys.items ∷ self.new.put) }
+        ensures same { self.new ≡ record self.old { put = self.new.put } }
+    {
+        if self.put.is_empty() {
+            return None;
+        }
+        Some(self.put.remove(0))
+    }
+
+    /// Drops the keys that commands have put.
+    pub fn drop_puts(&mut self)
+        ensures { self.new ≡ without_puts self.old }
+    {
+        self.put = Vec::new(self.alloc);
+    }
+
+    /// Puts all keys that commands have put before those that wait.
+    pub fn put_into(&mut self, queue: &mut KeyQueue) -> Result<(), NoMemory>
+        ensures keys { OnOk result
+            (queue.new.items ≡ put_all self.old.put ++ queue.old.items) }
+        ensures rules { OnOk result (self.new ≡ without_puts self.old) }
+        ensures replaced { queue.new.replaced ≡ queue.old.replaced }
+    {
+        while let Some(keys) = self.take_put() {
+            queue.put_before(&keys)?;
+        }
+        Ok(())
     }
 
     /// Takes keys that wait up to an answer.
@@ -78,5 +112,19 @@ impl Rules {
             Ok(value) => value.line(alloc, name),
             Err(_) => Err(NoMemory),
         }
+    }
+
+    /// The lines that queries of these variables print.
+    pub fn answers(&self, alloc: Global, names: &[Bytes]) -> Result<Lines, NoMemory>
+        ensures { IfOk result (λ lines. plain_texts lines
+            ≡ map (answer_line self.now.settings) (map (λ name. name.items) names.now)) }
+    {
+        let mut lines = Lines::new(alloc);
+        let mut left = names;
+        while let Some((name, rest)) = left.split_first() {
+            lines.push(self.answer(alloc, name.as_slice())?)?;
+            left = rest;
+        }
+        Ok(lines)
     }
 }

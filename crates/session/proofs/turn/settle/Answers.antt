@@ -1,10 +1,18 @@
-use Rattle.std.proofs.Common.{◌∙◌, arith, map, subst, sym}
+use Rattle.std.proofs.Common.{◌∙◌, map, subst, sym}
 use Rattle.folder_core.specs.Letters.{plain_letter}
 use Rattle.index_view.specs.View.{IsOf}
 use Rattle.session.specs.Core.{ground_of, plain_core}
 use Rattle.session.proofs.GivenLemmas.{keeps_then}
-use Rattle.session.proofs.TurnLemmas.{none_waits}
+use Rattle.session.proofs.TurnLemmas.{none_is, none_waits}
 use Rattle.session.proofs.turn.settle.Goals as goal
+
+pub returns-in_err-go_on-clause-keeps : goal.returns-in_err-go_on-clause-keeps
+returns-in_err-go_on-clause-keeps g c =
+    keeps_then c.loop-waiting.invariant.keeps c.go_on.ensures.keeps
+
+pub loop-waiting-smaller : goal.loop-waiting-smaller
+loop-waiting-smaller g c = c.in_ok-go_on.ensures.falls c.in-None.is
+    c.is_waiting-waiting-in-loop-waiting.ensures.short
 
 pub returns-in-Some-clause-keeps : goal.returns-in-Some-clause-keeps
 returns-in-Some-clause-keeps g c =
@@ -21,7 +29,7 @@ loop-waiting-preserved g c = record {
   is_of = c.in_ok-go_on.ensures.is_of;
   went = λ later keeps. (rw c.in-None.is at c.in_ok-go_on.ensures.steps) later keeps
       ∙ c.loop-waiting.invariant.went later (keeps_then c.go_on.ensures.keeps keeps);
-  waits = c.len-waiting-in-loop-waiting.ensures;
+  waits = c.is_waiting-waiting-in-loop-waiting.ensures.some;
   few = c.in_ok-go_on.ensures.few;
 }
 
@@ -35,6 +43,6 @@ returns-clause-settled g c = λ later keeps.
     none_waits (ground_of (map plain_letter c.args.archive.now.items) later c.args.window
     c.args.moment.0) (plain_core c.loop-waiting.core) (plain_core c.grant.new.self)
     c.loop-waiting.queue
-    (omega (arith, c.loop-waiting-test.false, c.loop-waiting.invariant.waits))
+    (none_is _ (sym c.loop-waiting.invariant.waits ∙ c.loop-waiting-test.false))
     c.grant.ensures.core
     ∙ c.loop-waiting.invariant.went later keeps

@@ -1,4 +1,4 @@
-use Rattle.std.proofs.Common.{◌≡◌, ◌≤◌, List, length, map}
+use Rattle.std.proofs.Common.{◌≡◌, ◌+◌, ◌≤◌, List, length, map, nat_lt}
 use Rattle.folder_core.specs.Letters.{plain_letter}
 use Rattle.index_view.specs.View.{IsOf}
 use Rattle.patterns.specs.Causes.{Keeps}
@@ -16,7 +16,7 @@ invariant-loop-waiting g l = record {
       (plain_core l.core) l.queue
       ≡ settled (ground_of (map plain_letter l.archive.items) later l.window l.moment.0)
       (plain_core l.initial.core) l.initial.queue;
-  waits : l.waiting ≡ length l.queue.items;
+  waits : l.waiting ≡ nat_lt 0 (length (plain_core l.core).rules.put + length l.queue.items);
   few : l.queue.replaced ≤ 1024;
 }
 

@@ -13,5 +13,5 @@ pub returns-in_ok-type_key-clause-steps : goal.returns-in_ok-type_key-clause-ste
 returns-in_ok-type_key-clause-steps g c = λ later keeps.
     typed_on (ground_of (map plain_letter c.args.archive.now.items) later c.args.window
     c.args.moment.0) (plain_core c.args.core.now) (plain_core c.type_key.new.self)
-    c.args.queue.now c.take_first.new.self c.in-Some.key c.requires.prompt c.in-Some.ensures.items
+    c.args.queue.now c.take_first.new.self c.in-Some.key c.requires.put c.requires.prompt c.in-Some.ensures.items
     c.in-Some.ensures.replaced (c.in_ok-type_key.ensures.core later keeps).same

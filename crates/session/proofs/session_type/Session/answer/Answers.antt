@@ -6,4 +6,4 @@ pub returns-clause-ok : goal.returns-clause-ok
 returns-clause-ok g c =
     answers_from _ (plain_session c.source_all.new.self c.source_all.new.trace.notes) _ _ _ _
     c.in_ok-source_all.ensures.sources c.in_ok-source_all.ensures.read
-    (rw c.as_slice.ensures at c.answer_lines.ensures)
+    (rw c.as_slice.ensures at c.answers.ensures)
