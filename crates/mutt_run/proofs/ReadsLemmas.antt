@@ -24,8 +24,8 @@ use Rattle.session.specs.Telling.{Witnessed}
 use Rattle.session_events.specs.declared.event.OpenFault.{OpenFault}
 use Rattle.session_events.specs.declared.event.OpenFault.TheVariants.{Folder}
 use Rattle.session.specs.Starting.{PlainSetup, first_state}
-use Rattle.session.specs.declared.setup.StartError.{StartError}
-use Rattle.session.specs.declared.setup.StartError.TheVariants as error
+use Rattle.session_events.specs.declared.setup.StartError.{StartError}
+use Rattle.session_events.specs.declared.setup.StartError.TheVariants as error
 use Rattle.session_state.specs.declared.stage.Stage.TheVariants.{Over}
 use Rattle.mutt_run.specs.Choice.{Task, ReadFolder, first_of, setup_of, task_of}
 use Rattle.mutt_run.specs.Ending.{EndsAs, EndsDone, EndsShown, IsNoUsage, IsOpened, IsRefused}

@@ -14,6 +14,7 @@ use Rattle.session.specs.Given.{Given}
 use Rattle.session.specs.Runs.{after_events}
 use Rattle.session.specs.Starting.{PlainSetup, first_state}
 use Rattle.session.specs.Steps.{SourcesOff}
+use Rattle.session.proofs.GivenLemmas.{keeps_same}
 use Rattle.session.specs.Telling.{Driverless}
 use Rattle.session_state.specs.declared.stage.Stage.{Stage}
 use Rattle.session_state.specs.declared.stage.Stage.TheVariants.{Unopened, Pushing, Idle, Ready}
@@ -44,10 +45,11 @@ IsUnopened Over = ⊥
 module _ (o : PlainOptions) (start : ℤ) (given : Given) (setup : PlainSetup)
     (events : List Happening) (names : List (List ℕ)) (old new : Outside) (is : setup ≡ setup_of o)
     (task : task_of o ≡ TellValues names) (none : given.mails ≡ [])
-    (sources : SourcesOff (first_state setup) events old.disk new.disk)
+    (sources : SourcesOff given.verdicts (first_state setup) events old.disk new.disk)
     (same_left : new.left ≡ old.left) (same_clock : new.moments ≡ old.moments) where
-  abbrev read : SourcesOff (first_of o) events old.disk new.disk
-  read = subst (λ (p : PlainSetup). SourcesOff (first_state p) events old.disk new.disk) is sources
+  abbrev read : SourcesOff given.verdicts (first_of o) events old.disk new.disk
+  read = subst (λ (p : PlainSetup). SourcesOff given.verdicts (first_state p) events old.disk
+      new.disk) is sources
 
   begins : BeginsRun Driverless given (first_of o) start [] events old.disk new.disk
   begins = record {
@@ -55,8 +57,8 @@ module _ (o : PlainOptions) (start : ℤ) (given : Given) (setup : PlainSetup)
     are_files = read.are;
     opens = none;
     events_are = sym (append-nil events);
-    run = read.run given;
-    told = read.told given;
+    run = read.run given (keeps_same given.verdicts);
+    told = read.told given (keeps_same given.verdicts);
   }
 
   not_over : (Rises : Type 0) → (after_events given (first_of o) events).turn.stage ≡ Over → Rises
@@ -72,13 +74,13 @@ module _ (o : PlainOptions) (start : ℤ) (given : Given) (setup : PlainSetup)
       → Reads (Ok o) start Driverless given status events old new
   reads_values status ends printed but noted fault no_usage =
       reads_by o start Driverless given status [] events [] events old new begins tt
-      (sym (append-nil events)) (read.run given) ends (record { pending = []; taken = 0 })
+      (sym (append-nil events)) (read.run given (keeps_same given.verdicts)) ends (record { pending = []; taken = 0 })
       (subst (λ (l : Option (List ℕ)). TakesKeys [] (record { pending = []; taken = 0 }) old.left l)
       (sym same_left) (takes_none old.left))
       (subst (λ (l : Option (List ℤ)). Gives old.moments l []) (sym same_clock)
       (gives_none old.moments))
       printed but (not_over (Appends old.written new.written
-      (concat (pieces given (task_of o) (first_of o) events)))) noted (read.told given) fault
+      (concat (pieces given (task_of o) (first_of o) events)))) noted (read.told given (keeps_same given.verdicts)) fault
       no_usage
 
   abbrev text : List ℕ

@@ -12,8 +12,8 @@ use Rattle.session_events.specs.Events.{FolderRefused}
 use Rattle.session.specs.Given.{Given}
 use Rattle.session.specs.Runs.{IsRunFrom, State, after_events, screens_from}
 use Rattle.session.specs.Steps.{Stands}
-use Rattle.session.specs.declared.setup.Next.{Next}
-use Rattle.session.specs.declared.setup.Next.TheVariants.{Go, Quit}
+use Rattle.session_events.specs.declared.setup.Next.{Next}
+use Rattle.session_events.specs.declared.setup.Next.TheVariants.{Go, Quit}
 use Rattle.session_state.specs.declared.stage.Stage.{Stage}
 use Rattle.session_state.specs.declared.stage.Stage.TheVariants.{Idle, Over}
 use Rattle.mutt_run.specs.Printed.{PrintsBut}

@@ -10,7 +10,7 @@ ghost use Rattle.folder_core.specs.Letters.{plain_letter};
 ghost use Rattle.mutt_words.specs.Options.{IsUsable, plain_options};
 ghost use Rattle.mutt_words.specs.Words.{options_of};
 ghost use Rattle.session_events.specs.Events.{plain_events};
-ghost use Rattle.session.specs.Core.{IsMoment};
+ghost use Rattle.session_state.specs.Window.{IsMoment};
 ghost use Rattle.session.specs.Given.{given_of};
 ghost use Rattle.session.specs.Runs.{IsRunFrom};
 ghost use Rattle.session.specs.Telling.{Witnessed};
@@ -33,8 +33,7 @@ use disk_model::Device;
 use folder_core::Drivers;
 use mail_base::{Bytes, Clock, Sink, Source, Words};
 use mutt_words::{Options, WordsError, read_words};
-use session::Setup;
-use session_events::{Event, Trace};
+use session_events::{Event, Setup, Trace};
 use std::alloc::Global;
 
 /// Runs the reader on the words of a command line.

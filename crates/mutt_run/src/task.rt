@@ -7,7 +7,7 @@ ghost use Rattle.folder_core.specs.Letters.{plain_letter};
 ghost use Rattle.mutt_words.specs.Options.{PlainOptions};
 ghost use Rattle.session.specs.Beginning.{Starts};
 ghost use Rattle.session_events.specs.Events.{AreFiles, plain_events};
-ghost use Rattle.session.specs.Core.{IsMoment, IsWindow};
+ghost use Rattle.session_state.specs.Window.{IsMoment, IsWindow};
 ghost use Rattle.session.specs.Fitting.{Fits};
 ghost use Rattle.session.specs.Given.{Given, IsGiven, given_of};
 ghost use Rattle.session.specs.Runs.{plain_session};
@@ -24,8 +24,8 @@ use crate::turning::go;
 use disk_model::Device;
 use folder_core::{Drivers, Listed};
 use mail_base::{Bytes, Clock, Lines, Sink, Source, Words};
-use session::{Session, Setup, StartError};
-use session_events::Trace;
+use session::Session;
+use session_events::{Setup, StartError, Trace};
 use std::alloc::Global;
 
 /// Opens the folder, lets the keys act that commands have put, and goes on by keys. The line of the

@@ -6,7 +6,7 @@ ghost use Rattle.mail_base.specs.Faults.{Rose};
 ghost use Rattle.disk_model.specs.Seen.{Seen};
 ghost use Rattle.folder_core.specs.Letters.{plain_letter};
 ghost use Rattle.session_events.specs.Events.{KeyPressed, plain_events};
-ghost use Rattle.session.specs.Core.{IsMoment};
+ghost use Rattle.session_state.specs.Window.{IsMoment};
 ghost use Rattle.session.specs.Fitting.{Fits};
 ghost use Rattle.session.specs.Given.{Given, IsGiven};
 ghost use Rattle.patterns.specs.Causes.{Keeps};
@@ -24,8 +24,8 @@ use crate::status::Status;
 use folder_core::Drivers;
 use keymap::{Key, KeyFault, KeyReader};
 use mail_base::{Clock, NoMemory, Sink, Source};
-use session::{Next, Session};
-use session_events::Trace;
+use session::Session;
+use session_events::{Next, Trace};
 use std::alloc::Global;
 
 /// The most key bytes that are taken.

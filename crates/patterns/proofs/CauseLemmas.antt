@@ -120,7 +120,7 @@ size_stays list t text b a is =
     (added_more (is_some (verdict_on list t)) list j text) is
 
 -- the lists that keep a further verdict
-keeps_more : (list : List PlainJudged) (t : List ℕ) (w : Option Verdict) (b a : ℕ)
+pub keeps_more : (list : List PlainJudged) (t : List ℕ) (w : Option Verdict) (b a : ℕ)
     → Keeps list (with_verdict list t w b a)
 keeps_more list t w b a = record { stays = λ text v is. verdict_stays list t text w b a v is }
 

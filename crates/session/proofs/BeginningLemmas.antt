@@ -10,6 +10,8 @@ use Rattle.mail_base.specs.declared.kind.Kind.{Kind}
 use Rattle.mail_base.specs.declared.series.NoMemory.{NoMemory}
 use Rattle.disk_model.specs.Seen.{Seen}
 use Rattle.folder_core.specs.Letters.{Mail}
+use Rattle.patterns.specs.Causes.{Keeps}
+use Rattle.people.specs.Judged.{PlainJudged}
 use Rattle.folder_core.specs.declared.error.ScanError.TheVariants as scan
 use Rattle.session_state.specs.declared.stage.Stage.{Stage}
 use Rattle.session_state.specs.declared.stage.Stage.TheVariants.{Unopened}
@@ -19,8 +21,8 @@ use Rattle.session_state.specs.Rules.{answer_line}
 use Rattle.session_events.specs.declared.event.Marks.{Marks}
 use Rattle.session_events.specs.declared.event.OpenFault.{OpenFault}
 use Rattle.session_events.specs.declared.event.OpenFault.TheVariants.{Taken, NoDriver, Folder}
-use Rattle.session.specs.declared.setup.StartError.{StartError}
-use Rattle.session.specs.declared.setup.StartError.TheVariants as error
+use Rattle.session_events.specs.declared.setup.StartError.{StartError}
+use Rattle.session_events.specs.declared.setup.StartError.TheVariants as error
 use Rattle.session.specs.Beginning.{AnswersNames, BeginsRun, EndsStart, Fails, IsNoted, IsRefused}
 use Rattle.session.specs.Beginning.{Starts, start_error}
 use Rattle.session_events.specs.Events.{Happening, FileRead, FileRefused, KeyPressed, FolderOpened}
@@ -107,62 +109,66 @@ ok_at From Is (Ok value) was first before is = was first before is
 ok_at From Is (Err e) was first before is = tt
 
 -- the files were read to their ends, and names are asked for
-answers_names : (given : Given) (first s : State) (events : List Happening)
-    (names lines : List (List ℕ)) (before now : Seen) → Sources first events s before now
+answers_names : {kept : List PlainJudged} (given : Given) → Keeps kept given.verdicts
+    → (first s : State) (events : List Happening)
+    (names lines : List (List ℕ)) (before now : Seen) → Sources kept first events s before now
     → s.frames ≡ []
     → lines ≡ map (answer_line s.turn.core.rules.settings) names
     → AnswersNames given first events names lines s.notes
-answers_names given first s events names lines before now sources read are =
-    let at : after_events given first events ≡ s = (sources.stands given).state_is in record {
+answers_names given keeps first s events names lines before now sources read are =
+    let at : after_events given first events ≡ s = (sources.stands given keeps).state_is in record {
       read = ap (λ (u : State). u.frames) at ∙ read;
       noted = ap (λ (u : State). u.notes) at;
       lines_are = are ∙ sym (ap (λ (u : State).
           map (answer_line u.turn.core.rules.settings) names) at);
     }
 
-pub answers_from : (From : State → Seen → Type 0) (s : State) (events : List Happening)
-    (names : List (List ℕ)) (now : Seen) (result : Result (Held (Held ℕ)) NoMemory)
-    → ((first : State) → (before : Seen) → From first before → Sources first events s before now)
+pub answers_from : {kept : List PlainJudged} (From : State → Seen → Type 0) (s : State)
+    (events : List Happening) (names : List (List ℕ)) (now : Seen)
+    (result : Result (Held (Held ℕ)) NoMemory)
+    → ((first : State) → (before : Seen) → From first before
+    → Sources kept first events s before now)
     → s.frames ≡ []
     → IfOk result (λ lines. plain_texts lines
     ≡ map (answer_line s.turn.core.rules.settings) names)
     → IfOk result (λ lines. (first : State) → (before : Seen) → From first before
-    → (given : Given) → AnswersNames given first events names (plain_texts lines) s.notes)
+    → (given : Given) → Keeps kept given.verdicts
+    → AnswersNames given first events names (plain_texts lines) s.notes)
 answers_from From s events names now (Ok lines) goes read are =
-    λ first before is given.
-    answers_names given first s events names (plain_texts lines) before now
+    λ first before is given keeps.
+    answers_names given keeps first s events names (plain_texts lines) before now
     (goes first before is) read are
 answers_from From s events names now (Err e) goes read are = tt
 
 -- no folder was looked for
-pub fails_early : (Has : Kind → Type 0) (given : Given) (first : State) (moment : ℤ)
-    (notes : List (List ℕ)) (events : List Happening) (before now : Seen) → given.mails ≡ []
-    → SourcesOff first events before now
+pub fails_early : {kept : List PlainJudged} (Has : Kind → Type 0) (given : Given) (first : State)
+    (moment : ℤ) (notes : List (List ℕ)) (events : List Happening) (before now : Seen)
+    → given.mails ≡ [] → Keeps kept given.verdicts → SourcesOff kept first events before now
     → Fails Has given first moment error.NoMemory notes events before now
-fails_early Has given first moment notes events before now none off = record {
+fails_early Has given first moment notes events before now none keeps off = record {
   opening = [];
   begins = record {
     files = events;
     are_files = off.are;
     opens = none;
     events_are = sym (append-nil events);
-    run = off.run given;
+    run = off.run given keeps;
     told = witnessed_files Driverless Has given first events before now off.are
-        (off.told given);
+        (off.told given keeps);
   };
   ends = tt;
   noted = tt;
 }
 
 -- A folder was looked for.
-module _ (Has : Kind → Type 0) (given : Given) (letters : List Mail)
-    (mails : given.mails ≡ letters) (first s : State) (moment : ℤ)
+module _ {kept : List PlainJudged} (Has : Kind → Type 0) (given : Given) (letters : List Mail)
+    (mails : given.mails ≡ letters) (keeps : Keeps kept given.verdicts) (first s : State) (moment : ℤ)
     (events mid events' : List Happening) (event : Happening) (before now next : Seen)
     (same : mid ≡ events) (puts : events' ≡ mid ++ event ∷ []) (stage : s.turn.stage ≡ Unopened)
     (read : s.frames ≡ [])
     (opens : OpensPath Has (kind_in s) (folder_path s.turn.core.rules.settings s.named) moment
     letters event now next)
-    (sources : Sources first events s before now) where
+    (sources : Sources kept first events s before now) where
   put : events' ≡ events ++ event ∷ []
   put = puts ∙ ap (λ (l : List Happening). l ++ event ∷ []) same
 
@@ -176,16 +182,16 @@ module _ (Has : Kind → Type 0) (given : Given) (letters : List Mail)
   look_stands =
       subst (λ (l : List Happening). Stands given first l (after given s event)
       (shown given (after given s event))) (sym put)
-      (stands_push given first s events event [] (sources.stands given) look_answers)
+      (stands_push given first s events event [] (sources.stands given keeps) look_answers)
 
   look_told : Witnessed Has given first events' before next
   look_told =
       subst (λ (l : List Happening). Witnessed Has given first l before next) (sym put)
       (witnessed_push Has given first s events event before now next
-      (sources.stands given).state_is
+      (sources.stands given keeps).state_is
       (subst (λ (l : List Mail). Tells Has (kind_in s) l event now next) (sym mails) opens.tells)
       (witnessed_files Driverless Has given first events before now sources.are
-      (sources.told given)))
+      (sources.told given keeps)))
 
   look_begins : BeginsRun Has given first moment (event ∷ []) events' before next
   look_begins = record {

@@ -11,9 +11,10 @@ use Rattle.session_events.specs.Happened.{IsListed}
 use Rattle.session_events.specs.Opening.{IsOpening, refusal_of}
 use Rattle.session_events.specs.Telling.{HasFileCause, TellsFile}
 use Rattle.session_events.specs.declared.event.Marks.{Marks}
-use Rattle.session.specs.Core.{IsEmpty, IsMoment, IsWindow}
+use Rattle.session.specs.Core.{IsEmpty}
+use Rattle.session_state.specs.Window.{IsMoment, IsWindow}
 use Rattle.session.specs.Fitting.{CanTake, Fits, IsLeft}
-use Rattle.session.specs.declared.moment.Moment.{Moment}
+use Rattle.session_state.specs.declared.moment.Moment.{Moment}
 use Rattle.session.specs.declared.session_type.Session.{Session}
 
 -- Files of commands.

@@ -1,7 +1,5 @@
 pub mod GivenLemmas
 mod CoreLemmas
-mod DateLemmas
-mod ReadingLemmas
 mod ShownLemmas
 mod KeysLemmas
 mod TurnLemmas
@@ -11,3 +9,4 @@ pub mod StepsLemmas
 mod BeginningLemmas
 mod FittingLemmas
 mod OpeningLemmas
+mod LearningLemmas

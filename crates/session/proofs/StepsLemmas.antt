@@ -13,6 +13,7 @@ use Rattle.session_events.specs.Events.{AreFiles, Happening, FileRead, FileRefus
 use Rattle.session_events.specs.Events.{FolderOpened, FolderRefused, plain_event, plain_events}
 use Rattle.session_events.specs.declared.event.Event.{Event}
 use Rattle.session_events.specs.declared.event.Marks.{Marks}
+use Rattle.patterns.specs.Causes.{Keeps}
 use Rattle.people.specs.Judged.{PlainJudged}
 use Rattle.session.specs.Given.{Given, IsGiven, given_of}
 use Rattle.session.specs.Runs.{Answers, IsRunFrom, State, after, after_events, screens_from}
@@ -26,7 +27,7 @@ use Rattle.session.specs.Steps.{IsNext, IsTaken, PressesKey, Sources, SourcesOff
 use Rattle.session.specs.Steps.{StaysRun, next_of}
 use Rattle.session.specs.Telling.{Driverless, Witnessed}
 use Rattle.session_events.specs.Telling.{HasFileCause, TellsFile}
-use Rattle.session.proofs.GivenLemmas.{given_here}
+use Rattle.session.proofs.GivenLemmas.{given_here, keeps_then}
 use Rattle.session.proofs.SettlingLemmas.{keys_next}
 use Rattle.session.proofs.TellingLemmas.{file_is, files_append, tells_file, witnessed_key}
 use Rattle.session.proofs.TellingLemmas.{witnessed_none, witnessed_push}
@@ -170,27 +171,27 @@ stays_same Has mails kept old events events' same = record {
 -- Files of commands.
 
 -- no event yet
-pub sources_begun : (first s : State) (events : List Happening) (now : Seen) → s ≡ first
-    → events ≡ [] → Sources first events s now now
-sources_begun first s events now same none =
-    subst (λ (l : List Happening). Sources first l s now now) (sym none) (record {
+pub sources_begun : (kept : List PlainJudged) (first s : State) (events : List Happening)
+    (now : Seen) → s ≡ first → events ≡ [] → Sources kept first events s now now
+sources_begun kept first s events now same none =
+    subst (λ (l : List Happening). Sources kept first l s now now) (sym none) (record {
       are = tt;
-      stands = λ given. record { run = tt; state_is = sym same; screens_are = refl };
+      stands = λ given keeps. record { run = tt; state_is = sym same; screens_are = refl };
       window = ap (λ (t : State). t.window) same;
-      told = λ given. witnessed_none Driverless given first now;
+      told = λ given keeps. witnessed_none Driverless given first now;
       faults = omega arith;
     })
 
 -- no further event
-pub sources_off : (first s : State) (events events' : List Happening) (before now next : Seen)
-    → events' ≡ events → next ≡ now → Sources first events s before now
-    → SourcesOff first events' before next
-sources_off first s events events' before now next same still sources =
-    subst (λ (l : List Happening). SourcesOff first l before next) (sym same)
-    (subst (λ (n : Seen). SourcesOff first events before n) (sym still) (record {
+pub sources_off : {kept : List PlainJudged} (first s : State) (events events' : List Happening)
+    (before now next : Seen) → events' ≡ events → next ≡ now
+    → Sources kept first events s before now → SourcesOff kept first events' before next
+sources_off {kept} first s events events' before now next same still sources =
+    subst (λ (l : List Happening). SourcesOff kept first l before next) (sym same)
+    (subst (λ (n : Seen). SourcesOff kept first events before n) (sym still) (record {
       are = sources.are;
-      run = λ given. (sources.stands given).run;
-      screens_are = λ given. (sources.stands given).screens_are;
+      run = λ given keeps. (sources.stands given keeps).run;
+      screens_are = λ given keeps. (sources.stands given keeps).screens_are;
       told = sources.told;
       faults = sources.faults;
     }))
@@ -212,11 +213,11 @@ file_unopened {mails} {kept} s t event now next tells stage arrives =
     ap (λ (u : State). u.turn.stage) (arrives (given_of mails kept) (given_here mails kept))
     ∙ file_stage (given_of mails kept) s event tells.marks tells.cause ∙ stage
 
-module _ (first s : State) (events mid events' : List Happening)
+module _ {before_kept : List PlainJudged} (first s : State) (events mid events' : List Happening)
     (event : Happening) (before now next : Seen) (same : mid ≡ events)
     (put : events' ≡ mid ++ event ∷ []) (stage : s.turn.stage ≡ Unopened)
     (wished : first_wish s.frames s ≡ answered event) (tells : TellsFile event now next)
-    (sources : Sources first events s before now) where
+    (sources : Sources before_kept first events s before now) where
   put_file : events ++ event ∷ [] ≡ events'
   put_file = sym (put ∙ ap (λ (l : List Happening). l ++ event ∷ []) same)
 
@@ -225,9 +226,9 @@ module _ (first s : State) (events mid events' : List Happening)
 
   file_unshown : (given : Given) (e : Happening) → e ≡ event → shown given (after given s e) ≡ []
   file_unshown given (FileRead path text marks) is = ap
-      (λ (x : Stage). stage_screens given x (read_in text s)) stage
+      (λ (x : Stage). stage_screens given x (read_in given.verdicts text s)) stage
   file_unshown given (FileRefused path why marks) is = ap
-      (λ (x : Stage). stage_screens given x (skipped why s)) stage
+      (λ (x : Stage). stage_screens given x (skipped given.verdicts why s)) stage
   file_unshown given (KeyPressed key moment) is = absurd
       (subst (λ (e : Happening). HasFileCause e tells.marks) (sym is) tells.cause)
   file_unshown given (FolderOpened path kind moment came marks) is = absurd
@@ -235,20 +236,22 @@ module _ (first s : State) (events mid events' : List Happening)
   file_unshown given (FolderRefused path why marks) is = absurd
       (subst (λ (e : Happening). HasFileCause e tells.marks) (sym is) tells.cause)
 
-  pub file_stands : (given : Given) → Stands given first events' (after given s event) []
-  file_stands given =
+  pub file_stands : (given : Given) → Keeps before_kept given.verdicts
+      → Stands given first events' (after given s event) []
+  file_stands given keeps =
       subst (λ (l : List Happening). Stands given first l (after given s event) []) put_file
       (subst (λ (l : List (List (List ℕ))). Stands given first (events ++ event ∷ [])
       (after given s event) l)
       (file_unshown given event refl)
-      (stands_push given first s events event [] (sources.stands given) file_answers))
+      (stands_push given first s events event [] (sources.stands given keeps) file_answers))
 
-  pub file_told : (given : Given) → Witnessed Driverless given first events' before next
-  file_told given =
+  pub file_told : (given : Given) → Keeps before_kept given.verdicts
+      → Witnessed Driverless given first events' before next
+  file_told given keeps =
       subst (λ (l : List Happening). Witnessed Driverless given first l before next) put_file
       (witnessed_push Driverless given first s events event before now next
-      (sources.stands given).state_is
-      (tells_file Driverless given (kind_in s) event now next tells) (sources.told given))
+      (sources.stands given keeps).state_is
+      (tells_file Driverless given (kind_in s) event now next tells) (sources.told given keeps))
 
   file_are : AreFiles events'
   file_are =
@@ -267,37 +270,41 @@ module _ (first s : State) (events mid events' : List Happening)
   file_window given (FolderOpened path kind moment came marks) is = refl
   file_window given (FolderRefused path why marks) is = refl
 
-  -- what is given has no say in a file
-  same_after : (given other : Given) (e : Happening) → e ≡ event
-      → after other s e ≡ arrived given s e
-  same_after given other (FileRead path text marks) is = refl
-  same_after given other (FileRefused path why marks) is = refl
-  same_after given other (KeyPressed key moment) is = absurd
+  -- the letters have no say in a file
+  same_after : (mails : List Mail) (given : Given) (e : Happening) → e ≡ event
+      → after given s e ≡ arrived (given_of mails given.verdicts) s e
+  same_after mails given (FileRead path text marks) is = refl
+  same_after mails given (FileRefused path why marks) is = refl
+  same_after mails given (KeyPressed key moment) is = absurd
       (subst (λ (e : Happening). HasFileCause e tells.marks) (sym is) tells.cause)
-  same_after given other (FolderOpened path kind moment came marks) is = absurd
+  same_after mails given (FolderOpened path kind moment came marks) is = absurd
       (subst (λ (e : Happening). HasFileCause e tells.marks) (sym is) tells.cause)
-  same_after given other (FolderRefused path why marks) is = refl
+  same_after mails given (FolderRefused path why marks) is = refl
 
-  pub file_sources : {mails : List Mail} {kept : List PlainJudged} (t : State)
-      → ((given : Given) → IsGiven mails kept given → t ≡ arrived given s event)
-      → Sources first events' t before next
-  file_sources {mails} {kept} t arrives =
-      let is : t ≡ arrived (given_of mails kept) s event =
-      arrives (given_of mails kept) (given_here mails kept) in record {
-        are = file_are;
-        stands = λ given. subst (λ (u : State). Stands given first events' u [])
-            (same_after (given_of mails kept) given event refl ∙ sym is) (file_stands given);
-        window = ap (λ (u : State). u.window) is
-            ∙ file_window (given_of mails kept) event refl ∙ sources.window;
-        told = file_told;
-        faults = file_faults;
-      }
+  module _ {kept : List PlainJudged} (more : Keeps before_kept kept) where
+    pub file_sources : {mails : List Mail} (t : State)
+        → ((given : Given) → IsGiven mails kept given → t ≡ arrived given s event)
+        → Sources kept first events' t before next
+    file_sources {mails} t arrives = record {
+      are = file_are;
+      stands = λ given keeps. subst (λ (u : State). Stands given first events' u [])
+          (same_after mails given event refl
+          ∙ sym (arrives (given_of mails given.verdicts) (record {
+            mails_are = refl;
+            keeps = keeps;
+          }))) (file_stands given (keeps_then more keeps));
+      window = ap (λ (u : State). u.window)
+          (arrives (given_of mails kept) (given_here mails kept))
+          ∙ file_window (given_of mails kept) event refl ∙ sources.window;
+      told = λ given keeps. file_told given (keeps_then more keeps);
+      faults = file_faults;
+    }
 
-  pub file_off : SourcesOff first events' before next
-  file_off = record {
-    are = file_are;
-    run = λ given. (file_stands given).run;
-    screens_are = λ given. (file_stands given).screens_are;
-    told = file_told;
-    faults = file_faults;
-  }
+    pub file_off : SourcesOff kept first events' before next
+    file_off = record {
+      are = file_are;
+      run = λ given keeps. (file_stands given (keeps_then more keeps)).run;
+      screens_are = λ given keeps. (file_stands given (keeps_then more keeps)).screens_are;
+      told = λ given keeps. file_told given (keeps_then more keeps);
+      faults = file_faults;
+    }

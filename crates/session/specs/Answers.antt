@@ -1,12 +1,10 @@
 -- What answers to prompts do (Mutt's manual, "Functions").
-use Rattle.std.specs.Prelude.{◌==◌, ◌||◌, ◌++◌, ℕ, ℤ, Bool, true, false, List, Option, None}
-use Rattle.std.specs.Prelude.{Some, codes, length, option_map, if◌then◌else◌}
+use Rattle.std.specs.Prelude.{◌==◌, ◌||◌, ◌++◌, ℕ, Bool, true, false, List, [], ◌∷◌, Option, None}
+use Rattle.std.specs.Prelude.{Some, codes, length, if◌then◌else◌}
 use Rattle.std.specs.Str.{bytes_eq}
 use Rattle.folder_core.specs.Letters.{Mail}
 use Rattle.index_view.specs.Limit.{PlainLimit}
-use Rattle.patterns.specs.declared.pattern_error.PatternError.{PatternError}
-use Rattle.patterns.specs.declared.pattern_error.PatternError.TheVariants as error
-use Rattle.people.specs.Judged.{PlainJudged}
+use Rattle.people.specs.People.{with_alias, with_expr}
 use Rattle.prompts.specs.declared.asking.Asking.{Asking}
 use Rattle.prompts.specs.declared.asking.Asking.TheVariants as asking
 use Rattle.rc_lang.specs.Settings.{outcome}
@@ -14,10 +12,14 @@ use Rattle.rc_lang.specs.Values.{PlainValue}
 use Rattle.rc_lang_words.specs.Words.{lines_of}
 use Rattle.session_index.specs.Answering.{answered, chosen, limited}
 use Rattle.session_index.specs.Desk.{PlainWanted, ToAnswer, ToChoose, ToEnd, Unasked}
+use Rattle.session_index.specs.Effects.{with_index}
+use Rattle.session_index.specs.Index.{PlainIndex, given as given_index}
 use Rattle.session_index.specs.Opening.{tuned as tuned_desk}
 use Rattle.session.specs.Core.{CoreState, Ground, with_desk}
-use Rattle.session.specs.Days.{reading}
+use Rattle.session.specs.Given.{Given}
 use Rattle.session.specs.Rules.{rule_of}
+use Rattle.session_state.specs.Days.{reading_of}
+use Rattle.session_state.specs.Lessons.{Named, Person, PlainLesson}
 use Rattle.session_state.specs.Sorting.{sort_words}
 use Rattle.session_state.specs.Tuning.{options_of}
 use Rattle.session_state.specs.Typed.{Typed, typed_run}
@@ -47,12 +49,6 @@ pattern_answered mails asking text (Some pattern) c =
 abbrev pub without_limit : List Mail → CoreState → CoreState
 without_limit mails c = record c { desk = limited mails None c.desk; limit = None }
 
--- the pattern that a text is by these verdicts, at a moment
-abbrev pub reading_of : List PlainJudged → Window → ℤ → List ℕ → Option PlainLimit
-reading_of verdicts window moment text = option_map
-    (λ tree. record { tree = tree; offset = window.offset })
-    (reading verdicts moment window.offset text)
-
 abbrev pub text_read : Ground → Asking → List ℕ → CoreState → CoreState
 text_read g asking text c = pattern_answered g.given.mails asking text
     (reading_of g.given.verdicts g.window g.moment text) c
@@ -75,15 +71,35 @@ shown_on (Some text) c = with_desk (record c.desk { message = text }) c
 abbrev pub told : Typed → CoreState → CoreState
 told t c = shown_on t.shown (record c { rules = t.rules })
 
--- a line of commands was typed: they are run, and the index stands by the variables
-abbrev pub commanded : List Mail → List ℕ → CoreState → CoreState
-commanded mails text c = tuned mails (told (typed_run None (lines_of text) c.rules) c)
+-- what a command tells is learnt
+abbrev pub with_lesson : List Mail → PlainLesson → PlainIndex → PlainIndex
+with_lesson mails (Person table expr) i = given_index mails
+    (record i.facts { people = with_expr i.facts.people table expr }) i
+with_lesson mails (Named name value) i =
+    record i { aliases = with_alias i.aliases name value }
+
+abbrev pub with_lessons : List Mail → List PlainLesson → PlainIndex → PlainIndex
+with_lessons mails [] i = i
+with_lessons mails (lesson ∷ lessons) i = with_lessons mails lessons (with_lesson mails lesson i)
+
+-- the index learns what commands have told it
+abbrev pub learnt : List Mail → CoreState → CoreState
+learnt mails c = record c {
+  rules = record c.rules { lessons = [] };
+  desk = with_index (with_lessons mails c.rules.lessons c.desk.index) c.desk;
+}
+
+-- a line of commands was typed: they are run, and the index learns what they tell it and stands by
+-- the variables
+abbrev pub commanded : Given → List ℕ → CoreState → CoreState
+commanded given text c = tuned given.mails (learnt given.mails
+    (told (typed_run given.verdicts None (lines_of text) c.rules) c))
 
 -- Texts.
 
 abbrev pub text_answered : Ground → Asking → List ℕ → CoreState → CoreState
 text_answered g asking.Limit text c = limit_answered g text c
-text_answered g asking.Command text c = commanded g.given.mails text c
+text_answered g asking.Command text c = commanded g.given text c
 text_answered g asking text c = text_read g asking text c
 
 -- Orders.
@@ -117,10 +133,3 @@ heeded_by g (ToChoose asking key) c = choice_made g.given.mails g.window asking 
 -- an answer to a prompt is taken up; only an end is still wanted then
 abbrev pub heeded : Ground → CoreState → CoreState
 heeded g c = heeded_by g c.desk.wanted c
-
--- For the code alone.
-
--- memory is in the way of a pattern
-abbrev pub is_memory : PatternError → Bool
-is_memory error.NoMemory = true
-is_memory _ = false

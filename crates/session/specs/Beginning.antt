@@ -12,8 +12,8 @@ use Rattle.session_state.specs.declared.stage.Stage.TheVariants.{Pushing}
 use Rattle.session_events.specs.declared.event.Marks.{Marks}
 use Rattle.session_events.specs.declared.event.OpenFault.{OpenFault}
 use Rattle.session_events.specs.declared.event.OpenFault.TheVariants.{Taken, NoDriver, Folder}
-use Rattle.session.specs.declared.setup.StartError.{StartError}
-use Rattle.session.specs.declared.setup.StartError.TheVariants as error
+use Rattle.session_events.specs.declared.setup.StartError.{StartError}
+use Rattle.session_events.specs.declared.setup.StartError.TheVariants as error
 use Rattle.session_events.specs.Events.{AreFiles, Happening, FolderOpened, FolderRefused}
 use Rattle.session.specs.Given.{Given}
 use Rattle.session_events.specs.Happened.{IsListed}

@@ -1,6 +1,5 @@
 -- What keys act on, and what they are lent.
-use Rattle.std.specs.Prelude.{◌≡◌, ◌≤◌, ◌≤ℤ◌, ℕ, ℤ, pos, neg_ℤ, Bool, false, List, [], Option}
-use Rattle.std.specs.Prelude.{None, option_map}
+use Rattle.std.specs.Prelude.{◌≡◌, ℕ, ℤ, Bool, false, List, [], Option, None, option_map}
 use Rattle.folder_core.specs.Letters.{Mail}
 use Rattle.index_view.specs.View.{IsOf, PlainView, first_view}
 use Rattle.people.specs.People.{no_people}
@@ -73,15 +72,3 @@ ground_of mails verdicts window moment = record {
   window = window;
   moment = moment;
 }
-
--- a screen on which a page has room, and an offset of less than a day
-pub record IsWindow (window : Window) : Type 0 where
-  pub tall : 6 ≤ window.rows
-  pub wide : 2 ≤ window.cols
-  pub west : neg_ℤ (pos 86_400) ≤ℤ window.offset
-  pub east : window.offset ≤ℤ pos 86_400
-
--- a moment that the calendar has
-pub record IsMoment (moment : ℤ) : Type 0 where
-  pub low : pos 0 ≤ℤ moment
-  pub high : moment ≤ℤ pos 253_000_000_000

@@ -5,7 +5,8 @@ use Rattle.index_view.specs.View.{IsOf, PlainView}
 use Rattle.session_events.specs.Events.{Happening, FileRead, FileRefused, KeyPressed, FolderOpened}
 use Rattle.session_events.specs.Events.{FolderRefused}
 use Rattle.session_events.specs.Happened.{IsFresh}
-use Rattle.session.specs.Core.{IsEmpty, IsMoment, IsWindow}
+use Rattle.session.specs.Core.{IsEmpty}
+use Rattle.session_state.specs.Window.{IsMoment, IsWindow}
 use Rattle.session.specs.declared.session_type.Session.{Session}
 
 -- the index is of these letters, the screen has room for a page, and the calendar has the moment of

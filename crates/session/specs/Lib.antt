@@ -1,7 +1,6 @@
 pub mod Given
 pub mod Core
 pub mod Rules
-pub mod Days
 pub mod Answers
 pub mod Acting
 pub mod Keys

@@ -5,7 +5,7 @@ use Rattle.folder_core.specs.declared.listing.Found.{Found}
 use Rattle.folder_core.specs.declared.listing.Listed.{Listed}
 use Rattle.mail_base.specs.Series.{Held}
 use Rattle.session_index.specs.Opening.{begun, taken_in}
-use Rattle.session.specs.Answers.{tuned}
+use Rattle.session.specs.Answers.{learnt, tuned}
 use Rattle.session.specs.Core.{CoreState, with_desk}
 
 abbrev pub held : {X : Type 0} → List X → Held X
@@ -21,7 +21,8 @@ begun_in mails c = with_desk (begun mails c.desk) c
 abbrev pub found_in : List Mail → List Listed → CoreState → CoreState
 found_in mails came c = with_desk (taken_in mails (first_found came) c.desk) c
 
--- a folder with these messages is open: the index stands by the variables, and the cursor on the
+-- a folder with these messages is open: the index has learnt what commands told it and stands by the
+-- variables, and the cursor on the
 -- first new message, else on the first unread one, else on the last
 unfoldable pub opened : List Mail → List Listed → CoreState → CoreState
-opened mails came c = begun_in mails (found_in mails came (tuned mails c))
+opened mails came c = begun_in mails (found_in mails came (tuned mails (learnt mails c)))

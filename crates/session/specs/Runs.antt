@@ -9,6 +9,7 @@ use Rattle.folder_core.specs.Letters.{Mail}
 use Rattle.folder_core.specs.declared.listing.Listed.{Listed}
 use Rattle.keymap.specs.Queue.{most_replacements}
 use Rattle.keymap.specs.declared.key.Key.{Key}
+use Rattle.people.specs.Judged.{PlainJudged}
 use Rattle.rc_lang_words.specs.declared.fault.RcFault.{RcFault}
 use Rattle.rc_lang_words.specs.declared.fault.RcFault.TheVariants as fault
 use Rattle.session_events.specs.Events.{Happening, FileRead, FileRefused, KeyPressed, FolderOpened}
@@ -139,13 +140,14 @@ opened_by mails path kind moment came s = record s {
 }
 
 -- the text of the file that was wished was read
-abbrev pub read_in : List ℕ → State → State
-read_in text s = with_script (read_script text s.frames s.turn.core.rules s.notes) s
+abbrev pub read_in : List PlainJudged → List ℕ → State → State
+read_in verdicts text s =
+    with_script (read_script verdicts text s.frames s.turn.core.rules s.notes) s
 
 -- the file that was wished was not read
-abbrev pub skipped : DiskError → State → State
-skipped why s =
-    with_script (skip_script (is_missing why) (read_fault why) s.frames s.turn.core.rules s.notes) s
+abbrev pub skipped : List PlainJudged → DiskError → State → State
+skipped verdicts why s = with_script (skip_script verdicts (is_missing why) (read_fault why)
+    s.frames s.turn.core.rules s.notes) s
 
 -- a key was typed
 abbrev pub typed : Given → Key → ℤ → State → State
@@ -153,8 +155,8 @@ typed given key moment s = acting given moment (s.turn.queue ++ key ∷ []) s.tu
 
 -- the state that an event leads to, in which keys may still wait behind an opening
 abbrev pub arrived : Given → State → Happening → State
-arrived given s (FileRead path text marks) = read_in text s
-arrived given s (FileRefused path why marks) = skipped why s
+arrived given s (FileRead path text marks) = read_in given.verdicts text s
+arrived given s (FileRefused path why marks) = skipped given.verdicts why s
 arrived given s (KeyPressed key moment) = typed given key moment (taken s)
 arrived given s (FolderOpened path kind moment came marks) =
     opened_by given.mails path kind moment came s

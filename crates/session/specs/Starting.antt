@@ -6,7 +6,7 @@ use Rattle.mail_base.specs.declared.kind.Kind.TheVariants.{Mbox}
 use Rattle.session_state.specs.Beginning.{first_frames}
 use Rattle.session_state.specs.declared.stage.Stage.TheVariants.{Unopened}
 use Rattle.session_state.specs.declared.window.Window.{Window}
-use Rattle.session.specs.declared.setup.Setup.{Setup}
+use Rattle.session_events.specs.declared.setup.Setup.{Setup}
 use Rattle.session.specs.Core.{first_core}
 use Rattle.session.specs.Runs.{State}
 

@@ -4,12 +4,13 @@ use Rattle.mail_base.specs.declared.kind.Kind.{Kind}
 use Rattle.disk_model.specs.Seen.{Seen}
 use Rattle.folder_core.specs.Letters.{Mail}
 use Rattle.keymap.specs.declared.key.Key.{Key}
+use Rattle.patterns.specs.Causes.{Keeps}
 use Rattle.people.specs.Judged.{PlainJudged}
 use Rattle.session_state.specs.declared.stage.Stage.{Stage}
 use Rattle.session_state.specs.declared.stage.Stage.TheVariants.{Unopened, Pushing, Idle, Ready}
 use Rattle.session_state.specs.declared.stage.Stage.TheVariants.{Over}
-use Rattle.session.specs.declared.setup.Next.{Next}
-use Rattle.session.specs.declared.setup.Next.TheVariants.{Go, Quit}
+use Rattle.session_events.specs.declared.setup.Next.{Next}
+use Rattle.session_events.specs.declared.setup.Next.TheVariants.{Go, Quit}
 use Rattle.session_events.specs.Events.{AreFiles, Happening, KeyPressed}
 use Rattle.session.specs.Given.{Given, IsGiven}
 use Rattle.session.specs.Runs.{IsRunFrom, State, after_events, pushed, screens_from, shown, taken}
@@ -63,21 +64,25 @@ pub record StaysRun (Has : Kind → Type 0) (mails : List Mail) (kept : List Pla
       → Witnessed Has given first events' before now
 
 -- Files of commands are read: the events are a run up to this state, no screen was shown, and what
--- they say of the disk is true.
-pub record Sources (first : State) (events : List Happening) (state : State)
-    (before now : Seen) : Type 0 where
+-- they say of the disk is true, for every list that keeps these verdicts.
+pub record Sources (kept : List PlainJudged) (first : State) (events : List Happening)
+    (state : State) (before now : Seen) : Type 0 where
   pub are : AreFiles events
-  pub stands : (given : Given) → Stands given first events state []
+  pub stands : (given : Given) → Keeps kept given.verdicts → Stands given first events state []
   pub window : state.window ≡ first.window
-  pub told : (given : Given) → Witnessed Driverless given first events before now
+  pub told : (given : Given) → Keeps kept given.verdicts
+      → Witnessed Driverless given first events before now
   pub faults : before.faults ≤ now.faults
 
 -- the same where a call was broken off
-pub record SourcesOff (first : State) (events : List Happening) (before now : Seen) : Type 0 where
+pub record SourcesOff (kept : List PlainJudged) (first : State) (events : List Happening)
+    (before now : Seen) : Type 0 where
   pub are : AreFiles events
-  pub run : (given : Given) → IsRunFrom given first events
-  pub screens_are : (given : Given) → screens_from given first events ≡ []
-  pub told : (given : Given) → Witnessed Driverless given first events before now
+  pub run : (given : Given) → Keeps kept given.verdicts → IsRunFrom given first events
+  pub screens_are : (given : Given) → Keeps kept given.verdicts
+      → screens_from given first events ≡ []
+  pub told : (given : Given) → Keeps kept given.verdicts
+      → Witnessed Driverless given first events before now
   pub faults : before.faults ≤ now.faults
 
 -- For the code alone.

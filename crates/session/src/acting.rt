@@ -1,13 +1,12 @@
 //! How keys act.
 
 use crate::core_state::Core;
-use crate::moment::Moment;
 use folder_core::Archive;
 use keymap::{Key, Press};
 use mail_base::NoMemory;
 use people::Verdicts;
 use session_index::Notice;
-use session_state::Window;
+use session_state::{Moment, Window};
 
 impl Core {
     ghost use Rattle.std.specs.Prelude.{◌≡◌, ℤ, List, map, OnOk};
@@ -15,7 +14,8 @@ impl Core {
     ghost use Rattle.index_view.specs.View.{IsOf};
     ghost use Rattle.people.specs.Judged.{PlainJudged};
     ghost use Rattle.session.specs.Acting as spec;
-    ghost use Rattle.session.specs.Core.{IsMoment, IsWindow, Stands, ground_of, plain_core};
+    ghost use Rattle.session.specs.Core.{Stands, ground_of, plain_core};
+    ghost use Rattle.session_state.specs.Window.{IsMoment, IsWindow};
     ghost use Rattle.patterns.specs.Causes.{Keeps};
 
     /// Does what keys have come to.

@@ -1,24 +1,16 @@
 //! What answers to prompts do (Mutt's manual, "Functions").
 
-ghost use Rattle.std.specs.Prelude.{◌≡◌, IfOk};
-ghost use Rattle.std.specs.Prelude.{List, option_map};
-ghost use Rattle.index_view.specs.Limit.{plain_limit};
-ghost use Rattle.people.specs.Judged.{PlainJudged};
+ghost use Rattle.std.specs.Prelude.{◌≡◌};
 ghost use Rattle.session.specs.Answers as spec;
-ghost use Rattle.session.specs.Core.{IsMoment, IsWindow};
-ghost use Rattle.patterns.specs.Causes.{Keeps};
 
 use crate::core_state::Core;
-use crate::moment::Moment;
 use folder_core::Archive;
-use index_rows::clocks_say_their_parts;
 use mail_base::{Line, NoMemory};
-use patterns::{PatternError, read_pattern};
 use patterns_match::Pattern;
 use people::Verdicts;
 use prompts::Asking;
 use session_index::{Message, Wanted};
-use session_state::{Window, options_of, sort_words, text_of};
+use session_state::{Moment, Window, options_of, read_at, sort_words, text_of};
 use std::alloc::Global;
 
 // Whether a text takes the limit away.
@@ -26,36 +18,6 @@ fn is_no_limit(text: &[u8]) -> bool
     ensures { result ≡ spec.is_no_limit text.now }
 {
     text.is_empty() || text == b"all".as_slice()
-}
-
-// Whether memory is in the way of a pattern.
-fn is_memory(error: PatternError) -> bool
-    ensures { result ≡ spec.is_memory error }
-{
-    matches!(error, PatternError::NoMemory)
-}
-
-// The pattern that a text is, if it is one.
-fn read(
-    alloc: Global,
-    text: &Line,
-    window: Window,
-    moment: Moment,
-    verdicts: &mut Verdicts,
-) -> Result<Option<Pattern>, NoMemory>
-    requires window { IsWindow window }
-    requires moment { IsMoment moment.0 }
-    ensures keeps { Keeps verdicts.old.kept verdicts.new.kept }
-    ensures read { IfOk result (λ pattern. (later : List PlainJudged)
-        → Keeps verdicts.new.kept later
-        → option_map plain_limit pattern ≡ spec.reading_of later window moment.0 text.now.items) }
-{
-    clocks_say_their_parts();
-    match read_pattern(alloc, text.as_slice(), moment.0, window.offset, verdicts) {
-        Ok(pattern) => Ok(Some(pattern)),
-        Err(error) if is_memory(error) => Err(NoMemory),
-        Err(_) => Ok(None),
-    }
 }
 
 impl Core {
@@ -66,9 +28,12 @@ impl Core {
     ghost use Rattle.people.specs.Judged.{PlainJudged};
     ghost use Rattle.session_index.specs.Desk.{plain_wanted};
     ghost use Rattle.session.specs.Answers as spec;
-    ghost use Rattle.session.specs.Core.{IsMoment, IsWindow, Stands, ground_of, plain_core};
+    ghost use Rattle.session.specs.Core.{Stands, ground_of, plain_core};
+    ghost use Rattle.session_state.specs.Window.{IsMoment, IsWindow};
     ghost use Rattle.patterns.specs.Causes.{Keeps};
     ghost use Rattle.rc_lang_words.specs.Words.{lines_of};
+    ghost use Rattle.session.specs.Given.{given_of};
+    ghost use Rattle.session_state.specs.Lessons.{IsLent};
     ghost use Rattle.session_state.specs.Typed.{typed_run};
 
     // Tells that a text is no pattern.
@@ -131,7 +96,7 @@ impl Core {
             (ground_of (map plain_letter archive.now.items) later window moment.0)
             asking text.items (plain_core self.old)) self.new) }
     {
-        match read(self.desk.alloc, &text, window, moment, verdicts)? {
+        match read_at(self.desk.alloc, &text, window, moment, verdicts)? {
             Some(pattern) => self.take_pattern(archive, asking, text, pattern),
             None => self.refuse_pattern(&text),
         }
@@ -169,19 +134,22 @@ impl Core {
     {
         match asking {
             Asking::Limit if is_no_limit(text.as_slice()) => self.drop_limit(archive),
-            Asking::Command => self.command(archive, &text),
+            Asking::Command => self.command(archive, verdicts, &text),
             _ => self.read_text(window, moment, archive, verdicts, asking, text),
         }
     }
 
     // Runs the commands that were typed.
-    fn run_typed(&mut self, text: &Line) -> Result<(), NoMemory>
-        ensures core { OnOk result (plain_core self.new ≡ spec.told
-            (typed_run None (lines_of text.now.items) (plain_core self.old).rules)
+    fn run_typed(&mut self, verdicts: &mut Verdicts, text: &Line) -> Result<(), NoMemory>
+        requires { IsLent verdicts.old.kept }
+        ensures keeps { Keeps verdicts.old.kept verdicts.new.kept }
+        ensures core { OnOk result ((later : List PlainJudged) → Keeps verdicts.new.kept later
+            → plain_core self.new ≡ spec.told
+            (typed_run later None (lines_of text.now.items) (plain_core self.old).rules)
             (plain_core self.old)) }
         ensures view { self.new.desk.view ≡ self.old.desk.view }
     {
-        match self.rules.run_typed(text.as_slice())? {
+        match self.rules.run_typed(verdicts, text.as_slice())? {
             None => Ok(()),
             Some(line) => {
                 self.desk.message = Message::Text(line);
@@ -191,13 +159,21 @@ impl Core {
     }
 
     // Does what commands do that were typed.
-    fn command(&mut self, archive: &Archive, text: &Line) -> Result<(), NoMemory>
-        requires { IsOf (map plain_letter archive.now.items) self.old.desk.view }
-        ensures { OnOk result (Stands (map plain_letter archive.now.items) (spec.commanded
-            (map plain_letter archive.now.items) text.now.items (plain_core self.old))
-            self.new) }
+    fn command(
+        &mut self,
+        archive: &Archive,
+        verdicts: &mut Verdicts,
+        text: &Line,
+    ) -> Result<(), NoMemory>
+        requires is_of { IsOf (map plain_letter archive.now.items) self.old.desk.view }
+        ensures keeps { Keeps verdicts.old.kept verdicts.new.kept }
+        ensures core { OnOk result ((later : List PlainJudged) → Keeps verdicts.new.kept later
+            → Stands (map plain_letter archive.now.items) (spec.commanded
+            (given_of (map plain_letter archive.now.items) later) text.now.items
+            (plain_core self.old)) self.new) }
     {
-        self.run_typed(text)?;
+        self.run_typed(verdicts, text)?;
+        self.learn(archive)?;
         self.tune(archive)
     }
 

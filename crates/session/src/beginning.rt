@@ -6,11 +6,10 @@ ghost use Rattle.session_events.specs.Events.{plain_event};
 ghost use Rattle.session_events.specs.Opening as opening;
 
 use crate::session_type::Session;
-use crate::setup::{Setup, StartError};
 use disk_model::Device;
 use folder_core::{Archive, Drivers, ScanError};
 use mail_base::{Bytes, Lines, NoMemory, Words};
-use session_events::{Event, OpenFault, Trace, open_event};
+use session_events::{Event, OpenFault, Setup, StartError, Trace, open_event};
 use session_state::text_of;
 use std::alloc::Global;
 
@@ -19,13 +18,15 @@ impl Session {
     ghost use Rattle.std.specs.Prelude.{map, option_map};
     ghost use Rattle.mail_base.specs.Series.{plain_texts};
     ghost use Rattle.disk_model.specs.Seen.{Seen};
+    ghost use Rattle.patterns.specs.Causes.{Keeps};
     ghost use Rattle.folder_core.specs.Letters.{plain_letter};
     ghost use Rattle.session_state.specs.Frames.{plain_frames};
     ghost use Rattle.session_state.specs.Places.{folder_path, new_kind};
     ghost use Rattle.session_state.specs.declared.stage.Stage.TheVariants.{Unopened};
     ghost use Rattle.session.specs.Beginning.{AnswersNames, Fails, Starts};
     ghost use Rattle.session_events.specs.Events.{plain_event, plain_events};
-    ghost use Rattle.session.specs.Core.{IsEmpty, IsMoment, IsWindow};
+    ghost use Rattle.session.specs.Core.{IsEmpty};
+    ghost use Rattle.session_state.specs.Window.{IsMoment, IsWindow};
     ghost use Rattle.session.specs.Fitting.{Fits};
     ghost use Rattle.session.specs.Given.{Given, IsGiven};
     ghost use Rattle.session_events.specs.Opening.{OpensPath};
@@ -83,10 +84,11 @@ impl Session {
         requires notes { trace.old.notes.items ≡ [] }
         requires window { IsWindow (plain_setup setup).window }
         ensures ok { IfOk result (λ lines. (given : Given)
+            → Keeps trace.new.verdicts.kept given.verdicts
             → AnswersNames given (first_state (plain_setup setup))
             (plain_events trace.new.events.items) (plain_texts names.now) (plain_texts lines)
             (plain_texts trace.new.notes)) }
-        ensures sources { SourcesOff (first_state (plain_setup setup))
+        ensures sources { SourcesOff trace.new.verdicts.kept (first_state (plain_setup setup))
             (plain_events trace.new.events.items)
             (seen (dev.old.disk.vtable, dev.old.disk.value))
             (seen (dev.new.disk.vtable, dev.new.disk.value)) }
@@ -111,7 +113,7 @@ impl Session {
         requires empty { IsEmpty self.old.core.desk.view }
         ensures fits { OnOk result (Fits (map plain_letter trace.new.archive.items) self.new) }
         ensures ok { OnOk result ((first : State) → (before : Seen)
-            → Sources first (plain_events trace.old.events.items)
+            → Sources trace.old.verdicts.kept first (plain_events trace.old.events.items)
             (plain_session self.old trace.old.notes) before
             (seen (dev.old.disk.vtable, dev.old.disk.value))
             → (given : Given)
@@ -121,7 +123,7 @@ impl Session {
             (plain_events trace.new.events.items) (plain_session self.new trace.new.notes) before
             (seen (dev.new.disk.vtable, dev.new.disk.value))) }
         ensures err { IfErr result (λ why. (first : State) → (before : Seen)
-            → Sources first (plain_events trace.old.events.items)
+            → Sources trace.old.verdicts.kept first (plain_events trace.old.events.items)
             (plain_session self.old trace.old.notes) before
             (seen (dev.old.disk.vtable, dev.old.disk.value))
             → (given : Given)
@@ -145,17 +147,18 @@ impl Session {
         requires unopened { self.old.stage ≡ Unopened }
         requires window { IsWindow self.old.window }
         ensures ok { IfOk result (λ lines. (first : State) → (before : Seen)
-            → Sources first (plain_events trace.old.events.items)
+            → Sources trace.old.verdicts.kept first (plain_events trace.old.events.items)
             (plain_session self.old trace.old.notes) before
             (seen (dev.old.disk.vtable, dev.old.disk.value))
-            → (given : Given) → AnswersNames given first
+            → (given : Given) → Keeps trace.new.verdicts.kept given.verdicts
+            → AnswersNames given first
             (plain_events trace.new.events.items) (plain_texts names.now)
             (plain_texts lines) (plain_texts trace.new.notes)) }
         ensures sources { (first : State) → (before : Seen)
-            → Sources first (plain_events trace.old.events.items)
+            → Sources trace.old.verdicts.kept first (plain_events trace.old.events.items)
             (plain_session self.old trace.old.notes) before
             (seen (dev.old.disk.vtable, dev.old.disk.value))
-            → SourcesOff first (plain_events trace.new.events.items) before
+            → SourcesOff trace.new.verdicts.kept first (plain_events trace.new.events.items) before
             (seen (dev.new.disk.vtable, dev.new.disk.value)) }
         ensures archive { trace.new.archive ≡ trace.old.archive }
     {
@@ -179,7 +182,7 @@ impl Session {
         requires empty { IsEmpty self.old.core.desk.view }
         ensures fits { OnOk result (Fits (map plain_letter trace.new.archive.items) self.new) }
         ensures ok { OnOk result ((first : State) → (before : Seen)
-            → Sources first (plain_events trace.old.events.items)
+            → Sources trace.old.verdicts.kept first (plain_events trace.old.events.items)
             (plain_session self.old trace.old.notes) before
             (seen (dev.old.disk.vtable, dev.old.disk.value))
             → (given : Given)
@@ -189,7 +192,7 @@ impl Session {
             (plain_events trace.new.events.items) (plain_session self.new trace.new.notes) before
             (seen (dev.new.disk.vtable, dev.new.disk.value))) }
         ensures err { IfErr result (λ why. (first : State) → (before : Seen)
-            → Sources first (plain_events trace.old.events.items)
+            → Sources trace.old.verdicts.kept first (plain_events trace.old.events.items)
             (plain_session self.old trace.old.notes) before
             (seen (dev.old.disk.vtable, dev.old.disk.value))
             → (given : Given)

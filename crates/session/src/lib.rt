@@ -10,16 +10,14 @@ mod acting;
 mod answers;
 mod beginning;
 mod core_state;
-mod moment;
+mod learning;
 mod opening;
 mod pressing;
 mod ruling;
 mod screen;
 mod session_type;
-mod setup;
 mod source;
 mod start;
 mod turn;
 
 pub use session_type::Session;
-pub use setup::{Next, Setup, StartError};

@@ -39,6 +39,7 @@ impl Core {
     {
         first_folder_is_taken();
         let found = first_found(self.desk.alloc, came)?;
+        self.learn(archive)?;
         self.tune(archive)?;
         self.desk.take_in(archive, &found)?;
         self.desk.begin();

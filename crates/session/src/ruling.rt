@@ -7,7 +7,7 @@ use session_state::{Window, is_set};
 
 impl Core {
     ghost use Rattle.std.specs.Prelude.{◌≡◌, ◌<◌};
-    ghost use Rattle.session.specs.Core.{IsWindow};
+    ghost use Rattle.session_state.specs.Window.{IsWindow};
     ghost use Rattle.session.specs.Rules as spec;
 
     /// What the settings and the window say of functions.

@@ -4,7 +4,6 @@ ghost use Rattle.std.specs.Prelude.{◌≡◌};
 ghost use Rattle.session.specs.Runs as spec;
 
 use crate::core_state::Core;
-use crate::moment::Moment;
 use crate::turn::settle;
 use disk_model::DiskError;
 use folder_core::{Archive, Listing};
@@ -14,7 +13,7 @@ use people::Verdicts;
 use rc_lang::RcFault;
 use session_events::{Event, Trace};
 use session_index::Message;
-use session_state::{Frame, Stage, Window, read_first, skip_first};
+use session_state::{Frame, Moment, Stage, Window, read_first, skip_first};
 use std::alloc::Global;
 
 /// What a run stands on between its events.
@@ -35,15 +34,19 @@ pub struct Session {
 }
 
 impl Session {
-    ghost use Rattle.std.specs.Prelude.{◌≡◌, ◌<◌, ◌++◌, ◌∷◌, [], ℕ, ℤ, OnOk, MatchOption, map};
+    ghost use Rattle.std.specs.Prelude.{◌≡◌, ◌<◌, ◌++◌, ◌∷◌, [], ℕ, ℤ, List, OnOk, MatchOption};
+    ghost use Rattle.std.specs.Prelude.{map};
     ghost use Rattle.mail_base.specs.Series.{Held};
     ghost use Rattle.folder_core.specs.Letters.{plain_letter};
     ghost use Rattle.index_view.specs.View.{IsOf};
     ghost use Rattle.patterns.specs.Causes.{Keeps};
+    ghost use Rattle.people.specs.Judged.{PlainJudged};
+    ghost use Rattle.session_state.specs.Lessons.{IsLent};
     ghost use Rattle.session_events.specs.Events.{plain_event, plain_events};
     ghost use Rattle.session_events.specs.Happened.{IsFresh};
     ghost use Rattle.session_events.specs.Wishes as wish;
-    ghost use Rattle.session.specs.Core.{IsEmpty, IsMoment, IsWindow};
+    ghost use Rattle.session.specs.Core.{IsEmpty};
+    ghost use Rattle.session_state.specs.Window.{IsMoment, IsWindow};
     ghost use Rattle.session.specs.Fitting.{CanTake, IsLeft};
     ghost use Rattle.session.specs.Given.{Given, IsGiven};
     ghost use Rattle.session.specs.Runs.{State};
@@ -72,8 +75,8 @@ impl Session {
         ensures kept { Keeps verdicts.old.kept verdicts.new.kept }
     {
         match event {
-            Event::Sourced { text, .. } => self.read(notes, text.as_slice()),
-            Event::NotSourced { why, .. } => self.skip(notes, *why),
+            Event::Sourced { text, .. } => self.read(verdicts, notes, text.as_slice()),
+            Event::NotSourced { why, .. } => self.skip(verdicts, notes, *why),
             Event::Pressed { key, moment } => {
                 self.take_key();
                 self.type_in(*key, Moment(*moment), archive, verdicts)
@@ -129,31 +132,49 @@ impl Session {
         }
     }
 
-    fn read(&mut self, notes: &mut Lines, text: &[u8]) -> Result<(), NoMemory>
-        ensures read { OnOk result (spec.plain_session self.new notes.new
-            ≡ spec.read_in text.now (spec.plain_session self.old notes.old)) }
+    fn read(
+        &mut self,
+        verdicts: &mut Verdicts,
+        notes: &mut Lines,
+        text: &[u8],
+    ) -> Result<(), NoMemory>
+        requires { IsLent verdicts.old.kept }
+        ensures read { OnOk result ((later : List PlainJudged) → Keeps verdicts.new.kept later
+            → spec.plain_session self.new notes.new
+            ≡ spec.read_in later text.now (spec.plain_session self.old notes.old)) }
+        ensures kept { Keeps verdicts.old.kept verdicts.new.kept }
         ensures view { self.new.core.desk.view ≡ self.old.core.desk.view }
         ensures window { self.new.window ≡ self.old.window }
     {
         read_first(
             self.alloc,
             &mut self.core.rules,
+            verdicts,
             &mut self.frames,
             notes,
             text,
         )
     }
 
-    fn skip(&mut self, notes: &mut Lines, why: DiskError) -> Result<(), NoMemory>
-        ensures skipped { OnOk result (spec.plain_session self.new notes.new
-            ≡ spec.skipped why (spec.plain_session self.old notes.old)) }
+    fn skip(
+        &mut self,
+        verdicts: &mut Verdicts,
+        notes: &mut Lines,
+        why: DiskError,
+    ) -> Result<(), NoMemory>
+        requires { IsLent verdicts.old.kept }
+        ensures skipped { OnOk result ((later : List PlainJudged) → Keeps verdicts.new.kept later
+            → spec.plain_session self.new notes.new
+            ≡ spec.skipped later why (spec.plain_session self.old notes.old)) }
+        ensures kept { Keeps verdicts.old.kept verdicts.new.kept }
         ensures view { self.new.core.desk.view ≡ self.old.core.desk.view }
         ensures window { self.new.window ≡ self.old.window }
     {
         let missing = is_missing(why);
         let fault = read_fault(why);
         let rules = &mut self.core.rules;
-        skip_first(self.alloc, rules, &mut self.frames, notes, missing, fault)
+        let frames = &mut self.frames;
+        skip_first(self.alloc, rules, verdicts, frames, notes, missing, fault)
     }
 
     /// A key was taken: the message line is empty.

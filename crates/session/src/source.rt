@@ -10,7 +10,8 @@ impl Session {
     ghost use Rattle.std.specs.Prelude.{◌≡◌, [], false};
     ghost use Rattle.std.specs.Prelude.{IfOk, IfSome, MatchOption, OnOk};
     ghost use Rattle.disk_model.specs.Seen.{Seen};
-    ghost use Rattle.session.specs.Core.{IsWindow};
+    ghost use Rattle.patterns.specs.Causes.{Keeps};
+    ghost use Rattle.session_state.specs.Window.{IsWindow};
     ghost use Rattle.session.specs.Runs.{State, first_wish, plain_session};
     ghost use Rattle.session_events.specs.Wishes.{answered};
     ghost use Rattle.session_events.specs.Events.{plain_event, plain_events};
@@ -43,23 +44,24 @@ impl Session {
         requires unopened { self.old.stage ≡ Unopened }
         requires window { IsWindow self.old.window }
         ensures sources { OnOk result ((first : State) → (before : Seen)
-            → Sources first (plain_events trace.old.events.items)
+            → Sources trace.old.verdicts.kept first (plain_events trace.old.events.items)
             (plain_session self.old trace.old.notes) before
             (seen (dev.old.disk.vtable, dev.old.disk.value))
-            → Sources first (plain_events trace.new.events.items)
+            → Sources trace.new.verdicts.kept first (plain_events trace.new.events.items)
             (plain_session self.new trace.new.notes) before
             (seen (dev.new.disk.vtable, dev.new.disk.value))) }
         ensures off { (first : State) → (before : Seen)
-            → Sources first (plain_events trace.old.events.items)
+            → Sources trace.old.verdicts.kept first (plain_events trace.old.events.items)
             (plain_session self.old trace.old.notes) before
             (seen (dev.old.disk.vtable, dev.old.disk.value))
-            → SourcesOff first (plain_events trace.new.events.items) before
+            → SourcesOff trace.new.verdicts.kept first (plain_events trace.new.events.items) before
             (seen (dev.new.disk.vtable, dev.new.disk.value)) }
         ensures unopened { OnOk result (self.new.stage ≡ Unopened) }
         ensures read { OnOk result (plain_frames self.new.frames ≡ []) }
         ensures view { OnOk result (self.new.core.desk.view ≡ self.old.core.desk.view) }
         ensures window { self.new.window ≡ self.old.window }
         ensures archive { trace.new.archive ≡ trace.old.archive }
+        ensures kept { Keeps trace.old.verdicts.kept trace.new.verdicts.kept }
     {
         // There is an event for each file, and a trace has room for fewer.
         for _turn in 0..u64::MAX {
@@ -75,23 +77,24 @@ impl Session {
         requires unopened { self.old.stage ≡ Unopened }
         requires window { IsWindow self.old.window }
         ensures sources { OnOk result ((first : State) → (before : Seen)
-            → Sources first (plain_events trace.old.events.items)
+            → Sources trace.old.verdicts.kept first (plain_events trace.old.events.items)
             (plain_session self.old trace.old.notes) before
             (seen (dev.old.disk.vtable, dev.old.disk.value))
-            → Sources first (plain_events trace.new.events.items)
+            → Sources trace.new.verdicts.kept first (plain_events trace.new.events.items)
             (plain_session self.new trace.new.notes) before
             (seen (dev.new.disk.vtable, dev.new.disk.value))) }
         ensures off { (first : State) → (before : Seen)
-            → Sources first (plain_events trace.old.events.items)
+            → Sources trace.old.verdicts.kept first (plain_events trace.old.events.items)
             (plain_session self.old trace.old.notes) before
             (seen (dev.old.disk.vtable, dev.old.disk.value))
-            → SourcesOff first (plain_events trace.new.events.items) before
+            → SourcesOff trace.new.verdicts.kept first (plain_events trace.new.events.items) before
             (seen (dev.new.disk.vtable, dev.new.disk.value)) }
         ensures unopened { OnOk result (self.new.stage ≡ Unopened) }
         ensures read { IfOk result (λ more. more ≡ false → plain_frames self.new.frames ≡ []) }
         ensures view { OnOk result (self.new.core.desk.view ≡ self.old.core.desk.view) }
         ensures window { self.new.window ≡ self.old.window }
         ensures archive { trace.new.archive ≡ trace.old.archive }
+        ensures kept { Keeps trace.old.verdicts.kept trace.new.verdicts.kept }
     {
         trace.events.reserve(1)?;
         match self.source(dev)? {

@@ -1,13 +1,12 @@
 //! The first state of a session.
 
 use crate::core_state::Core;
-use crate::moment::Moment;
 use crate::session_type::Session;
-use crate::setup::Setup;
 use folder_core::Listing;
 use keymap::KeyQueue;
 use mail_base::{Bytes, Kind, NoMemory};
-use session_state::{Stage, Window, first_frames};
+use session_events::Setup;
+use session_state::{Moment, Stage, Window, first_frames};
 use std::alloc::Global;
 
 impl Session {

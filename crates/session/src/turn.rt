@@ -7,19 +7,19 @@ ghost use Rattle.index_view.specs.View.{IsOf};
 ghost use Rattle.keymap.specs.Queue.{most_replacements};
 ghost use Rattle.people.specs.Judged.{PlainJudged};
 ghost use Rattle.session_index.specs.Desk.{plain_wanted};
-ghost use Rattle.session.specs.Core.{IsMoment, IsWindow, ground_of, plain_core};
+ghost use Rattle.session.specs.Core.{ground_of, plain_core};
+ghost use Rattle.session_state.specs.Window.{IsMoment, IsWindow};
 ghost use Rattle.patterns.specs.Causes.{Keeps};
 ghost use Rattle.session.specs.Keys.{Steps, fuel, settled, turn_of};
 ghost use Rattle.session.specs.Keys.{stage_after as stage_after_press};
 
 use crate::core_state::Core;
-use crate::moment::Moment;
 use folder_core::Archive;
 use keymap::{KeyQueue, Press};
 use mail_base::NoMemory;
 use people::Verdicts;
 use session_index::Wanted;
-use session_state::{Stage, Window};
+use session_state::{Moment, Stage, Window};
 
 /// Lets the keys that wait act, until none waits or something is wanted, and tells what comes then.
 pub fn settle(

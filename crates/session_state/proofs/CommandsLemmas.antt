@@ -32,7 +32,7 @@ names_last s is = names_end s (position (λ b. b == 44) s) refl is
 
 -- Menus that were read, and those of the names that are left.
 
-behind_more : (menus : List Menu) (menu : Menu) (w : Result (List Menu) Fault)
+pub behind_more : {X : Type 0} → (menus : List X) (menu : X) (w : Result (List X) Fault)
     → before_all (menus ++ menu ∷ []) w ≡ before_all menus (before_rest (Ok (menu ∷ [])) w)
 behind_more menus menu (Ok rest) = ap Ok (append_assoc menus (menu ∷ []) rest)
 behind_more menus menu (Err fault) = refl

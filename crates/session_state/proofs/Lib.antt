@@ -1,3 +1,7 @@
 mod Fitting
 mod Shape
 mod CommandsLemmas
+mod DateLemmas
+mod ReadingLemmas
+mod ExprLemmas
+mod FramesLemmas

@@ -25,7 +25,8 @@ use Rattle.rc_lang.specs.Settings.{Outcome, fault_of, outcome}
 use Rattle.rc_lang.specs.declared.command.Command.{Command}
 use Rattle.rc_lang.specs.declared.command.Command.TheVariants.{Set, Unset, Toggle, Reset, Bind}
 use Rattle.rc_lang.specs.declared.command.Command.TheVariants.{Macro, Push, Exec}
-use Rattle.rc_lang.specs.declared.command.Command.TheVariants.{Source}
+use Rattle.rc_lang.specs.declared.command.Command.TheVariants.{Source, Lists, Subscribe}
+use Rattle.rc_lang.specs.declared.command.Command.TheVariants.{Alternates, Alias}
 use Rattle.rc_lang_words.specs.Faults.{Fault, no_memory, plain_error}
 use Rattle.rc_lang_words.specs.Words.{PlainPiece}
 use Rattle.rc_lang_words.specs.declared.fault.RcError.{RcError}
@@ -37,6 +38,9 @@ use Rattle.session_state.specs.declared.commands.Obeyed.{Obeyed}
 use Rattle.session_state.specs.declared.commands.Obeyed.TheVariants.{Answered, Refused}
 use Rattle.session_state.specs.declared.request.BindRequest.{BindRequest}
 use Rattle.session_state.specs.declared.request.MacroRequest.{MacroRequest}
+use Rattle.people.specs.Judged.{PlainJudged}
+use Rattle.people.specs.declared.people.PeopleTable.TheVariants as table
+use Rattle.session_state.specs.Lessons.{Named, PlainLesson, joined, people_of}
 use Rattle.session_state.specs.Rules.{PlainRules}
 
 -- Words.
@@ -219,31 +223,49 @@ put_by (Err fault) rules = refused fault rules
 abbrev pub sourcing : List ℕ → PlainRules → Ran
 sourcing path rules = record { rules = rules; answer = Ok (ToRead (utf8_text path)) }
 
--- a command with the texts of its words, its own name first; the others do nothing yet
-abbrev pub obeyed : Command → List (List ℕ) → PlainRules → Ran
-obeyed Set words rules = set_by (outcome rules.settings words) rules
-obeyed Unset words rules = set_by (outcome rules.settings words) rules
-obeyed Toggle words rules = set_by (outcome rules.settings words) rules
-obeyed Reset words rules = set_by (outcome rules.settings words) rules
-obeyed Bind words rules = bound_by (bind_of words) rules
-obeyed Macro words rules = replaced_by (macro_of words) rules
-obeyed Push words rules = put_by (text_of (word_at words 1)) rules
-obeyed Exec words rules = put_by (calls_of (drop 1 words)) rules
-obeyed Source words rules = sourcing (word_at words 1) rules
-obeyed _ words rules = done rules
+-- this is told the index
+abbrev pub told_by : Result (List PlainLesson) Fault → PlainRules → Ran
+told_by (Ok lessons) rules = done (record rules { lessons = rules.lessons ++ lessons })
+told_by (Err fault) rules = refused fault rules
 
-abbrev pub obeyed_texts : Command → PlainRules → Result (List (List ℕ)) Fault → Ran
-obeyed_texts command rules (Ok texts) = obeyed command texts rules
-obeyed_texts command rules (Err fault) = refused fault rules
+-- the name that `alias` gives a value
+abbrev pub alias_of : List (List ℕ) → PlainLesson
+alias_of words = Named (word_at words 1) (joined (drop 2 words))
 
-abbrev pub obeyed_command : List (List PlainPiece) → PlainRules → Result Command Fault → Ran
-obeyed_command words rules (Ok command) =
-    obeyed_texts command rules (expanded_words rules.settings words)
-obeyed_command words rules (Err fault) = refused fault rules
+-- a command with the texts of its words, its own name first, by the verdicts on expressions; the
+-- others do nothing yet
+abbrev pub obeyed : List PlainJudged → Command → List (List ℕ) → PlainRules → Ran
+obeyed verdicts Set words rules = set_by (outcome rules.settings words) rules
+obeyed verdicts Unset words rules = set_by (outcome rules.settings words) rules
+obeyed verdicts Toggle words rules = set_by (outcome rules.settings words) rules
+obeyed verdicts Reset words rules = set_by (outcome rules.settings words) rules
+obeyed verdicts Bind words rules = bound_by (bind_of words) rules
+obeyed verdicts Macro words rules = replaced_by (macro_of words) rules
+obeyed verdicts Push words rules = put_by (text_of (word_at words 1)) rules
+obeyed verdicts Exec words rules = put_by (calls_of (drop 1 words)) rules
+obeyed verdicts Source words rules = sourcing (word_at words 1) rules
+obeyed verdicts Lists words rules = told_by (people_of verdicts table.Lists (drop 1 words)) rules
+obeyed verdicts Subscribe words rules =
+    told_by (people_of verdicts table.Subscribed (drop 1 words)) rules
+obeyed verdicts Alternates words rules =
+    told_by (people_of verdicts table.Mine (drop 1 words)) rules
+obeyed verdicts Alias words rules = told_by (Ok (alias_of words ∷ [])) rules
+obeyed verdicts _ words rules = done rules
+
+abbrev pub obeyed_texts : List PlainJudged → Command → PlainRules
+    → Result (List (List ℕ)) Fault → Ran
+obeyed_texts verdicts command rules (Ok texts) = obeyed verdicts command texts rules
+obeyed_texts verdicts command rules (Err fault) = refused fault rules
+
+abbrev pub obeyed_command : List PlainJudged → List (List PlainPiece) → PlainRules
+    → Result Command Fault → Ran
+obeyed_command verdicts words rules (Ok command) =
+    obeyed_texts verdicts command rules (expanded_words rules.settings words)
+obeyed_command verdicts words rules (Err fault) = refused fault rules
 
 -- a command by its words as they are written
-unfoldable pub ran : List (List PlainPiece) → PlainRules → Ran
-ran words rules = obeyed_command words rules (command_of rules.settings words)
+unfoldable pub ran : List PlainJudged → List (List PlainPiece) → PlainRules → Ran
+ran verdicts words rules = obeyed_command verdicts words rules (command_of rules.settings words)
 
 -- For the code alone.
 

@@ -7,6 +7,7 @@ use Rattle.std.specs.declared.alloc.Global.{Global}
 use Rattle.std.specs.Fmt.{decimal}
 use Rattle.mail_base.specs.Series.{Held, plain_texts}
 use Rattle.mail_base.specs.Shown.{utf8_text}
+use Rattle.people.specs.Judged.{PlainJudged}
 use Rattle.rc_lang.specs.Settings.{fault_of}
 use Rattle.rc_lang_words.specs.Faults.{Fault, fault_text}
 use Rattle.rc_lang_words.specs.Words.{PlainLine, lines_of, plain_line}
@@ -75,12 +76,12 @@ note_of file line fault =
 -- Commands, one after the other.
 
 -- a command as it was read
-abbrev pub ran_read : Option RcFault → PlainLine → PlainRules → Ran
-ran_read None line rules = ran line.words rules
-ran_read (Some fault) line rules = refused (fault_of fault []) rules
+abbrev pub ran_read : List PlainJudged → Option RcFault → PlainLine → PlainRules → Ran
+ran_read verdicts None line rules = ran verdicts line.words rules
+ran_read verdicts (Some fault) line rules = refused (fault_of fault []) rules
 
-abbrev pub ran_line : PlainLine → PlainRules → Ran
-ran_line line rules = ran_read line.fault line rules
+abbrev pub ran_line : List PlainJudged → PlainLine → PlainRules → Ran
+ran_line verdicts line rules = ran_read verdicts line.fault line rules
 
 -- a file that is nested too deep is not read
 abbrev pub judged : ℕ → Result PlainAnswer Fault → Result PlainAnswer Fault
@@ -107,11 +108,14 @@ behind_line place line lines more rules notes (Ok (ToRead path)) =
 behind_line place line lines more rules notes (Err fault) =
     more rules (notes ++ note_of place.file (line_number place.origin line) fault ∷ [])
 
-abbrev pub file_run : Place → List PlainLine → PlainRules → List (List ℕ) → Half
-file_run place [] rules notes = record { rules = rules; notes = notes; left = []; source = None }
-file_run place (line ∷ lines) rules notes =
-    behind_line place line.line lines (file_run place lines) (ran_line line rules).rules notes
-    (judged place.depth (ran_line line rules).answer)
+abbrev pub file_run : List PlainJudged → Place → List PlainLine → PlainRules → List (List ℕ)
+    → Half
+file_run verdicts place [] rules notes =
+    record { rules = rules; notes = notes; left = []; source = None }
+file_run verdicts place (line ∷ lines) rules notes =
+    behind_line place line.line lines (file_run verdicts place lines)
+    (ran_line verdicts line rules).rules notes
+    (judged place.depth (ran_line verdicts line rules).answer)
 
 -- Files, the one that is read now first.
 
@@ -136,26 +140,29 @@ abbrev pub with_half : Place → List PlainFrame → (PlainRules → List (List 
     → Script
 with_half place frames rest half = behind_file place frames rest half half.source
 
-abbrev pub frame_run : PlainFrame → List PlainFrame → (PlainRules → List (List ℕ) → Script)
+abbrev pub frame_run : List PlainJudged → PlainFrame → List PlainFrame
+    → (PlainRules → List (List ℕ) → Script)
     → Option (List PlainLine) → PlainRules → List (List ℕ) → Script
-frame_run frame frames rest None rules notes =
+frame_run verdicts frame frames rest None rules notes =
     record { rules = rules; frames = frame ∷ frames; notes = notes }
-frame_run frame frames rest (Some lines) rules notes =
-    with_half frame.place frames rest (file_run frame.place lines rules notes)
+frame_run verdicts frame frames rest (Some lines) rules notes =
+    with_half frame.place frames rest (file_run verdicts frame.place lines rules notes)
 
--- the commands of these files are run, up to one that is still to be read
-abbrev pub frames_run : List PlainFrame → PlainRules → List (List ℕ) → Script
-frames_run [] rules notes = record { rules = rules; frames = []; notes = notes }
-frames_run (frame ∷ frames) rules notes =
-    frame_run frame frames (frames_run frames) frame.left rules notes
+-- the commands of these files are run by the verdicts on expressions, up to one that is still to be
+-- read
+abbrev pub frames_run : List PlainJudged → List PlainFrame → PlainRules → List (List ℕ) → Script
+frames_run verdicts [] rules notes = record { rules = rules; frames = []; notes = notes }
+frames_run verdicts (frame ∷ frames) rules notes =
+    frame_run verdicts frame frames (frames_run verdicts frames) frame.left rules notes
 
 -- What was read, or not.
 
 -- the first file has this text
-abbrev pub read_script : List ℕ → List PlainFrame → PlainRules → List (List ℕ) → Script
-read_script text [] rules notes = record { rules = rules; frames = []; notes = notes }
-read_script text (frame ∷ frames) rules notes =
-    frames_run (with_text text frame ∷ frames) rules notes
+abbrev pub read_script : List PlainJudged → List ℕ → List PlainFrame → PlainRules
+    → List (List ℕ) → Script
+read_script verdicts text [] rules notes = record { rules = rules; frames = []; notes = notes }
+read_script verdicts text (frame ∷ frames) rules notes =
+    frames_run verdicts (with_text text frame ∷ frames) rules notes
 
 -- a file that need not be there may be missing
 abbrev pub is_quiet : Origin → Bool → Bool
@@ -169,11 +176,12 @@ skip_notes place is_missing fault =
     if is_quiet place.origin is_missing then [] else note_of place.file 0 (fault_of fault []) ∷ []
 
 -- the first file was not read for this fault
-abbrev pub skip_script : Bool → RcFault → List PlainFrame → PlainRules → List (List ℕ) → Script
-skip_script is_missing fault [] rules notes =
+abbrev pub skip_script : List PlainJudged → Bool → RcFault → List PlainFrame → PlainRules
+    → List (List ℕ) → Script
+skip_script verdicts is_missing fault [] rules notes =
     record { rules = rules; frames = []; notes = notes }
-skip_script is_missing fault (frame ∷ frames) rules notes =
-    frames_run frames rules (notes ++ skip_notes frame.place is_missing fault)
+skip_script verdicts is_missing fault (frame ∷ frames) rules notes =
+    frames_run verdicts frames rules (notes ++ skip_notes frame.place is_missing fault)
 
 abbrev pub script_of : PlainRules → Vec Frame Global → Held (Held ℕ) → Script
 script_of rules frames notes =

@@ -7,4 +7,7 @@ pub mod Columns
 pub mod Tuning
 pub mod Sorting
 pub mod Formats
+pub mod Window
+pub mod Days
+pub mod Lessons
 pub mod Typed

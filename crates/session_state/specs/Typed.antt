@@ -1,6 +1,7 @@
 -- Commands that were typed, and what the last line shows of them.
 use Rattle.std.specs.Prelude.{ℕ, List, [], ◌∷◌, Option, Some, Result, Ok, Err}
 use Rattle.mail_base.specs.Shown.{utf8_text}
+use Rattle.people.specs.Judged.{PlainJudged}
 use Rattle.rc_lang.specs.Settings.{fault_of}
 use Rattle.rc_lang_words.specs.Faults.{Fault, fault_text}
 use Rattle.rc_lang_words.specs.Words.{PlainLine}
@@ -25,8 +26,9 @@ answer_shown before (Ok (ToShow line)) = Some line
 answer_shown before (Ok (ToRead path)) = fault_shown (fault_of NotRead [])
 answer_shown before (Err fault) = fault_shown fault
 
--- these commands, one after the other
-abbrev pub typed_run : Option (List ℕ) → List PlainLine → PlainRules → Typed
-typed_run before [] rules = record { rules = rules; shown = before }
-typed_run before (line ∷ lines) rules =
-    typed_run (answer_shown before (ran_line line rules).answer) lines (ran_line line rules).rules
+-- these commands, one after the other, by the verdicts on expressions
+abbrev pub typed_run : List PlainJudged → Option (List ℕ) → List PlainLine → PlainRules → Typed
+typed_run verdicts before [] rules = record { rules = rules; shown = before }
+typed_run verdicts before (line ∷ lines) rules =
+    typed_run verdicts (answer_shown before (ran_line verdicts line rules).answer) lines
+    (ran_line verdicts line rules).rules

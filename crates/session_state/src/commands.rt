@@ -1,16 +1,21 @@
 //! The commands of muttrc.
 
-ghost use Rattle.std.specs.Prelude.{◌≡◌, ◌≢◌, Err, IfOk, OnOk};
+ghost use Rattle.std.specs.Prelude.{◌≡◌, ◌≢◌, ◌∷◌, [], Err, IfOk, OnOk, map};
 ghost use Rattle.keymap.specs.Bindings.{Replace, Run};
 ghost use Rattle.keymap.specs.Keymap.{IsSequence};
-ghost use Rattle.session_state.specs.Commands.{bound_all, plain_obeyed};
+ghost use Rattle.mail_base.specs.Series.{plain_texts};
+ghost use Rattle.session_state.specs.Commands.{alias_of as alias_in, bound_all, plain_obeyed};
+ghost use Rattle.session_state.specs.Lessons.{plain_lesson};
 ghost use Rattle.rc_lang_words.specs.Faults.{no_memory, plain_error};
 
+use crate::lesson::{self, Lesson};
 use crate::request::{BindRequest, MacroRequest, calls_of, key_text, word_at};
 use crate::rules::Rules;
 use keymap::{Keymap, Keys};
-use mail_base::{Line, NoMemory, Words, append_utf8};
+use mail_base::{Bytes, Line, NoMemory, Words, append_utf8};
+use people::{PeopleTable, Verdicts};
 use rc_lang::{Command, RcError, RcFault, RcWords};
+use std::alloc::Global;
 
 /// What a command answers that is carried out.
 #[derive(Drop)]
@@ -30,38 +35,55 @@ pub enum Obeyed {
 }
 
 impl Rules {
-    ghost use Rattle.std.specs.Prelude.{◌≡◌, ◌++◌, Ok, drop, IfOk, OnOk};
+    ghost use Rattle.std.specs.Prelude.{◌≡◌, ◌∷◌, [], Ok, drop, map, List, IfOk, OnOk};
     ghost use Rattle.mail_base.specs.Series.{plain_texts};
     ghost use Rattle.rc_lang.specs.Settings.{outcome};
     ghost use Rattle.rc_lang_words.specs.Words.{plain_words};
+    ghost use Rattle.patterns.specs.Causes.{Keeps};
+    ghost use Rattle.people.specs.Judged.{PlainJudged};
     ghost use Rattle.session_state.specs.Commands as spec;
+    ghost use Rattle.session_state.specs.Lessons.{IsLent, people_of, plain_lesson};
 
     /// Runs a command by its words. The words of a `set` before a faulty one stay applied; else a
     /// command that is refused changes nothing.
-    pub fn run(&mut self, words: &RcWords) -> Result<Obeyed, NoMemory>
-        ensures { IfOk result (λ obeyed. record {
-          rules = self.new;
-          answer = spec.plain_obeyed obeyed;
-        } ≡ spec.ran (plain_words words.now) self.old) }
+    pub fn run(&mut self, words: &RcWords, verdicts: &mut Verdicts) -> Result<Obeyed, NoMemory>
+        requires { IsLent verdicts.old.kept }
+        ensures keeps { Keeps verdicts.old.kept verdicts.new.kept }
+        ensures ran { IfOk result (λ obeyed. (later : List PlainJudged)
+            → Keeps verdicts.new.kept later → record {
+              rules = self.new;
+              answer = spec.plain_obeyed obeyed;
+            } ≡ spec.ran later (plain_words words.now) self.old) }
     {
-        match self.obey(words) {
+        match self.obey(words, verdicts) {
             Ok(answer) => Ok(Obeyed::Answered(answer)),
             Err(error) => refusal(error),
         }
     }
 
     #[tactic(auto, unfolding(crate::specs::Commands::ran))]
-    fn obey(&mut self, words: &RcWords) -> Result<Answer, RcError>
-        ensures { spec.IsRan result self.new (spec.ran (plain_words words.now) self.old) }
+    fn obey(&mut self, words: &RcWords, verdicts: &mut Verdicts) -> Result<Answer, RcError>
+        requires { IsLent verdicts.old.kept }
+        ensures keeps { Keeps verdicts.old.kept verdicts.new.kept }
+        ensures ran { (later : List PlainJudged) → Keeps verdicts.new.kept later
+            → spec.IsRan result self.new (spec.ran later (plain_words words.now) self.old) }
     {
         let command = self.settings.read_command(self.alloc, words)?;
         let texts = self.settings.expand(self.alloc, words)?;
-        self.carry_out(command, &texts)
+        self.carry_out(command, &texts, verdicts)
     }
 
-    fn carry_out(&mut self, command: Command, words: &Words) -> Result<Answer, RcError>
-        ensures { spec.IsRan result self.new
-            (spec.obeyed command (plain_texts words.now) self.old) }
+    fn carry_out(
+        &mut self,
+        command: Command,
+        words: &Words,
+        verdicts: &mut Verdicts,
+    ) -> Result<Answer, RcError>
+        requires { IsLent verdicts.old.kept }
+        ensures keeps { Keeps verdicts.old.kept verdicts.new.kept }
+        ensures ran { (later : List PlainJudged) → Keeps verdicts.new.kept later
+            → spec.IsRan result self.new
+            (spec.obeyed later command (plain_texts words.now) self.old) }
     {
         match command {
             Command::Set | Command::Unset | Command::Toggle | Command::Reset => self.set(words),
@@ -70,6 +92,10 @@ impl Rules {
             Command::Push => self.push(words),
             Command::Exec => self.exec(words),
             Command::Source => self.source(words),
+            Command::Lists => self.add_people(PeopleTable::Lists, words, verdicts),
+            Command::Subscribe => self.add_people(PeopleTable::Subscribed, words, verdicts),
+            Command::Alternates => self.add_people(PeopleTable::Mine, words, verdicts),
+            Command::Alias => self.alias(words),
             _ => Ok(Answer::Quiet),
         }
     }
@@ -149,6 +175,46 @@ impl Rules {
         }
     }
 
+    // Adds the words to a table of people.
+    fn add_people(
+        &mut self,
+        table: PeopleTable,
+        words: &Words,
+        verdicts: &mut Verdicts,
+    ) -> Result<Answer, RcError>
+        requires { IsLent verdicts.old.kept }
+        ensures keeps { Keeps verdicts.old.kept verdicts.new.kept }
+        ensures ran { (later : List PlainJudged) → Keeps verdicts.new.kept later
+            → spec.IsRan result self.new
+            (spec.told_by (people_of later table (drop 1 (plain_texts words.now))) self.old) }
+    {
+        let names = words.as_slice().get(1..).unwrap_or(&[]);
+        let lessons = lesson::people_of(self.alloc, table, names, verdicts)?;
+        self.tell(lessons)
+    }
+
+    // Gives a name its value.
+    fn alias(&mut self, words: &Words) -> Result<Answer, RcError>
+        ensures { spec.IsRan result self.new
+            (spec.told_by (Ok (spec.alias_of (plain_texts words.now) ∷ [])) self.old) }
+    {
+        match alias_of(self.alloc, words) {
+            Ok(lessons) => self.tell(lessons),
+            Err(NoMemory) => Err(RcError::no_memory(self.alloc)),
+        }
+    }
+
+    fn tell(&mut self, lessons: Vec<Lesson>) -> Result<Answer, RcError>
+        ensures { spec.IsRan result self.new
+            (spec.told_by (Ok (map plain_lesson lessons.items)) self.old) }
+    {
+        let mut lessons = lessons;
+        match self.lessons.append(&mut lessons) {
+            Ok(()) => Ok(Answer::Quiet),
+            Err(_) => Err(RcError::no_memory(self.alloc)),
+        }
+    }
+
     fn source(&mut self, words: &Words) -> Result<Answer, RcError>
         ensures { spec.IsRan result self.new
             (spec.sourcing (spec.word_at (plain_texts words.now) 1) self.old) }
@@ -159,6 +225,18 @@ impl Rules {
             Err(NoMemory) => Err(RcError::no_memory(self.alloc)),
         }
     }
+}
+
+// The name of an alias, with its value.
+fn alias_of(alloc: Global, words: &Words) -> Result<Vec<Lesson>, NoMemory>
+    ensures { IfOk result (λ lessons. map plain_lesson lessons.items
+        ≡ alias_in (plain_texts words.now) ∷ []) }
+{
+    let name = Bytes::copy_of(alloc, word_at(words, 1))?;
+    let value = lesson::joined(alloc, words.as_slice().get(2..).unwrap_or(&[]))?;
+    let mut lessons = Vec::new(alloc);
+    lessons.push(Lesson::Named(name, value))?;
+    Ok(lessons)
 }
 
 // Binds the keys in all of the menus.

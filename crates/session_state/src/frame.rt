@@ -1,15 +1,20 @@
 //! Files of commands, each inside of the one that names it.
 
-ghost use Rattle.std.specs.Prelude.{◌≡◌, ◌∷◌, [], IfOk, OnOk, MatchOption};
+ghost use Rattle.std.specs.Prelude.{◌≡◌, ◌<◌, ◌+◌, ◌∷◌, [], List, IfOk, OnOk, MatchOption};
+ghost use Rattle.patterns.specs.Causes.{Keeps};
+ghost use Rattle.people.specs.Judged.{PlainJudged};
 ghost use Rattle.mail_base.specs.Series.{plain_texts};
 ghost use Rattle.rc_lang_words.specs.Words.{plain_line};
 ghost use Rattle.session_state.specs.Commands.{plain_obeyed};
 ghost use Rattle.session_state.specs.Frames as spec;
+ghost use Rattle.session_state.specs.Lessons.{IsLent};
+ghost use Rattle.session_state.specs.declared.frame.Origin.TheVariants.{Named};
 
 use crate::commands::{Answer, Obeyed, refusal};
 use crate::note::add_note;
 use crate::rules::Rules;
 use mail_base::{Bytes, Line, Lines, NoMemory};
+use people::Verdicts;
 use rc_lang::{RcError, RcFault, RcLine, RcLines, read_rc};
 use std::alloc::Global;
 
@@ -39,10 +44,13 @@ pub struct Frame {
 }
 
 impl Frame {
-    ghost use Rattle.std.specs.Prelude.{◌≡◌, ◌<◌, true, IfOk, OnOk, IfSome};
+    ghost use Rattle.std.specs.Prelude.{◌≡◌, ◌<◌, true, List, IfOk, OnOk, IfSome};
+    ghost use Rattle.patterns.specs.Causes.{Keeps};
+    ghost use Rattle.people.specs.Judged.{PlainJudged};
     ghost use Rattle.mail_base.specs.Series.{plain_texts};
     ghost use Rattle.rc_lang.specs.Settings.{plain_shown};
     ghost use Rattle.session_state.specs.Frames as spec;
+    ghost use Rattle.session_state.specs.Lessons.{IsLent};
 
     /// A file that is still to be read.
     pub fn unread(alloc: Global, file: Line, origin: Origin, depth: u8) -> Frame
@@ -74,15 +82,19 @@ impl Frame {
         &mut self,
         alloc: Global,
         rules: &mut Rules,
+        verdicts: &mut Verdicts,
         notes: &mut Lines,
     ) -> Result<Option<Line>, NoMemory>
-        ensures half { IfOk result (λ source. record {
-          rules = rules.new;
-          notes = plain_texts notes.new;
-          left = spec.commands_left self.new;
-          source = plain_shown source;
-        } ≡ spec.file_run (spec.place_of self.old) (spec.commands_left self.old) rules.old
-            (plain_texts notes.old)) }
+        requires { IsLent verdicts.old.kept }
+        ensures keeps { Keeps verdicts.old.kept verdicts.new.kept }
+        ensures half { IfOk result (λ source. (later : List PlainJudged)
+            → Keeps verdicts.new.kept later → record {
+              rules = rules.new;
+              notes = plain_texts notes.new;
+              left = spec.commands_left self.new;
+              source = plain_shown source;
+            } ≡ spec.file_run later (spec.place_of self.old) (spec.commands_left self.old)
+            rules.old (plain_texts notes.old)) }
         ensures place { spec.place_of self.new ≡ spec.place_of self.old }
         ensures read { self.new.is_read ≡ self.old.is_read }
         ensures nested { IfOk result (λ source. IfSome source (λ _. self.old.depth < 16)) }
@@ -90,11 +102,12 @@ impl Frame {
         while self.next < self.commands.len() {
             let line = &self.commands.as_slice()[self.next];
             self.next += 1;
-            let obeyed = run_line(alloc, rules, line)?;
+            let obeyed = run_line(alloc, rules, verdicts, line)?;
             match judge(alloc, self.depth, obeyed)? {
                 Obeyed::Answered(answer) => match answer {
                     Answer::Source(path) => return Ok(Some(path)),
-                    Answer::Quiet | Answer::Show(_) => {}
+                    Answer::Quiet => {}
+                    Answer::Show(_line) => {}
                 },
                 Obeyed::Refused(error) => {
                     let number = line_number(self.origin, line.line);
@@ -116,14 +129,22 @@ fn line_number(origin: Origin, line: u32) -> u32
 }
 
 /// Runs a command, unless it is faulty as it was read.
-pub fn run_line(alloc: Global, rules: &mut Rules, line: &RcLine) -> Result<Obeyed, NoMemory>
-    ensures { IfOk result (λ obeyed. record {
-      rules = rules.new;
-      answer = plain_obeyed obeyed;
-    } ≡ spec.ran_line (plain_line line.now) rules.old) }
+pub fn run_line(
+    alloc: Global,
+    rules: &mut Rules,
+    verdicts: &mut Verdicts,
+    line: &RcLine,
+) -> Result<Obeyed, NoMemory>
+    requires { IsLent verdicts.old.kept }
+    ensures keeps { Keeps verdicts.old.kept verdicts.new.kept }
+    ensures ran { IfOk result (λ obeyed. (later : List PlainJudged)
+        → Keeps verdicts.new.kept later → record {
+          rules = rules.new;
+          answer = plain_obeyed obeyed;
+        } ≡ spec.ran_line later (plain_line line.now) rules.old) }
 {
     match line.fault {
-        None => rules.run(&line.words),
+        None => rules.run(&line.words, verdicts),
         Some(fault) => refusal(RcError::new(alloc, fault, b"")),
     }
 }
@@ -147,20 +168,23 @@ fn judge(alloc: Global, depth: u8, obeyed: Obeyed) -> Result<Obeyed, NoMemory>
 pub fn run_frames(
     alloc: Global,
     rules: &mut Rules,
+    verdicts: &mut Verdicts,
     frames: &mut Vec<Frame>,
     notes: &mut Lines,
 ) -> Result<(), NoMemory>
-    ensures { OnOk result (spec.script_of rules.new frames.new notes.new
-        ≡ spec.frames_run (spec.plain_frames frames.old) rules.old (plain_texts notes.old)) }
+    requires { IsLent verdicts.old.kept }
+    ensures keeps { Keeps verdicts.old.kept verdicts.new.kept }
+    ensures ran { OnOk result ((later : List PlainJudged) → Keeps verdicts.new.kept later
+        → spec.script_of rules.new frames.new notes.new ≡ spec.frames_run later
+        (spec.plain_frames frames.old) rules.old (plain_texts notes.old)) }
 {
     while let Some(mut frame) = take_first(frames) {
         if !frame.is_read {
             return put_first(frames, frame);
         }
-        if let Some(path) = frame.run(alloc, rules, notes)? {
-            let inner = Frame::unread(alloc, path, Origin::Named, frame.depth + 1);
-            put_first(frames, frame)?;
-            return put_first(frames, inner);
+        match frame.run(alloc, rules, verdicts, notes)? {
+            Some(path) => return put_inner(alloc, frames, frame, path),
+            None => {}
         }
     }
     Ok(())
@@ -170,11 +194,15 @@ pub fn run_frames(
 pub fn read_first(
     alloc: Global,
     rules: &mut Rules,
+    verdicts: &mut Verdicts,
     frames: &mut Vec<Frame>,
     notes: &mut Lines,
     text: &[u8],
 ) -> Result<(), NoMemory>
-    ensures { OnOk result (spec.script_of rules.new frames.new notes.new ≡ spec.read_script text.now
+    requires { IsLent verdicts.old.kept }
+    ensures keeps { Keeps verdicts.old.kept verdicts.new.kept }
+    ensures read { OnOk result ((later : List PlainJudged) → Keeps verdicts.new.kept later
+        → spec.script_of rules.new frames.new notes.new ≡ spec.read_script later text.now
         (spec.plain_frames frames.old) rules.old (plain_texts notes.old)) }
 {
     let Some(mut frame) = take_first(frames) else {
@@ -182,7 +210,7 @@ pub fn read_first(
     };
     frame.read(alloc, text)?;
     put_first(frames, frame)?;
-    run_frames(alloc, rules, frames, notes)
+    run_frames(alloc, rules, verdicts, frames, notes)
 }
 
 /// Leaves the first file, which was not read, and runs the commands up to a file that is still to
@@ -190,14 +218,17 @@ pub fn read_first(
 pub fn skip_first(
     alloc: Global,
     rules: &mut Rules,
+    verdicts: &mut Verdicts,
     frames: &mut Vec<Frame>,
     notes: &mut Lines,
     is_missing: bool,
     fault: RcFault,
 ) -> Result<(), NoMemory>
-    ensures { OnOk result (spec.script_of rules.new frames.new notes.new
-        ≡ spec.skip_script is_missing fault (spec.plain_frames frames.old) rules.old
-        (plain_texts notes.old)) }
+    requires { IsLent verdicts.old.kept }
+    ensures keeps { Keeps verdicts.old.kept verdicts.new.kept }
+    ensures skipped { OnOk result ((later : List PlainJudged) → Keeps verdicts.new.kept later
+        → spec.script_of rules.new frames.new notes.new ≡ spec.skip_script later is_missing fault
+        (spec.plain_frames frames.old) rules.old (plain_texts notes.old)) }
 {
     let Some(frame) = take_first(frames) else {
         return Ok(());
@@ -209,7 +240,7 @@ pub fn skip_first(
         };
         add_note(alloc, notes, &frame.file, 0, &error)?;
     }
-    run_frames(alloc, rules, frames, notes)
+    run_frames(alloc, rules, verdicts, frames, notes)
 }
 
 fn is_quiet(origin: Origin, is_missing: bool) -> bool
@@ -236,4 +267,21 @@ fn put_first(frames: &mut Vec<Frame>, frame: Frame) -> Result<(), NoMemory>
 {
     frames.insert(0, frame)?;
     Ok(())
+}
+
+// Puts a file first that is still to be read, and behind it the one that names it.
+fn put_inner(
+    alloc: Global,
+    frames: &mut Vec<Frame>,
+    frame: Frame,
+    path: Line,
+) -> Result<(), NoMemory>
+    requires { frame.depth < 16 }
+    ensures { OnOk result (spec.plain_frames frames.new
+        ≡ spec.unread path.items Named (frame.depth + 1) ∷ spec.plain_frame frame
+        ∷ spec.plain_frames frames.old) }
+{
+    let inner = Frame::unread(alloc, path, Origin::Named, frame.depth + 1);
+    put_first(frames, frame)?;
+    put_first(frames, inner)
 }

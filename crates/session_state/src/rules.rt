@@ -1,22 +1,26 @@
 //! What muttrc has set.
 
+use crate::lesson::Lesson;
 use keymap::{KeyQueue, Keymap, Keys, Menu, Press};
 use mail_base::{Bytes, Line, Lines, NoMemory};
 use rc_lang::Settings;
 use std::alloc::Global;
 use std::marker::Model;
 
-/// The variables, the bindings, and the keys that commands have put, of each command apart.
+/// The variables, the bindings, the keys that commands have put, of each command apart, and what
+/// they tell the index.
 #[derive(Drop)]
 pub struct Rules {
     pub(crate) alloc: Global,
     pub(crate) settings: Settings,
     pub(crate) keymap: Keymap,
     pub(crate) put: Vec<Keys>,
+    pub(crate) lessons: Vec<Lesson>,
 }
 
 impl Model for Rules {
     ghost use Rattle.std.specs.Prelude.{map};
+    ghost use Rattle.session_state.specs.Lessons.{plain_lesson};
     ghost use Rattle.session_state.specs.Rules.{PlainRules};
 
     ghost Value = { PlainRules };
@@ -25,6 +29,7 @@ impl Model for Rules {
       settings = r.settings;
       keymap = r.keymap;
       put = map (λ keys. keys.items) r.put.items;
+      lessons = map plain_lesson r.lessons.items;
     } };
 }
 
@@ -33,6 +38,7 @@ impl Rules {
     ghost use Rattle.std.specs.Prelude.{IfOk, OnOk, MatchOption};
     ghost use Rattle.mail_base.specs.Series.{plain_texts};
     ghost use Rattle.session_state.specs.Commands.{IsPressed};
+    ghost use Rattle.session_state.specs.Lessons.{plain_lesson};
     ghost use Rattle.session_state.specs.Rules.{answer_line, first_rules, put_all, without_puts};
 
     /// What stands before a muttrc is read.
@@ -48,6 +54,7 @@ impl Rules {
             settings,
             keymap: Keymap::new(alloc)?,
             put: Vec::new(alloc),
+            lessons: Vec::new(alloc),
         })
     }
 
@@ -75,6 +82,18 @@ impl Rules {
             return None;
         }
         Some(self.put.remove(0))
+    }
+
+    /// Takes the first of what commands tell the index.
+    pub fn take_lesson(&mut self) -> Option<Lesson>
+        ensures lesson { MatchOption result ((self.old.lessons ≡ []) × (self.new.lessons ≡ []))
+            (λ lesson. self.old.lessons ≡ plain_lesson lesson ∷ self.new.lessons) }
+        ensures same { self.new ≡ record self.old { lessons = self.new.lessons } }
+    {
+        if self.lessons.is_empty() {
+            return None;
+        }
+        Some(self.lessons.remove(0))
     }
 
     /// Drops the keys that commands have put.

@@ -2,6 +2,7 @@ use Rattle.std.proofs.Common.{ap, map, refl, inr, rules, ◌∙◌}
 use Rattle.mail_base.specs.Series.{Held}
 use Rattle.folder_core.specs.Letters.{plain_letter}
 use Rattle.folder_core.specs.declared.letter.Letter.{Letter}
+use Rattle.session.proofs.GivenLemmas.{keeps_same}
 use Rattle.mutt_run.proofs.ValuesLemmas.{values_done, values_early, values_off, values_part}
 use Rattle.mutt_run.proofs.ValuesLemmas.{values_untold}
 use Rattle.mutt_run.proofs.task.answer.Goals as goal
@@ -17,26 +18,26 @@ returns-in-Err-clause-reads g c = λ o is task start left moments.
     values_untold o start _ _ _ _ _ _ is task
     (ap (λ (a : Held Letter). map plain_letter a.items) c.answers.ensures.archive
     ∙ ap (map plain_letter) c.requires.archive) c.answers.ensures.sources refl refl _ _
-    (c.in-Ok.ensures.ok _) refl _ c.in-Err.ensures.which c.in-Err.ensures.err
+    (c.in-Ok.ensures.ok _ (keeps_same _)) refl _ c.in-Err.ensures.which c.in-Err.ensures.err
 
 pub returns-then-is_err-clause-reads : goal.returns-then-is_err-clause-reads
 returns-then-is_err-clause-reads g c = λ o is task start left moments.
     values_off o start _ _ _ _ _ _ is task
     (ap (λ (a : Held Letter). map plain_letter a.items) c.answers.ensures.archive
     ∙ ap (map plain_letter) c.requires.archive) c.answers.ensures.sources refl refl _ _
-    (c.in-Ok.ensures.ok _) c.in_default-tell_notes.ensures.ok refl _ (inr refl)
+    (c.in-Ok.ensures.ok _ (keeps_same _)) c.in_default-tell_notes.ensures.ok refl _ (inr refl)
 
 pub returns-in-Ok-print-clause-reads : goal.returns-in-Ok-print-clause-reads
 returns-in-Ok-print-clause-reads g c = λ o is task start left moments.
     values_done o start _ _ _ _ _ _ is task
     (ap (λ (a : Held Letter). map plain_letter a.items) c.answers.ensures.archive
     ∙ ap (map plain_letter) c.requires.archive) c.answers.ensures.sources refl refl _ _
-    (c.in-Ok.ensures.ok _) c.in_default-tell_notes.ensures.ok (search rules)
+    (c.in-Ok.ensures.ok _ (keeps_same _)) c.in_default-tell_notes.ensures.ok (search rules)
 
 pub returns-clause-reads : goal.returns-clause-reads
 returns-clause-reads g c = λ o is task start left moments.
     values_part o start _ _ _ _ _ _ is task
     (ap (λ (a : Held Letter). map plain_letter a.items) c.answers.ensures.archive
     ∙ ap (map plain_letter) c.requires.archive) c.answers.ensures.sources refl refl _ _
-    (c.in-Ok.ensures.ok _) c.in_default-tell_notes.ensures.ok _
+    (c.in-Ok.ensures.ok _ (keeps_same _)) c.in_default-tell_notes.ensures.ok _
     c.in-Err-print.ensures.which (search rules)

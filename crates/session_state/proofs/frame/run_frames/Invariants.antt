@@ -1,12 +1,18 @@
-use Rattle.std.proofs.Common.{◌≡◌, length}
+use Rattle.std.proofs.Common.{◌≡◌, List, length}
 use Rattle.mail_base.specs.Series.{plain_texts}
+use Rattle.patterns.specs.Causes.{Keeps}
+use Rattle.people.specs.Judged.{PlainJudged}
 use Rattle.session_state.specs.Frames.{frames_run, plain_frames}
 use Rattle.session_state.proofs.frame.run_frames.Given as goal
 
 abbrev pub invariant-loop-frame : goal.invariant-loop-frame
-invariant-loop-frame l =
-    frames_run (plain_frames l.frames) l.rules (plain_texts l.notes)
-    ≡ frames_run (plain_frames l.initial.frames) l.initial.rules (plain_texts l.initial.notes)
+invariant-loop-frame g l = record {
+  keeps : Keeps l.initial.verdicts.kept l.verdicts.kept;
+  went : (later : List PlainJudged) → Keeps l.verdicts.kept later
+      → frames_run later (plain_frames l.frames) l.rules (plain_texts l.notes)
+      ≡ frames_run later (plain_frames l.initial.frames) l.initial.rules
+      (plain_texts l.initial.notes);
+}
 
 abbrev pub decreases-loop-frame : goal.decreases-loop-frame
-decreases-loop-frame l = length l.frames.items
+decreases-loop-frame g l = length l.frames.items

@@ -1,17 +1,21 @@
-use Rattle.std.proofs.Common.{ap, map, subst, sym}
+use Rattle.std.proofs.Common.{◌∙◌, ap, map, subst, sym}
 use Rattle.std.proofs.lemmas.Result.{on_ok_weaker}
 use Rattle.folder_core.specs.Letters.{plain_letter}
 use Rattle.index_view.specs.View.{IsOf}
-use Rattle.session.specs.Answers.{tuned}
+use Rattle.session.specs.Answers.{learnt, tuned}
 use Rattle.session.proofs.CoreLemmas.{stands_as}
 use Rattle.session.proofs.core_state.Core.command.Goals as goal
 
-pub tune-requires : goal.tune-requires
-tune-requires c = subst (IsOf (map plain_letter c.args.archive.now.items))
-    (sym c.run_typed.ensures.view) c.requires
+pub learn-requires : goal.learn-requires
+learn-requires g c = subst (IsOf (map plain_letter c.args.archive.now.items))
+    (sym c.run_typed.ensures.view) c.requires.is_of
 
-pub returns : goal.returns
-returns c =
+pub tune-requires : goal.tune-requires
+tune-requires g c = c.in_ok-learn.ensures.is_of
+
+pub returns-clause-core : goal.returns-clause-core
+returns-clause-core g c =
     let mails = map plain_letter c.args.archive.now.items in
-    on_ok_weaker c.tune.result (λ stands. stands_as mails _ _ _
-    (ap (tuned mails) c.in_ok-run_typed.ensures.core) stands) c.tune.ensures
+    on_ok_weaker c.tune.result (λ stands later keeps. stands_as mails _ _ _
+    (ap (tuned mails) (c.in_ok-learn.ensures.same
+    ∙ ap (learnt mails) (c.in_ok-run_typed.ensures.core later keeps))) stands) c.tune.ensures

@@ -5,15 +5,21 @@ use Rattle.folder_core.specs.declared.listing.Listed.{Listed}
 use Rattle.index_items.specs.Items.{PlainItem}
 use Rattle.index_view.specs.View.{MayTake}
 use Rattle.session_index.specs.Desk.{PlainDesk, plain_desk}
+use Rattle.session_index.specs.Index.{index_of}
 use Rattle.session_index.specs.Opening.{begun}
+use Rattle.session.specs.Answers.{tuned}
 use Rattle.session.specs.Core.{CoreState, plain_core, with_desk}
 use Rattle.session.specs.Opening.{begun_in, found_in, opened}
 use Rattle.session.proofs.CoreLemmas.{stands_as, stands_by}
+use Rattle.session.proofs.LearningLemmas.{lessons_items}
 use Rattle.session.proofs.OpeningLemmas.{may_open, taken_first}
 use Rattle.session.proofs.core_state.Core.open.Goals as goal
 
+pub learn-requires : goal.learn-requires
+learn-requires c = c.requires.empty.is_of _
+
 pub tune-requires : goal.tune-requires
-tune-requires c = c.requires.empty.is_of _
+tune-requires c = c.in_ok-learn.ensures.is_of
 
 pub take_in-requires-clause-found : goal.take_in-requires-clause-found
 take_in-requires-clause-found c =
@@ -21,6 +27,8 @@ take_in-requires-clause-found c =
     let found = c.in_ok-found.found in
     let came = c.in_ok-found.ensures.came in
     let none = ap (λ (s : CoreState). s.desk.index.facts.items) c.in_ok-tune.ensures.same
+    ∙ ap (λ (s : CoreState). s.desk.index.facts.items) c.in_ok-learn.ensures.same
+    ∙ lessons_items mails c.args.self.now.rules.lessons (index_of c.args.self.now.desk.view)
     ∙ c.requires.empty.none in
     subst (λ (items : List PlainItem). MayTake mails items found) (sym none)
     (may_open c.first_folder_is_taken.ensures mails found c.in_ok-found.ensures.gone
@@ -42,5 +50,6 @@ returns c =
     (plain_desk c.tune.new.self.desk) in
     stands_as mails _ _ _
     (ap (λ (d : PlainDesk). with_desk (begun mails d) t) desk_is
-    ∙ ap (λ (s : CoreState). begun_in mails (found_in mails came s)) c.in_ok-tune.ensures.same)
+    ∙ ap (λ (s : CoreState). begun_in mails (found_in mails came s))
+    (c.in_ok-tune.ensures.same ∙ ap (tuned mails) c.in_ok-learn.ensures.same))
     (stands_by mails c.tune.new.self c.begin.new.self _ begins)

@@ -1,6 +1,6 @@
 use Rattle.std.proofs.Common.{[], ap, refl, subst, sym}
 use Rattle.session_events.specs.Events.{plain_events}
-use Rattle.session.specs.Core.{IsWindow}
+use Rattle.session_state.specs.Window.{IsWindow}
 use Rattle.session.specs.Runs.{State, plain_session}
 use Rattle.session.specs.Starting.{first_state, plain_setup}
 use Rattle.session.proofs.BeginningLemmas.{ok_at}
@@ -10,7 +10,7 @@ use Rattle.session.proofs.session_type.Session.answers.Goals as goal
 pub returns-in_err-session-clause-sources : goal.returns-in_err-session-clause-sources
 returns-in_err-session-clause-sources g c =
     sources_off (first_state (plain_setup c.args.setup)) (first_state (plain_setup c.args.setup))
-    _ _ _ _ _ refl refl (sources_begun (first_state (plain_setup c.args.setup))
+    _ _ _ _ _ refl refl (sources_begun _ (first_state (plain_setup c.args.setup))
     (first_state (plain_setup c.args.setup)) _ _ refl (ap plain_events c.requires.events))
 
 pub answer-requires : goal.answer-requires
@@ -24,7 +24,7 @@ answer-requires g c =
 pub returns-clause-ok : goal.returns-clause-ok
 returns-clause-ok g c =
     ok_at _ _ _ c.answer.ensures.ok (first_state (plain_setup c.args.setup)) _
-    (sources_begun (first_state (plain_setup c.args.setup))
+    (sources_begun _ (first_state (plain_setup c.args.setup))
     (plain_session c.in_ok-session.session c.args.trace.now.notes) _ _
     (c.in_ok-session.ensures.state c.args.trace.now.notes c.requires.notes)
     (ap plain_events c.requires.events))
@@ -32,7 +32,7 @@ returns-clause-ok g c =
 pub returns-clause-sources : goal.returns-clause-sources
 returns-clause-sources g c =
     c.answer.ensures.sources (first_state (plain_setup c.args.setup)) _
-    (sources_begun (first_state (plain_setup c.args.setup))
+    (sources_begun _ (first_state (plain_setup c.args.setup))
     (plain_session c.in_ok-session.session c.args.trace.now.notes) _ _
     (c.in_ok-session.ensures.state c.args.trace.now.notes c.requires.notes)
     (ap plain_events c.requires.events))

@@ -10,7 +10,7 @@ returns-in_err-source_all-clause-err g c =
     no_memory _ _ c.from_residual.ensures.1 (λ first before sources given is.
     fails_early _ given first _ _ _ before _
     (is.mails_are ∙ rw c.source_all.ensures.archive (ap (map plain_letter) c.requires.archive))
-    (c.source_all.ensures.off first before sources))
+    is.keeps (c.source_all.ensures.off first before sources))
 
 pub returns-clause-ok : goal.returns-clause-ok
 returns-clause-ok g c =

@@ -3,7 +3,7 @@ use Rattle.std.proofs.Math.Facts.{to_z-of_z}
 use Rattle.session_events.specs.Events.{Happening, KeyPressed}
 use Rattle.session.specs.Runs.{arrived, plain_session}
 use Rattle.session.specs.Steps.{IsNext}
-use Rattle.session.specs.declared.setup.Next.{Next}
+use Rattle.session_events.specs.declared.setup.Next.{Next}
 use Rattle.session.proofs.StepsLemmas.{key_next, key_presses, key_stays, put_plain}
 use Rattle.session.proofs.session_type.Session.key.Goals as goal
 

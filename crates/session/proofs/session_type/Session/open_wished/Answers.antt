@@ -4,6 +4,7 @@ use Rattle.folder_core.specs.Letters.{plain_letter}
 use Rattle.session_events.specs.Events.{plain_events}
 use Rattle.session.specs.Runs.{plain_session}
 use Rattle.session.proofs.BeginningLemmas.{fails, fails_early, fails_late, no_memory, starts}
+use Rattle.session.proofs.GivenLemmas.{keeps_then}
 use Rattle.session.proofs.StepsLemmas.{sources_off}
 use Rattle.session.proofs.session_type.Session.open_wished.Goals as goal
 
@@ -11,7 +12,7 @@ pub returns-in_err-reserve-clause-err : goal.returns-in_err-reserve-clause-err
 returns-in_err-reserve-clause-err g c =
     no_memory _ _ c.from_residual.ensures.1 (λ first before sources given is.
     fails_early _ given first _ _ _ before _
-    (is.mails_are ∙ ap (map plain_letter) c.requires.archive)
+    (is.mails_are ∙ ap (map plain_letter) c.requires.archive) is.keeps
     (sources_off first (plain_session c.args.self.now c.args.trace.now.notes) _ _ before _ _
     (ap plain_events c.reserve.ensures.items) refl sources))
 
@@ -20,13 +21,13 @@ returns-in_err-event-clause-err g c =
     no_memory _ _ c.from_residual-in_err-event.ensures.1 (λ first before sources given is.
     fails_early _ given first _ _ _ before _
     (is.mails_are ∙ rw c.in_err-event.ensures.err.1 (ap (map plain_letter) c.requires.archive))
-    (sources_off first (plain_session c.args.self.now c.args.trace.now.notes) _ _ before _ _
+    is.keeps (sources_off first (plain_session c.args.self.now c.args.trace.now.notes) _ _ before _ _
     (ap plain_events c.in_ok-reserve.ensures.items) c.in_err-event.ensures.err.0 sources))
 
 pub returns-in_err-happen-clause-err : goal.returns-in_err-happen-clause-err
 returns-in_err-happen-clause-err g c =
     no_memory _ _ c.from_residual-in_err-happen.ensures.1 (λ first before sources given is.
-    fails_late _ given _ is.mails_are first
+    fails_late _ given _ is.mails_are (keeps_then c.happen.ensures.kept is.keeps) first
     (plain_session c.args.self.now c.args.trace.now.notes) _ _ _ _ _ before _ _
     (ap plain_events c.in_ok-reserve.ensures.items) c.happen.ensures.events c.requires.unopened
     c.requires.read
@@ -35,7 +36,7 @@ returns-in_err-happen-clause-err g c =
 
 pub returns-in-None-clause-ok : goal.returns-in-None-clause-ok
 returns-in-None-clause-ok g c first before sources given is =
-    starts _ given _ is.mails_are first
+    starts _ given _ is.mails_are (keeps_then c.happen.ensures.kept is.keeps) first
     (plain_session c.args.self.now c.args.trace.now.notes) _ _ _ _ _ before _ _
     (ap plain_events c.in_ok-reserve.ensures.items) c.happen.ensures.events c.requires.unopened
     c.requires.read
@@ -46,7 +47,7 @@ returns-in-None-clause-ok g c first before sources given is =
 pub returns-in-Some-clause-err : goal.returns-in-Some-clause-err
 returns-in-Some-clause-err g c first before sources given is =
     rw c.start_error.ensures
-    (fails _ given _ is.mails_are first
+    (fails _ given _ is.mails_are (keeps_then c.happen.ensures.kept is.keeps) first
     (plain_session c.args.self.now c.args.trace.now.notes) _ _ _ _ _ before _ _
     (ap plain_events c.in_ok-reserve.ensures.items) c.happen.ensures.events c.requires.unopened
     c.requires.read

@@ -1,7 +1,7 @@
 use Rattle.std.proofs.Common.{subst, sym}
 use Rattle.session.specs.Runs.{plain_session}
 use Rattle.session.specs.Steps.{IsNext}
-use Rattle.session.specs.declared.setup.Next.{Next}
+use Rattle.session_events.specs.declared.setup.Next.{Next}
 use Rattle.session.proofs.BeginningLemmas.{waits_then}
 use Rattle.session.proofs.StepsLemmas.{pushed_next}
 use Rattle.session.proofs.session_type.Session.pushed.Goals as goal

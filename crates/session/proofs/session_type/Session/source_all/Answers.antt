@@ -1,6 +1,7 @@
 use Rattle.std.proofs.Common.{refl, subst, sym, ◌∙◌}
-use Rattle.session.specs.Core.{IsWindow}
+use Rattle.session_state.specs.Window.{IsWindow}
 use Rattle.session.specs.Runs.{plain_session}
+use Rattle.session.proofs.GivenLemmas.{keeps_then}
 use Rattle.session.proofs.StepsLemmas.{sources_off}
 use Rattle.session.proofs.session_type.Session.source_all.Goals as goal
 
@@ -14,6 +15,7 @@ loop-turn-preserved g c = record {
   view = c.in_ok-source_next.ensures.view ∙ c.loop-turn.invariant.view;
   window = c.source_next.ensures.window ∙ c.loop-turn.invariant.window;
   archive = c.source_next.ensures.archive ∙ c.loop-turn.invariant.archive;
+  kept = keeps_then c.loop-turn.invariant.kept c.source_next.ensures.kept;
   sources = λ first before sources.
       c.in_ok-source_next.ensures.sources first before
       (c.loop-turn.invariant.sources first before sources);

@@ -20,7 +20,7 @@ returns-in_err-happen-in-Some-clause-off g c first before sources =
     (ap plain_events c.in_ok-reserve.ensures.items) c.happen.ensures.events c.requires.unopened
     ((rw c.in-Some.is at c.in_ok-source.ensures.wish)
     (plain_session c.args.self.now c.args.trace.now.notes))
-    (rw c.in-Some.is at c.in_ok-source.ensures.ok) sources
+    (rw c.in-Some.is at c.in_ok-source.ensures.ok) sources c.happen.ensures.kept
 
 pub returns-in-None-clause-off : goal.returns-in-None-clause-off
 returns-in-None-clause-off g c first before sources =
@@ -34,7 +34,7 @@ returns-in_ok-happen-in-Some-clause-sources g c first before sources =
     (ap plain_events c.in_ok-reserve.ensures.items) c.happen.ensures.events c.requires.unopened
     ((rw c.in-Some.is at c.in_ok-source.ensures.wish)
     (plain_session c.args.self.now c.args.trace.now.notes))
-    (rw c.in-Some.is at c.in_ok-source.ensures.ok) sources
+    (rw c.in-Some.is at c.in_ok-source.ensures.ok) sources c.happen.ensures.kept
     (plain_session c.happen.new.self c.happen.new.trace.notes)
     c.in_ok-happen-in-Some.ensures.arrived
 
@@ -44,7 +44,7 @@ returns-in_ok-happen-in-Some-clause-off g c first before sources =
     (ap plain_events c.in_ok-reserve.ensures.items) c.happen.ensures.events c.requires.unopened
     ((rw c.in-Some.is at c.in_ok-source.ensures.wish)
     (plain_session c.args.self.now c.args.trace.now.notes))
-    (rw c.in-Some.is at c.in_ok-source.ensures.ok) sources
+    (rw c.in-Some.is at c.in_ok-source.ensures.ok) sources c.happen.ensures.kept
 
 pub returns-in_ok-happen-in-Some-clause-unopened : goal.returns-in_ok-happen-in-Some-clause-unopened
 returns-in_ok-happen-in-Some-clause-unopened g c =

@@ -1,4 +1,4 @@
-use Rattle.std.proofs.Common.{◌∙◌, FitsSigned, ap, arith, map, subst, sym, w64}
+use Rattle.std.proofs.Common.{◌∙◌, FitsSigned, List, ap, arith, map, subst, sym, w64, ℕ}
 use Rattle.std.proofs.Math.Facts.{to_z-of_z}
 use Rattle.jiff_core.proofs.SignedLemmas.{signed_arith}
 use Rattle.std.proofs.lemmas.Result.{on_ok_weaker}
@@ -6,8 +6,22 @@ use Rattle.folder_core.specs.Letters.{plain_letter}
 use Rattle.index_view.specs.View.{IsOf}
 use Rattle.session_events.specs.Events.{plain_event}
 use Rattle.session_events.specs.declared.event.Event.{Event}
-use Rattle.session.specs.Runs.{arrived, plain_session, typed}
+use Rattle.session.specs.Runs.{arrived, plain_session, read_in, typed}
 use Rattle.session.proofs.session_type.Session.take.Goals as goal
+
+pub returns-in-Sourced-clause-arrived : goal.returns-in-Sourced-clause-arrived
+returns-in-Sourced-clause-arrived g c =
+    on_ok_weaker c.read.result (λ reads given is. reads given.verdicts is.keeps
+    ∙ ap (λ (t : List ℕ). read_in given.verdicts t
+    (plain_session c.args.self.now c.args.notes.now)) c.as_slice.ensures
+    ∙ ap (λ (e : Event). arrived given (plain_session c.args.self.now c.args.notes.now)
+    (plain_event e)) (sym c.in-Sourced.is)) c.read.ensures.read
+
+pub returns-in-NotSourced-clause-arrived : goal.returns-in-NotSourced-clause-arrived
+returns-in-NotSourced-clause-arrived g c =
+    on_ok_weaker c.skip.result (λ skips given is. skips given.verdicts is.keeps
+    ∙ ap (λ (e : Event). arrived given (plain_session c.args.self.now c.args.notes.now)
+    (plain_event e)) (sym c.in-NotSourced.is)) c.skip.ensures.skipped
 
 pub type_in-requires-clause-is_of : goal.type_in-requires-clause-is_of
 type_in-requires-clause-is_of g c =

@@ -1,12 +1,16 @@
-use Rattle.std.proofs.Common.{◌≡◌, ◌-◌, length}
+use Rattle.std.proofs.Common.{◌≡◌, ◌-◌, List, length}
 use Rattle.mail_base.specs.Series.{plain_texts}
+use Rattle.patterns.specs.Causes.{Keeps}
+use Rattle.people.specs.Judged.{PlainJudged}
 use Rattle.session_state.specs.Frames.{commands_left, file_run, place_of}
 use Rattle.session_state.proofs.frame.Frame.run.Given as goal
 
 abbrev pub invariant-loop-self : goal.invariant-loop-self
-invariant-loop-self l = record {
-  went : file_run (place_of l.self) (commands_left l.self) l.rules (plain_texts l.notes)
-      ≡ file_run (place_of l.initial.self) (commands_left l.initial.self) l.initial.rules
+invariant-loop-self g l = record {
+  keeps : Keeps l.initial.verdicts.kept l.verdicts.kept;
+  went : (later : List PlainJudged) → Keeps l.verdicts.kept later
+      → file_run later (place_of l.self) (commands_left l.self) l.rules (plain_texts l.notes)
+      ≡ file_run later (place_of l.initial.self) (commands_left l.initial.self) l.initial.rules
       (plain_texts l.initial.notes);
   file : l.self.file ≡ l.initial.self.file;
   origin : l.self.origin ≡ l.initial.self.origin;
@@ -16,4 +20,4 @@ invariant-loop-self l = record {
 }
 
 abbrev pub decreases-loop-self : goal.decreases-loop-self
-decreases-loop-self l = length l.self.commands.items - l.self.next
+decreases-loop-self g l = length l.self.commands.items - l.self.next

@@ -5,9 +5,9 @@ use Rattle.std.specs.Prelude.{option_map}
 use Rattle.index_view.specs.Limit.{PlainLimit}
 use Rattle.patterns_match.specs.Pattern.{pattern_tree}
 use Rattle.patterns_match.specs.Trees.{Tree}
-use Rattle.session.specs.Days.{reading}
-use Rattle.session.proofs.ReadingLemmas.{no_reading, reads_as}
-use Rattle.session.proofs.answers.read.Goals as goal
+use Rattle.session_state.specs.Days.{reading}
+use Rattle.session_state.proofs.ReadingLemmas.{no_reading, reads_as}
+use Rattle.session_state.proofs.reading.read_at.Goals as goal
 
 pub returns-in-Ok-clause-read : goal.returns-in-Ok-clause-read
 returns-in-Ok-clause-read g c = λ later keeps.

@@ -1,6 +1,6 @@
 -- What a text reads as on the day of a moment.
 use Rattle.std.specs.Prelude.{◌≡◌, ◌&&◌, ℕ, ℤ, pos, neg_ℤ, Bool, true, false, List, Option}
-use Rattle.std.specs.Prelude.{int_le, nat_le, refl}
+use Rattle.std.specs.Prelude.{int_le, nat_le, option_map, refl}
 use Rattle.std.proofs.lemmas.Bool.{and_parts, leb-true}
 use Rattle.std.proofs.lemmas.Float.{T_from_true}
 use lib.Signed.{le_z_yes}
@@ -14,6 +14,10 @@ use Rattle.patterns.specs.Readings.{reading_by}
 use Rattle.patterns_match.specs.Days.{day_number}
 use Rattle.patterns_match.specs.Trees.{Tree}
 use Rattle.people.specs.Judged.{PlainJudged}
+use Rattle.index_view.specs.Limit.{PlainLimit}
+use Rattle.patterns.specs.declared.pattern_error.PatternError.{PatternError}
+use Rattle.patterns.specs.declared.pattern_error.PatternError.TheVariants as error
+use Rattle.session_state.specs.declared.window.Window.{Window}
 
 -- the calendar has this day
 abbrev pub is_civil : ℤ → ℕ → ℕ → Bool
@@ -62,3 +66,16 @@ date_on day =
 unfoldable pub reading : List PlainJudged → ℤ → ℤ → List ℕ → Option Tree
 reading verdicts moment offset text =
     reading_by verdicts (pattern_of (days_of (date_on (day_number moment offset))) text)
+
+-- the same in the reader's offset
+abbrev pub reading_of : List PlainJudged → Window → ℤ → List ℕ → Option PlainLimit
+reading_of verdicts window moment text = option_map
+    (λ tree. record { tree = tree; offset = window.offset })
+    (reading verdicts moment window.offset text)
+
+-- For the code alone.
+
+-- memory is in the way of a pattern
+abbrev pub is_memory : PatternError → Bool
+is_memory error.NoMemory = true
+is_memory _ = false

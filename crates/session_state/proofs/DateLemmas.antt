@@ -16,7 +16,7 @@ use Rattle.jiff_core.specs.declared.civil.datetime.DateTime.{DateTime}
 use Rattle.index_rows.specs.Date.{parts_on}
 use Rattle.index_rows.proofs.ClockLemmas.{parts_on_clock}
 use Rattle.std.proofs.Common.{Some, rules}
-use Rattle.session.specs.Days.{date_from, date_on, is_civil}
+use Rattle.session_state.specs.Days.{date_from, date_on, is_civil}
 
 year_prop : (y : ℤ) → IsProp (IsYear y)
 year_prop y = hlevel T_prop

@@ -1,7 +1,7 @@
 //! What a session starts from.
 
+use crate::event::OpenFault;
 use mail_base::{Bytes, Kind, NoMemory, Words};
-use session_events::OpenFault;
 
 /// What the words of a command line say.
 #[derive(Drop)]
@@ -36,7 +36,7 @@ pub enum StartError {
 
 impl From<NoMemory> for StartError {
     ghost use Rattle.std.specs.Prelude.{◌≡◌};
-    ghost use Rattle.session.specs.declared.setup.StartError.TheVariants.{NoMemory};
+    ghost use Rattle.session_events.specs.declared.setup.StartError.TheVariants.{NoMemory};
 
     ghost from_gives = { λ _ e. e ≡ NoMemory };
 

@@ -12,9 +12,9 @@ use Rattle.patterns_match.specs.Pattern.{pattern_tree}
 use Rattle.patterns_match.specs.Trees.{Tree}
 use Rattle.patterns_match.specs.declared.pattern.Pattern.{Pattern}
 use Rattle.people.specs.Judged.{PlainJudged}
-use Rattle.session.specs.Answers.{is_memory}
-use Rattle.session.specs.Days.{date_on, reading}
-use Rattle.session.proofs.DateLemmas.{date_on_day}
+use Rattle.session_state.specs.Days.{is_memory}
+use Rattle.session_state.specs.Days.{date_on, reading}
+use Rattle.session_state.proofs.DateLemmas.{date_on_day}
 
 pub reads_as : (text : List ℕ) (moment offset : ℤ) (result : Result Pattern PatternError)
     (old new : List PlainJudged) (before after : ℕ)

@@ -1,0 +1,84 @@
+//! What commands tell the index.
+
+ghost use Rattle.std.specs.Prelude.{◌≡◌, ◌∷◌, [], List, map, IfOk};
+ghost use Rattle.patterns.specs.Causes.{Keeps};
+ghost use Rattle.people.specs.Judged.{PlainJudged};
+ghost use Rattle.rc_lang.specs.Settings.{Answers, plain_names};
+ghost use Rattle.session_state.specs.Lessons as spec;
+
+use mail_base::{Bytes, NoMemory};
+use people::{Expr, ExprError, PeopleTable, Verdicts};
+use rc_lang::{RcError, RcFault};
+use std::alloc::Global;
+
+/// What a command tells the index.
+#[derive(Drop)]
+pub enum Lesson {
+    /// An expression belongs to a table of people.
+    Person(PeopleTable, Expr),
+    /// A name stands for a value.
+    Named(Bytes, Bytes),
+}
+
+// A word that is an expression, for a table.
+fn person_of(
+    alloc: Global,
+    table: PeopleTable,
+    word: &[u8],
+    verdicts: &mut Verdicts,
+) -> Result<Lesson, RcError>
+    requires { spec.IsLent verdicts.old.kept }
+    ensures keeps { Keeps verdicts.old.kept verdicts.new.kept }
+    ensures value { (later : List PlainJudged) → Keeps verdicts.new.kept later
+        → Answers (λ l. spec.plain_lesson l ∷ []) result (spec.person_of later table word.now) }
+{
+    match Expr::read(alloc, word, verdicts) {
+        Ok(expr) => Ok(Lesson::Person(table, expr)),
+        Err(ExprError::Syntax) => Err(RcError::new(alloc, RcFault::BadExpression, word)),
+        Err(ExprError::Size) => Err(RcError::new(alloc, RcFault::BadExpression, word)),
+        Err(ExprError::NoMemory) => Err(RcError::no_memory(alloc)),
+    }
+}
+
+/// The expressions of these words, for a table of people.
+pub fn people_of(
+    alloc: Global,
+    table: PeopleTable,
+    words: &[Bytes],
+    verdicts: &mut Verdicts,
+) -> Result<Vec<Lesson>, RcError>
+    requires { spec.IsLent verdicts.old.kept }
+    ensures keeps { Keeps verdicts.old.kept verdicts.new.kept }
+    ensures value { (later : List PlainJudged) → Keeps verdicts.new.kept later
+        → Answers (λ lessons. map spec.plain_lesson lessons.items) result
+        (spec.people_of later table (plain_names words.now)) }
+{
+    let mut lessons = Vec::new(alloc);
+    let mut left = words;
+    while let Some((word, rest)) = left.split_first() {
+        let lesson = person_of(alloc, table, word.as_slice(), verdicts)?;
+        let Ok(()) = lessons.push(lesson) else {
+            return Err(RcError::no_memory(alloc));
+        };
+        left = rest;
+    }
+    Ok(lessons)
+}
+
+/// Words, with a blank between them.
+pub fn joined(alloc: Global, words: &[Bytes]) -> Result<Bytes, NoMemory>
+    ensures { IfOk result (λ text. text.items ≡ spec.joined (plain_names words.now)) }
+{
+    let mut text = Bytes::new(alloc);
+    let Some((first, rest)) = words.split_first() else {
+        return Ok(text);
+    };
+    text.append(first.as_slice())?;
+    let mut left = rest;
+    while let Some((word, more)) = left.split_first() {
+        text.append(b" ")?;
+        text.append(word.as_slice())?;
+        left = more;
+    }
+    Ok(text)
+}
