@@ -2,3 +2,4 @@ pub mod PendingLemmas
 pub mod ByIdLemmas
 pub mod ChangeLemmas
 pub mod FoundLemmas
+pub mod KeptLemmas

@@ -4,3 +4,4 @@ pub mod Changes
 pub mod ById
 pub mod Found
 pub mod Alteration
+pub mod Kept

@@ -9,6 +9,7 @@ mod by_id;
 mod change;
 mod found;
 mod item;
+mod kept;
 mod pending;
 
 pub use alteration::{Alteration, altered};
@@ -16,4 +17,5 @@ pub use by_id::ById;
 pub use change::{changes, settled};
 pub use found::joined;
 pub use item::{Item, ids_of};
+pub use kept::keep;
 pub use pending::Pending;

@@ -209,7 +209,7 @@ impl Answers {
     ghost use Rattle.index_view.specs.Limit.{all_within, plain_limit};
     ghost use Rattle.index_view.specs.Lines.{hidden_by, no_ties};
     ghost use Rattle.index_view.specs.Marks.{marks_of};
-    ghost use Rattle.index_view.specs.Tables.{row_at, seen, table};
+    ghost use Rattle.index_view.specs.Tables.{seen, table};
 
     /// Nothing is listed.
     pub fn none(alloc: Global) -> Answers
@@ -313,19 +313,11 @@ impl Answers {
         self.places.find(id)
     }
 
-    /// How many messages are listed.
-    pub fn count(&self) -> usize
-        ensures { result ≡ length self.now.rows }
+    /// What is shown of the messages, in the order of the listing.
+    pub fn rows(&self) -> &[Row]
+        ensures { result.now ≡ self.now.rows }
     {
-        self.rows.len()
-    }
-
-    /// What is shown of the message at a place of the listing.
-    pub fn row_at(&self, place: usize) -> Row
-        requires { place < length self.now.rows }
-        ensures { result ≡ row_at self.now.rows place }
-    {
-        self.rows[place]
+        &self.rows
     }
 
     /// What the tables of people tell of it.

@@ -66,6 +66,13 @@ impl View {
         self.answers.sight().visible()
     }
 
+    /// What is shown of the messages, in the order of the listing.
+    pub fn rows(&self) -> &[Row]
+        ensures { result.now ≡ self.now.answers.rows }
+    {
+        self.answers.rows()
+    }
+
     /// What is shown of a message; nothing where the id is not listed.
     pub fn row(&self, id: Id) -> Option<Row>
         ensures value { result ≡ answers.row self.now.answers id }

@@ -2,6 +2,7 @@
 
 use crate::view::{View, answers_over};
 use folder_core::Archive;
+use index_items::keep;
 use mail_base::{Bytes, NoMemory};
 use patterns_match::{Pattern, ScoreError, Scores};
 use people::{Expr, PeopleTable};
@@ -12,6 +13,7 @@ impl View {
     ghost use Rattle.std.specs.Prelude.{OnOk};
     ghost use Rattle.folder_core.specs.Letters.{Mail, plain_letter};
     ghost use Rattle.index_items.specs.Items.{numbers};
+    ghost use Rattle.index_items.specs.Kept.{kept};
     ghost use Rattle.index_listed.specs.Heads.{AreHeads, AreWithin};
     ghost use Rattle.index_view.specs.View as spec;
     ghost use Rattle.patterns_match.specs.Pattern.{pattern_tree};
@@ -53,13 +55,11 @@ impl View {
         ensures err { OnErr result (self.new ≡ self.old) }
     {
         self.tables.people.add(table, expr)?;
-        match self.judge(archive) {
-            Ok(()) => Ok(()),
-            Err(error) => {
-                self.tables.people.drop_last(table);
-                Err(error)
-            }
+        let judged = self.judge(archive);
+        if judged.is_err() {
+            self.tables.people.drop_last(table);
         }
+        judged
     }
 
     /// Gives a name its value, in place of the one that it has.
@@ -107,6 +107,18 @@ impl View {
                 Err(error.into())
             }
         }
+    }
+
+    /// Keeps the entries of scores that are marked. What want of memory leaves is open.
+    pub fn keep_scores(&mut self, archive: &Archive, marks: &[bool]) -> Result<(), NoMemory>
+        requires { spec.IsOf (map plain_letter archive.now.items) self.old }
+        ensures { OnOk result (spec.Turned (map plain_letter archive.now.items) self.old self.new
+            (record (spec.facts_of self.old) {
+              scores = kept marks.now (held_entries self.old.scores);
+            })) }
+    {
+        keep(&mut self.tables.scores.entries, marks);
+        self.judge(archive)
     }
 
     /// Takes all entries of scores away.

@@ -79,8 +79,8 @@ impl View {
             tree.now.items self.now (spec.plain_style style.entry) id place }
     {
         entry_of(
-            self.answers.row_at(place),
-            self.answers.count() as u64,
+            self.answers.rows()[place],
+            self.answers.rows().len() as u64,
             self.answers.shut_of(id),
             self.answers.ties_at(place),
             &self.heads[id.0 as usize],
@@ -160,13 +160,11 @@ impl View {
         Ok(line)
     }
 
-    // The messages of the page that holds the cursor.
-    fn page(&self, rows: usize) -> &[Id]
-        requires { 0 < rows }
-        ensures page { result.now ≡ spec.page rows self.now }
-        ensures fits { length result.now ≤ rows }
+    /// Where the cursor stands among the ids that are seen; at their front where it stands nowhere.
+    pub fn cursor_place(&self) -> usize
+        ensures { result ≡ spec.cursor_place self.now }
     {
-        self.answers.sight().page(rows, self.cursor)
+        self.answers.sight().cursor_place(self.cursor)
     }
 
     /// The lines of the page that holds the cursor, exactly `rows` of them: each message with its
@@ -197,7 +195,7 @@ impl View {
             to_chars,
             offset,
         };
-        let page = self.page(rows as usize);
+        let page = self.answers.sight().page(rows as usize, self.cursor);
         self.put_rows(alloc, &mut lines, archive, style, cols, page)?;
         put_blanks(alloc, &mut lines, rows as usize - page.len())?;
         Ok(lines)

@@ -23,7 +23,6 @@ use patterns_match::{Pattern, Scores};
 use people::People;
 use std::alloc::Global;
 use std::marker::Model;
-use std::mem;
 
 /// A view of a folder's listed messages: what the user changed of them, how they stand in threads
 /// and in order, what of them is seen under a limit and shut threads, and where the cursor stands.
@@ -103,8 +102,7 @@ pub fn answers_over(
 impl View {
     ghost use Rattle.std.specs.Prelude.{◌≡◌, List, length, map, option_map, IfOk, OnErr, OnOk};
     ghost use Rattle.folder_core.specs.Letters.{Mail, plain_letter};
-    ghost use Rattle.index_items.specs.Alteration.{alter_at, altered as changed_item, altered_by};
-    ghost use Rattle.index_items.specs.Alteration.{shut as with_shut, tagged as with_tag};
+    ghost use Rattle.index_items.specs.Alteration as it;
     ghost use Rattle.index_items.specs.Changes.{AreBelow, plain_changes, settled as left_by};
     ghost use Rattle.index_items.specs.Items.{numbers, plain_items};
     ghost use Rattle.index_listed.specs.Heads.{AreHeads, AreWithin};
@@ -186,7 +184,7 @@ impl View {
         requires { spec.IsOf (map plain_letter archive.now.items) self.old }
         ensures ok { OnOk result (spec.Turned (map plain_letter archive.now.items) self.old self.new
             (record (spec.facts_of self.old) {
-              items = alter_at id (altered_by alteration) self.old.items;
+              items = it.alter_at id (it.altered_by alteration) self.old.items;
             })) }
         ensures err { OnErr result (self.new ≡ self.old) }
     {
@@ -246,7 +244,7 @@ impl View {
     {
         let letters = archive.as_slice();
         let listed = all_listed(self.alloc, letters, &self.heads, &self.items)?;
-        let old = mem::replace(&mut self.tables.limit, limit);
+        let old = std::mem::replace(&mut self.tables.limit, limit);
         match self.answers.limited(self.alloc, &mut self.tables, &listed) {
             Ok(sight) => {
                 self.cursor = moved(self.answers.sight(), &sight, self.cursor);
@@ -271,7 +269,7 @@ impl View {
         requires { spec.IsOf (map plain_letter archive.now.items) self.old }
         ensures ok { OnOk result (spec.Turned (map plain_letter archive.now.items) self.old self.new
             (record (spec.facts_of self.old) {
-              items = alter_at id (changed_item delta.added delta.cleared deleted) self.old.items;
+              items = it.alter_at id (it.altered delta.added delta.cleared deleted) self.old.items;
             })) }
         ensures err { OnErr result (self.new ≡ self.old) }
     {
@@ -283,7 +281,7 @@ impl View {
         requires { spec.IsOf (map plain_letter archive.now.items) self.old }
         ensures ok { OnOk result (spec.Turned (map plain_letter archive.now.items) self.old self.new
             (record (spec.facts_of self.old) {
-              items = alter_at id (with_tag tagged) self.old.items;
+              items = it.alter_at id (it.tagged tagged) self.old.items;
             })) }
         ensures err { OnErr result (self.new ≡ self.old) }
     {
@@ -295,7 +293,7 @@ impl View {
         requires { spec.IsOf (map plain_letter archive.now.items) self.old }
         ensures ok { OnOk result (spec.Folded (map plain_letter archive.now.items) self.old self.new
             (record (spec.facts_of self.old) {
-              items = alter_at root (with_shut shut) self.old.items;
+              items = it.alter_at root (it.shut shut) self.old.items;
             })) }
         ensures err { OnErr result (self.new ≡ self.old) }
     {

@@ -112,23 +112,23 @@ module _ (Has : Kind → Type 0) (given : Given) (path : List ℕ) (why : OpenFa
 module _ {o : PlainOptions} {start : ℤ} {Has : Kind → Type 0} {given : Given}
     {events : List Happening} {old new : Outside} (status : Status)
     (reads : Reads (Ok o) start Has given status events old new)
-    (readable : NamesReadable Has given (Ok o) events new.disk.told)
+    (readable : NamesReadable Has given (Ok o) start events new.disk.told)
     (disk : Rose old.disk.faults new.disk.faults → ⊥) (keys : status ≡ KeysFault → ⊥)
     (out : status ≡ OutFault → ⊥) where
   not_opened : (why : OpenFault) → IsStated why → IsRefused why events → ⊥
   not_opened why stated refused =
       let all : List Happening =
       refused.files ++ FolderRefused refused.path why refused.marks ∷ [] in
-      refused_told Has given refused.path why refused.marks stated (first_of o)
+      refused_told Has given refused.path why refused.marks stated (first_of o start)
       (counts_of old.disk) old.disk.told new.disk.told refused.files refused.are_files
-      (subst (λ (l : List Happening). WereReadable Has given (first_of o) l new.disk.told)
+      (subst (λ (l : List Happening). WereReadable Has given (first_of o start) l new.disk.told)
       refused.events_are readable)
-      (subst (λ (l : List Happening). IsTold Has given (first_of o) l old.disk.told new.disk.told)
+      (subst (λ (l : List Happening). IsTold Has given (first_of o start) l old.disk.told new.disk.told)
       refused.events_are reads.told.told)
       (subst (λ (l : List Happening). AllCounted Has (counts_of old.disk) l) refused.events_are
       reads.told.counted)
 
-  plain_by : (end : Status) → status ≡ end → EndsAs given o end events old.left new.left
+  plain_by : (end : Status) → status ≡ end → EndsAs given o start end events old.left new.left
       → IsChosen (Ok o) end → IsPlainEnd end
   plain_by Done is ends chosen = tt
   plain_by Empty is ends chosen = tt
@@ -161,7 +161,7 @@ pub completes : (choice : Result PlainOptions (List ℕ)) {start : ℤ} {Has : K
     {keys keys' out out' : ℕ} {errs : ℕ} → Reads choice start Has given status events old new
     → CountsStreams status keys keys' out out' old.faults new.faults
     → IsToldAs (Rose new.faults errs) status result → new.faults ≤ errs
-    → NamesReadable Has given choice events new.disk.told
+    → NamesReadable Has given choice start events new.disk.told
     → (Rose old.disk.faults new.disk.faults → ⊥) → (Rose keys keys' → ⊥) → (Rose out out' → ⊥)
     → (Rose old.faults errs → ⊥) → IsPlainEnd result
 completes (Err word) reads counts told high readable disk keys out none = absurd readable

@@ -19,7 +19,7 @@ use Rattle.mutt_run.specs.Notes.{BegunNote, Tells, TellsEnd, note, told_text}
 use Rattle.mutt_run.specs.Printed.{Prints, PrintsBut}
 use Rattle.mutt_run.specs.Reading.{Outside, Reads, TellsNotes}
 use Rattle.mutt_run.specs.Screens.{printed_lines}
-use Rattle.mutt_run.specs.Taken.{Clocked, Gives, IsStart, pressed_moments}
+use Rattle.mutt_run.specs.Taken.{Gives, pressed_moments}
 use Rattle.mutt_run.specs.declared.status.Status.{Status}
 use Rattle.mutt_run.specs.declared.status.Status.TheVariants.{Done, Usage, NotOpened, DiskFault}
 use Rattle.mutt_run.specs.declared.status.Status.TheVariants.{KeysFault, OutFault, NoMemory}
@@ -54,15 +54,15 @@ module _ {choice : Result PlainOptions (List ℕ)} {start : ℤ} {Has : Kind →
     {given : Given} {status : Status} {events : List Happening} {old new : Outside}
     (reads : Reads choice start Has given status events old new) where
   pub ends_told : {Rises : Type 0} {result : Status} → IsToldAs Rises status result
-      → EndsAs given (acted_on choice) result events old.left new.left
+      → EndsAs given (acted_on choice) start result events old.left new.left
   ends_told (inl is) =
-      subst (λ (st : Status). EndsAs given (acted_on choice) st events old.left new.left) (sym is)
+      subst (λ (st : Status). EndsAs given (acted_on choice) start st events old.left new.left) (sym is)
       reads.ends
   ends_told (inr (inl is)) =
-      subst (λ (st : Status). EndsAs given (acted_on choice) st events old.left new.left)
+      subst (λ (st : Status). EndsAs given (acted_on choice) start st events old.left new.left)
       (sym is) tt
   ends_told (inr (inr is)) =
-      subst (λ (st : Status). EndsAs given (acted_on choice) st events old.left new.left)
+      subst (λ (st : Status). EndsAs given (acted_on choice) start st events old.left new.left)
       (sym is.0) tt
 
   pub chosen_told : {Rises : Type 0} {result : Status} → IsToldAs Rises status result
@@ -74,16 +74,14 @@ module _ {choice : Result PlainOptions (List ℕ)} {start : ℤ} {Has : Kind →
       subst (λ (st : Status). IsChosen choice st) (sym is.0) (chosen_fault choice)
 
   -- the moment of the start, and then those of the keys
-  pub clocked : {first : ℤ} {before : Option (List ℤ)} → Gives before old.moments (first ∷ [])
-      → start ≡ first → Clocked before new.moments events
-  clocked {first} {before} tick same = record {
-    start = first;
-    opened = subst (λ (s : ℤ). IsStart s events) same reads.start_is;
-    given = gives_then before old.moments new.moments (first ∷ []) (pressed_moments events) tick
-        reads.clocked;
-  }
+  pub clocked : (first : ℤ) (before : Option (List ℤ)) → Gives before old.moments (first ∷ [])
+      → start ≡ first → Gives before new.moments (start ∷ pressed_moments events)
+  clocked first before tick same =
+      subst (λ (m : ℤ). Gives before new.moments (m ∷ pressed_moments events)) (sym same)
+      (gives_then before old.moments new.moments (first ∷ []) (pressed_moments events) tick
+      reads.clocked)
 
-  only_looked : (first now : Option Past) → IsTold Has given (first_by choice) events first now
+  only_looked : (first now : Option Past) → IsTold Has given (first_by choice start) events first now
       → LooksOnly first now
   only_looked None now told = told
   only_looked (Some first) None told = told

@@ -47,17 +47,17 @@ use Rattle.mutt_run.proofs.RunLemmas.{all_start, begun_breaks}
 -- A run of files of commands, an opening, and keys.
 module _ (o : PlainOptions) (start : ℤ) (Has : Kind → Type 0) (given : Given)
     (status : Status) (opening events more later : List Happening) (old new : Outside)
-    (begins : BeginsRun Has given (first_of o) start opening events old.disk new.disk)
+    (begins : BeginsRun Has given (first_of o start) start opening events old.disk new.disk)
     (are_keys : AreKeys more) (is : later ≡ events ++ more) where
-  pub reads_by : IsRunFrom given (first_of o) later → EndsAs given o status later old.left new.left
+  pub reads_by : IsRunFrom given (first_of o start) later → EndsAs given o start status later old.left new.left
       → (reader : PlainReader) → TakesKeys (pressed_keys more) reader old.left new.left
       → Gives old.moments new.moments (pressed_moments more)
-      → Prints status (pieces given (task_of o) (first_of o) later) old.written new.written
-      → PrintsBut (pieces given (task_of o) (first_of o) later) old.written new.written
-      → ((after_events given (first_of o) later).turn.stage ≡ Over → Appends old.written new.written
-      (concat (pieces given (task_of o) (first_of o) later)))
-      → TellsNotes status (printed_lines (after_events given (first_of o) events).notes) old new
-      → Witnessed Has given (first_of o) later old.disk new.disk
+      → Prints status (pieces given (task_of o) (first_of o start) later) old.written new.written
+      → PrintsBut (pieces given (task_of o) (first_of o start) later) old.written new.written
+      → ((after_events given (first_of o start) later).turn.stage ≡ Over → Appends old.written new.written
+      (concat (pieces given (task_of o) (first_of o start) later)))
+      → TellsNotes status (printed_lines (after_events given (first_of o start) events).notes) old new
+      → Witnessed Has given (first_of o start) later old.disk new.disk
       → (status ≡ DiskFault → Rose old.disk.faults new.disk.faults) → IsNoUsage status
       → Reads (Ok o) start Has given status later old new
   reads_by run ends reader takes ticks printed but whole noted told fault no_usage = record {
@@ -89,25 +89,25 @@ module _ (o : PlainOptions) (start : ℤ) (Has : Kind → Type 0) (given : Given
 abbrev pub IsBroken : Status → Type 0
 IsBroken status = (status ≡ OutFault) ⊎ (status ≡ NoMemory)
 
-prints_broken : (o : PlainOptions) (given : Given) (events : List Happening)
+prints_broken : (o : PlainOptions) (start : ℤ) (given : Given) (events : List Happening)
     (old new : Option (List ℕ)) (status : Status) → task_of o ≡ ReadFolder → IsBroken status
-    → Breaks given (first_of o) events old new
-    → Prints status (pieces given (task_of o) (first_of o) events) old new
-prints_broken o given events old new status task (inl is) breaks =
-    subst (λ (st : Status). Prints st (pieces given (task_of o) (first_of o) events) old new)
-    (sym is) (subst (λ (t : Task). Prints OutFault (pieces given t (first_of o) events) old new)
+    → Breaks given (first_of o start) events old new
+    → Prints status (pieces given (task_of o) (first_of o start) events) old new
+prints_broken o start given events old new status task (inl is) breaks =
+    subst (λ (st : Status). Prints st (pieces given (task_of o) (first_of o start) events) old new)
+    (sym is) (subst (λ (t : Task). Prints OutFault (pieces given t (first_of o start) events) old new)
     (sym task) breaks.prints)
-prints_broken o given events old new status task (inr is) breaks =
-    subst (λ (st : Status). Prints st (pieces given (task_of o) (first_of o) events) old new)
-    (sym is) (subst (λ (t : Task). Prints NoMemory (pieces given t (first_of o) events) old new)
+prints_broken o start given events old new status task (inr is) breaks =
+    subst (λ (st : Status). Prints st (pieces given (task_of o) (first_of o start) events) old new)
+    (sym is) (subst (λ (t : Task). Prints NoMemory (pieces given t (first_of o start) events) old new)
     (sym task) breaks.prints)
 
-prints_all_but : (o : PlainOptions) (given : Given) (events : List Happening)
+prints_all_but : (o : PlainOptions) (start : ℤ) (given : Given) (events : List Happening)
     (old new : Option (List ℕ)) → task_of o ≡ ReadFolder
-    → Breaks given (first_of o) events old new
-    → PrintsBut (pieces given (task_of o) (first_of o) events) old new
-prints_all_but o given events old new task breaks =
-    subst (λ (t : Task). PrintsBut (pieces given t (first_of o) events) old new) (sym task)
+    → Breaks given (first_of o start) events old new
+    → PrintsBut (pieces given (task_of o) (first_of o start) events) old new
+prints_all_but o start given events old new task breaks =
+    subst (λ (t : Task). PrintsBut (pieces given t (first_of o start) events) old new) (sym task)
     breaks.prints
 
 -- no rest is missing
@@ -119,22 +119,22 @@ prints_all texts old new all = record {
   short = omega arith;
 }
 
-whole_broken : (o : PlainOptions) (given : Given) (events : List Happening)
+whole_broken : (o : PlainOptions) (start : ℤ) (given : Given) (events : List Happening)
     (old new : Option (List ℕ)) → task_of o ≡ ReadFolder
-    → Breaks given (first_of o) events old new
-    → (after_events given (first_of o) events).turn.stage ≡ Over
-    → Appends old new (concat (pieces given (task_of o) (first_of o) events))
-whole_broken o given events old new task breaks over =
-    subst (λ (t : Task). Appends old new (concat (pieces given t (first_of o) events)))
+    → Breaks given (first_of o start) events old new
+    → (after_events given (first_of o start) events).turn.stage ≡ Over
+    → Appends old new (concat (pieces given (task_of o) (first_of o start) events))
+whole_broken o start given events old new task breaks over =
+    subst (λ (t : Task). Appends old new (concat (pieces given t (first_of o start) events)))
     (sym task) (breaks.whole over)
 
-pub ends_free : (given : Given) (o : PlainOptions) (events : List Happening)
+pub ends_free : (given : Given) (o : PlainOptions) (start : ℤ) (events : List Happening)
     (a b : Option (List ℕ)) (status : Status)
-    → IsBroken status → EndsAs given o status events a b
-ends_free given o events a b status (inl is) =
-    subst (λ (st : Status). EndsAs given o st events a b) (sym is) tt
-ends_free given o events a b status (inr is) =
-    subst (λ (st : Status). EndsAs given o st events a b) (sym is) tt
+    → IsBroken status → EndsAs given o start status events a b
+ends_free given o start events a b status (inl is) =
+    subst (λ (st : Status). EndsAs given o start st events a b) (sym is) tt
+ends_free given o start events a b status (inr is) =
+    subst (λ (st : Status). EndsAs given o start st events a b) (sym is) tt
 
 abbrev pub IsOtherThanDisk : Status → Type 0
 IsOtherThanDisk DiskFault = ⊥
@@ -162,17 +162,17 @@ takes_none left = record {
 -- the run broke off before a screen
 module _ (o : PlainOptions) (start : ℤ) (Has : Kind → Type 0) (given : Given)
     (status : Status) (opening events : List Happening) (old new : Outside)
-    (begins : BeginsRun Has given (first_of o) start opening events old.disk new.disk)
+    (begins : BeginsRun Has given (first_of o start) start opening events old.disk new.disk)
     (task : task_of o ≡ ReadFolder) (same_out : new.written ≡ old.written)
     (same_left : new.left ≡ old.left) (same_clock : new.moments ≡ old.moments) where
-  breaks : Breaks given (first_of o) events old.written new.written
-  breaks = subst (λ (w : Option (List ℕ)). Breaks given (first_of o) events old.written w)
+  breaks : Breaks given (first_of o start) events old.written new.written
+  breaks = subst (λ (w : Option (List ℕ)). Breaks given (first_of o start) events old.written w)
       (sym same_out) (begun_breaks Has given o start opening events old.disk new.disk begins
       old.written)
 
-  pub reads_early : EndsAs given o status events old.left new.left
-      → Prints status (pieces given (task_of o) (first_of o) events) old.written new.written
-      → TellsNotes status (printed_lines (after_events given (first_of o) events).notes) old new
+  pub reads_early : EndsAs given o start status events old.left new.left
+      → Prints status (pieces given (task_of o) (first_of o start) events) old.written new.written
+      → TellsNotes status (printed_lines (after_events given (first_of o start) events).notes) old new
       → (status ≡ DiskFault → Rose old.disk.faults new.disk.faults) → IsNoUsage status
       → Reads (Ok o) start Has given status events old new
   reads_early ends printed noted fault no_usage =
@@ -182,22 +182,22 @@ module _ (o : PlainOptions) (start : ℤ) (Has : Kind → Type 0) (given : Given
       (sym same_left) (takes_none old.left))
       (subst (λ (l : Option (List ℤ)). Gives old.moments l []) (sym same_clock)
       (gives_none old.moments))
-      printed (prints_all_but o given events old.written new.written task breaks)
-      (whole_broken o given events old.written new.written task breaks) noted begins.told
+      printed (prints_all_but o start given events old.written new.written task breaks)
+      (whole_broken o start given events old.written new.written task breaks) noted begins.told
       fault no_usage
 
   pub reads_off : IsBroken status
-      → TellsNotes status (printed_lines (after_events given (first_of o) events).notes) old new
+      → TellsNotes status (printed_lines (after_events given (first_of o start) events).notes) old new
       → Reads (Ok o) start Has given status events old new
   reads_off broken noted =
-      reads_early (ends_free given o events old.left new.left status broken)
-      (prints_broken o given events old.written new.written status task broken breaks) noted
+      reads_early (ends_free given o start events old.left new.left status broken)
+      (prints_broken o start given events old.written new.written status task broken breaks) noted
       (no_fault (Rose old.disk.faults new.disk.faults) status broken) (usage_free status broken)
 
   -- an event that ends the run shows no screen
-  pub over_prints : (after_events given (first_of o) events).turn.stage ≡ Over
-      → Appends old.written new.written (concat (pieces given (task_of o) (first_of o) events))
-  over_prints over = whole_broken o given events old.written new.written task breaks over
+  pub over_prints : (after_events given (first_of o start) events).turn.stage ≡ Over
+      → Appends old.written new.written (concat (pieces given (task_of o) (first_of o start) events))
+  over_prints over = whole_broken o start given events old.written new.written task breaks over
 
 -- What was told of commands.
 
@@ -229,7 +229,7 @@ cut_status status (inr is) = inr is
 -- No folder was opened.
 module _ (o : PlainOptions) (start : ℤ) (Has : Kind → Type 0) (given : Given)
     (opening events : List Happening) (old new : Outside)
-    (begins : BeginsRun Has given (first_of o) start opening events old.disk new.disk)
+    (begins : BeginsRun Has given (first_of o start) start opening events old.disk new.disk)
     (task : task_of o ≡ ReadFolder) (same_out : new.written ≡ old.written)
     (same_left : new.left ≡ old.left) (same_clock : new.moments ≡ old.moments) where
   module _ (why : OpenFault) (refused : IsRefusedAs why opening) where
@@ -243,21 +243,21 @@ module _ (o : PlainOptions) (start : ℤ) (Has : Kind → Type 0) (given : Given
           ∙ ap (λ (l : List Happening). begins.files ++ l) refused.is;
     }
 
-    is_over : (after_events given (first_of o) events).turn.stage ≡ Over
+    is_over : (after_events given (first_of o start) events).turn.stage ≡ Over
     is_over =
-        ap (λ (l : List Happening). (after_events given (first_of o) l).turn.stage)
+        ap (λ (l : List Happening). (after_events given (first_of o start) l).turn.stage)
         is_refused.events_are
-        ∙ ap (λ (s : State). s.turn.stage) (after-append given (first_of o) begins.files
+        ∙ ap (λ (s : State). s.turn.stage) (after-append given (first_of o start) begins.files
         (FolderRefused refused.path why refused.marks ∷ []))
 
     whole : Appends old.written new.written
-        (concat (pieces given (task_of o) (first_of o) events))
+        (concat (pieces given (task_of o) (first_of o start) events))
     whole = over_prints o start Has given (NotOpened why) opening events old new begins task
         same_out
         same_left same_clock is_over
 
     pub reads_refused : IsStated why
-        → Appends old.told new.told (printed_lines (after_events given (first_of o) events).notes)
+        → Appends old.told new.told (printed_lines (after_events given (first_of o start) events).notes)
         → Reads (Ok o) start Has given (NotOpened why) events old new
     reads_refused stated told =
         reads_early o start Has given (NotOpened why) opening events old new begins task same_out
@@ -265,7 +265,7 @@ module _ (o : PlainOptions) (start : ℤ) (Has : Kind → Type 0) (given : Given
         (λ fault. absurd (subst IsOtherThanDisk fault tt)) tt
 
   pub reads_fault : IsRefusedAs (Folder Fault) opening → Rose old.disk.faults new.disk.faults
-      → Appends old.told new.told (printed_lines (after_events given (first_of o) events).notes)
+      → Appends old.told new.told (printed_lines (after_events given (first_of o start) events).notes)
       → Reads (Ok o) start Has given DiskFault events old new
   reads_fault refused rose told =
       reads_early o start Has given DiskFault opening events old new begins task same_out
@@ -273,9 +273,9 @@ module _ (o : PlainOptions) (start : ℤ) (Has : Kind → Type 0) (given : Given
       (whole (Folder Fault) refused) told (λ fault. rose) tt
 
   pub reads_refusal : (status result : Status)
-      → TellsRefused status result (printed_lines (after_events given (first_of o) events).notes)
+      → TellsRefused status result (printed_lines (after_events given (first_of o start) events).notes)
       old.told new.told old.faults new.faults
-      → (Appends old.told new.told (printed_lines (after_events given (first_of o) events).notes)
+      → (Appends old.told new.told (printed_lines (after_events given (first_of o start) events).notes)
       → Reads (Ok o) start Has given status events old new)
       → Reads (Ok o) start Has given result events old new
   reads_refusal status result (inl told) reads =
@@ -284,12 +284,12 @@ module _ (o : PlainOptions) (start : ℤ) (Has : Kind → Type 0) (given : Given
   reads_refusal status result (inr (inl told)) reads =
       reads_off o start Has given result opening events old new begins task same_out same_left
       same_clock (inl told.0) (notes_cut result
-      (printed_lines (after_events given (first_of o) events).notes) old new (inl (told.0, told.1))
+      (printed_lines (after_events given (first_of o start) events).notes) old new (inl (told.0, told.1))
       told.2)
   reads_refusal status result (inr (inr told)) reads =
       reads_off o start Has given result opening events old new begins task same_out same_left
       same_clock (inr told.0) (notes_cut result
-      (printed_lines (after_events given (first_of o) events).notes) old new (inr told.0) told.1)
+      (printed_lines (after_events given (first_of o start) events).notes) old new (inr told.0) told.1)
 
 -- The same, as the calls say it.
 module _ (o : PlainOptions) (start moment : ℤ) (Has : Kind → Type 0) (given : Given)
@@ -298,15 +298,15 @@ module _ (o : PlainOptions) (start moment : ℤ) (Has : Kind → Type 0) (given 
     (same_out : new.written ≡ old.written) (same_left : new.left ≡ old.left)
     (same_clock : new.moments ≡ old.moments) where
   fails_here : (why : StartError) (notes : List (List ℕ))
-      → Fails Has given (first_state setup) moment why notes events old.disk new.disk
-      → Fails Has given (first_of o) start why notes events old.disk new.disk
+      → Fails Has given (first_state setup moment) moment why notes events old.disk new.disk
+      → Fails Has given (first_of o start) start why notes events old.disk new.disk
   fails_here why notes fails =
-      subst (λ (m : ℤ). Fails Has given (first_of o) m why notes events old.disk new.disk) at
-      (subst (λ (p : PlainSetup). Fails Has given (first_state p) moment why notes events
+      subst (λ (m : ℤ). Fails Has given (first_of o m) m why notes events old.disk new.disk) at
+      (subst (λ (p : PlainSetup). Fails Has given (first_state p moment) moment why notes events
       old.disk new.disk) is fails)
 
   pub fails_refused : (why : OpenFault) (notes : List (List ℕ)) (result : Status)
-      → Fails Has given (first_state setup) moment (error.NotOpened why) notes events old.disk
+      → Fails Has given (first_state setup moment) moment (error.NotOpened why) notes events old.disk
       new.disk
       → TellsRefused (NotOpened why) result (printed_lines notes) old.told new.told old.faults
       new.faults → Reads (Ok o) start Has given result events old new
@@ -320,7 +320,7 @@ module _ (o : PlainOptions) (start moment : ℤ) (Has : Kind → Type 0) (given 
       same_left same_clock why f.ends.0 f.ends.1)
 
   pub fails_fault : (notes : List (List ℕ)) (result : Status)
-      → Fails Has given (first_state setup) moment error.DiskFault notes events old.disk
+      → Fails Has given (first_state setup moment) moment error.DiskFault notes events old.disk
       new.disk
       → TellsRefused DiskFault result (printed_lines notes) old.told new.told old.faults
       new.faults → Reads (Ok o) start Has given result events old new
@@ -334,11 +334,11 @@ module _ (o : PlainOptions) (start moment : ℤ) (Has : Kind → Type 0) (given 
       same_left same_clock f.ends.0 f.ends.1)
 
   pub fails_memory : (notes : List (List ℕ)) → new.told ≡ old.told
-      → Fails Has given (first_state setup) moment error.NoMemory notes events old.disk new.disk
+      → Fails Has given (first_state setup moment) moment error.NoMemory notes events old.disk new.disk
       → Reads (Ok o) start Has given NoMemory events old new
   fails_memory notes same_told fails =
       let f = fails_here error.NoMemory notes fails in
-      let text : List ℕ = printed_lines (after_events given (first_of o) events).notes in
+      let text : List ℕ = printed_lines (after_events given (first_of o start) events).notes in
       reads_off o start Has given NoMemory f.opening events old new f.begins task same_out
       same_left same_clock (inr refl) (
         text,
@@ -349,18 +349,18 @@ module _ (o : PlainOptions) (start moment : ℤ) (Has : Kind → Type 0) (given 
 pub starts_here : (o : PlainOptions) (start moment : ℤ) (Has : Kind → Type 0) (given : Given)
     (setup : PlainSetup) (events : List Happening) (state : State) (before now : Seen)
     → moment ≡ start → setup ≡ setup_of o
-    → Starts Has given (first_state setup) moment events state before now
-    → Starts Has given (first_of o) start events state before now
+    → Starts Has given (first_state setup moment) moment events state before now
+    → Starts Has given (first_of o start) start events state before now
 starts_here o start moment Has given setup events state before now at is begun =
-    subst (λ (m : ℤ). Starts Has given (first_of o) m events state before now) at
-    (subst (λ (p : PlainSetup). Starts Has given (first_state p) moment events state before now) is
+    subst (λ (m : ℤ). Starts Has given (first_of o m) m events state before now) at
+    (subst (λ (p : PlainSetup). Starts Has given (first_state p moment) moment events state before now) is
     begun)
 
 -- A folder was opened.
 module _ (o : PlainOptions) (start : ℤ) (Has : Kind → Type 0) (given : Given)
     (events : List Happening) (old new : Outside) (task : task_of o ≡ ReadFolder) (state : State)
-    (starts : Starts Has given (first_of o) start events state old.disk new.disk) where
-  notes_are : (after_events given (first_of o) events).notes ≡ state.notes
+    (starts : Starts Has given (first_of o start) start events state old.disk new.disk) where
+  notes_are : (after_events given (first_of o start) events).notes ≡ state.notes
   notes_are = ap (λ (s : State). s.notes) starts.waits.state_is
 
   opened_at : (more later : List Happening) → AreKeys more → later ≡ events ++ more
@@ -413,14 +413,14 @@ module _ (o : PlainOptions) (start : ℤ) (Has : Kind → Type 0) (given : Given
   module _ (later : List Happening) (next : State)
       (full : o.skip_empty ≡ true → state.listing ≡ [] → ⊥)
       (told : Appends old.told new.told (printed_lines state.notes))
-      (witnessed : Witnessed Has given (first_of o) later old.disk new.disk) where
+      (witnessed : Witnessed Has given (first_of o start) later old.disk new.disk) where
     abbrev opening : List Happening
     opening = FolderOpened starts.path starts.kind start starts.came starts.marks ∷ []
 
     module _ (status : Status) (goes : GoesToEnd status events later next.turn.stage old.left
         new.left old.moments new.moments) where
-      shown_end : after_events given (first_of o) later ≡ next
-          → EndsShown given o status later old.left new.left
+      shown_end : after_events given (first_of o start) later ≡ next
+          → EndsShown given o start status later old.left new.left
       shown_end same = record {
         came = starts.came;
         keys = goes.presses.more;
@@ -435,60 +435,60 @@ module _ (o : PlainOptions) (start : ℤ) (Has : Kind → Type 0) (given : Given
             (sym same) goes.ends;
       }
 
-      reads_so : IsRunFrom given (first_of o) later → EndsAs given o status later old.left new.left
-          → Prints status (pieces given (task_of o) (first_of o) later) old.written
+      reads_so : IsRunFrom given (first_of o start) later → EndsAs given o start status later old.left new.left
+          → Prints status (pieces given (task_of o) (first_of o start) later) old.written
           new.written
-          → PrintsBut (pieces given (task_of o) (first_of o) later) old.written new.written
-          → ((after_events given (first_of o) later).turn.stage ≡ Over → Appends old.written
-          new.written (concat (pieces given (task_of o) (first_of o) later)))
+          → PrintsBut (pieces given (task_of o) (first_of o start) later) old.written new.written
+          → ((after_events given (first_of o start) later).turn.stage ≡ Over → Appends old.written
+          new.written (concat (pieces given (task_of o) (first_of o start) later)))
           → (status ≡ DiskFault → Rose old.disk.faults new.disk.faults) → IsNoUsage status
           → Reads (Ok o) start Has given status later old new
       reads_so run ends printed but whole fault no_usage =
           reads_by o start Has given status opening events goes.presses.more later old new
           starts.begins goes.presses.are_keys goes.presses.events_are run ends goes.reader
           goes.presses.takes goes.presses.given printed but whole
-          (notes_whole status (printed_lines (after_events given (first_of o) events).notes) old new
+          (notes_whole status (printed_lines (after_events given (first_of o start) events).notes) old new
           (subst (λ (l : List (List ℕ)). Appends old.told new.told (printed_lines l))
           (sym notes_are) told))
           witnessed fault no_usage
 
-      reads_goes : Goes given (first_of o) later next old.written new.written
-          → (EndsShown given o status later old.left new.left
-          → EndsAs given o status later old.left new.left)
+      reads_goes : Goes given (first_of o start) later next old.written new.written
+          → (EndsShown given o start status later old.left new.left
+          → EndsAs given o start status later old.left new.left)
           → (Appends old.written new.written
-          (concat (pieces given (task_of o) (first_of o) later))
-          → Prints status (pieces given (task_of o) (first_of o) later) old.written
+          (concat (pieces given (task_of o) (first_of o start) later))
+          → Prints status (pieces given (task_of o) (first_of o start) later) old.written
           new.written)
           → (status ≡ DiskFault → Rose old.disk.faults new.disk.faults) → IsNoUsage status
           → Reads (Ok o) start Has given status later old new
       reads_goes went ends printed fault no_usage =
           reads_so went.stands.run (ends (shown_end went.stands.state_is)) (printed all)
-          (prints_all (pieces given (task_of o) (first_of o) later) old.written new.written all)
+          (prints_all (pieces given (task_of o) (first_of o start) later) old.written new.written all)
           (λ over. all) fault no_usage
         where
           all : Appends old.written new.written
-              (concat (pieces given (task_of o) (first_of o) later))
+              (concat (pieces given (task_of o) (first_of o start) later))
           all = subst (λ (t : Task). Appends old.written new.written
-              (concat (pieces given t (first_of o) later))) (sym task)
+              (concat (pieces given t (first_of o start) later))) (sym task)
               (subst (λ (l : List (List (List ℕ))). Appends old.written new.written
               (concat (map screen_text l))) (sym went.stands.screens_are) went.sent)
 
-      reads_breaks : Breaks given (first_of o) later old.written new.written
+      reads_breaks : Breaks given (first_of o start) later old.written new.written
           → IsBroken status → Reads (Ok o) start Has given status later old new
       reads_breaks breaks broken =
-          reads_so breaks.run (ends_free given o later old.left new.left status broken)
-          (prints_broken o given later old.written new.written status task broken breaks)
-          (prints_all_but o given later old.written new.written task breaks)
-          (whole_broken o given later old.written new.written task breaks)
+          reads_so breaks.run (ends_free given o start later old.left new.left status broken)
+          (prints_broken o start given later old.written new.written status task broken breaks)
+          (prints_all_but o start given later old.written new.written task breaks)
+          (whole_broken o start given later old.written new.written task breaks)
           (no_fault (Rose old.disk.faults new.disk.faults) status broken)
           (usage_free status broken)
 
-    pub starts_went : (status : Status) → Ended given status (first_of o) later next old.written
+    pub starts_went : (status : Status) → Ended given status (first_of o start) later next old.written
         new.written
         → GoesToEnd status events later next.turn.stage old.left new.left old.moments new.moments
         → Reads (Ok o) start Has given status later old new
     starts_went Done went goes =
-        reads_goes Done goes went (λ shown. subst (λ (t : Task). EndsDone given t o later old.left
+        reads_goes Done goes went (λ shown. subst (λ (t : Task). EndsDone given t o start later old.left
         new.left) (sym task) shown) (λ all. all)
         (λ fault. absurd (subst IsOtherThanDisk fault tt)) tt
     starts_went KeysFault went goes =
@@ -516,8 +516,8 @@ module _ (o : PlainOptions) (start : ℤ) (Has : Kind → Type 0) (given : Given
       → Reads (Ok o) start Has given status later old new
   starts_go later next status full told went witnessed goes =
       starts_went later next full told
-      (witnessed given (first_of o) old.disk new.disk starts.begins.told) status
-      (went (first_of o) starts.waits) goes
+      (witnessed given (first_of o start) old.disk new.disk starts.begins.told) status
+      (went (first_of o start) starts.waits) goes
 
 abbrev IsEmptyAlone : Status → Type 0
 IsEmptyAlone Empty = Unit {0}

@@ -186,24 +186,24 @@ opening_screens given s start (event ∷ next ∷ opening) opens stage = absurd 
 -- What begins a run.
 module _ (Has : Kind → Type 0) (given : Given) (o : PlainOptions) (start : ℤ)
     (opening events : List Happening) (old new : Seen)
-    (begins : BeginsRun Has given (first_of o) start opening events old new) where
-  begun_stands : Stands given (first_of o) events (after_events given (first_of o) events)
-      ([] ++ shown given (after_events given (first_of o) events))
+    (begins : BeginsRun Has given (first_of o start) start opening events old new) where
+  begun_stands : Stands given (first_of o start) events (after_events given (first_of o start) events)
+      ([] ++ shown given (after_events given (first_of o start) events))
   begun_stands = record {
     run = begins.run;
     state_is = refl;
-    screens_are = subst (λ (l : List Happening). screens_from given (first_of o) l
-        ≡ shown given (after_events given (first_of o) l)) (sym begins.events_are)
-        (files_screens given (first_of o) begins.files opening begins.are_files refl
-        ∙ opening_screens given (after_events given (first_of o) begins.files) start opening
-        begins.opens (files_stage given (first_of o) begins.files begins.are_files refl)
-        ∙ ap (shown given) (sym (after-append given (first_of o) begins.files opening)));
+    screens_are = subst (λ (l : List Happening). screens_from given (first_of o start) l
+        ≡ shown given (after_events given (first_of o start) l)) (sym begins.events_are)
+        (files_screens given (first_of o start) begins.files opening begins.are_files refl
+        ∙ opening_screens given (after_events given (first_of o start) begins.files) start opening
+        begins.opens (files_stage given (first_of o start) begins.files begins.are_files refl)
+        ∙ ap (shown given) (sym (after-append given (first_of o start) begins.files opening)));
   }
 
   -- nothing was printed yet
-  pub begun_breaks : (out : Option (List ℕ)) → Breaks given (first_of o) events out out
+  pub begun_breaks : (out : Option (List ℕ)) → Breaks given (first_of o start) events out out
   begun_breaks out =
-      breaks_unshown given (first_of o) (after_events given (first_of o) events) events []
+      breaks_unshown given (first_of o start) (after_events given (first_of o start) events) events []
       begun_stands out out (appends_none out)
 
   module _ (more later : List Happening) (are_keys : AreKeys more) (is : later ≡ events ++ more)
@@ -233,8 +233,8 @@ module _ (Has : Kind → Type 0) (given : Given) (o : PlainOptions) (start : ℤ
           (opening_listed start given.mails opening more begins.opens
           (keys_listed given.mails more are_keys)))
 
-      pub all_notes : (after_events given (first_of o) later).notes
-          ≡ (after_events given (first_of o) events).notes
-      all_notes = ap (λ (l : List Happening). (after_events given (first_of o) l).notes) is
-          ∙ ap (λ (s : State). s.notes) (after-append given (first_of o) events more)
-          ∙ keys_notes given (after_events given (first_of o) events) more are_keys
+      pub all_notes : (after_events given (first_of o start) later).notes
+          ≡ (after_events given (first_of o start) events).notes
+      all_notes = ap (λ (l : List Happening). (after_events given (first_of o start) l).notes) is
+          ∙ ap (λ (s : State). s.notes) (after-append given (first_of o start) events more)
+          ∙ keys_notes given (after_events given (first_of o start) events) more are_keys

@@ -45,13 +45,13 @@ IsUnopened Over = ⊥
 module _ (o : PlainOptions) (start : ℤ) (given : Given) (setup : PlainSetup)
     (events : List Happening) (names : List (List ℕ)) (old new : Outside) (is : setup ≡ setup_of o)
     (task : task_of o ≡ TellValues names) (none : given.mails ≡ [])
-    (sources : SourcesOff given.verdicts (first_state setup) events old.disk new.disk)
+    (sources : SourcesOff given.verdicts (first_state setup start) events old.disk new.disk)
     (same_left : new.left ≡ old.left) (same_clock : new.moments ≡ old.moments) where
-  abbrev read : SourcesOff given.verdicts (first_of o) events old.disk new.disk
-  read = subst (λ (p : PlainSetup). SourcesOff given.verdicts (first_state p) events old.disk
+  abbrev read : SourcesOff given.verdicts (first_of o start) events old.disk new.disk
+  read = subst (λ (p : PlainSetup). SourcesOff given.verdicts (first_state p start) events old.disk
       new.disk) is sources
 
-  begins : BeginsRun Driverless given (first_of o) start [] events old.disk new.disk
+  begins : BeginsRun Driverless given (first_of o start) start [] events old.disk new.disk
   begins = record {
     files = events;
     are_files = read.are;
@@ -61,15 +61,15 @@ module _ (o : PlainOptions) (start : ℤ) (given : Given) (setup : PlainSetup)
     told = read.told given (keeps_same given.verdicts);
   }
 
-  not_over : (Rises : Type 0) → (after_events given (first_of o) events).turn.stage ≡ Over → Rises
+  not_over : (Rises : Type 0) → (after_events given (first_of o start) events).turn.stage ≡ Over → Rises
   not_over Rises over =
       absurd (subst IsUnopened
-      (sym (files_stage given (first_of o) events read.are refl) ∙ over) tt)
+      (sym (files_stage given (first_of o start) events read.are refl) ∙ over) tt)
 
-  reads_values : (status : Status) → EndsAs given o status events old.left new.left
-      → Prints status (pieces given (task_of o) (first_of o) events) old.written new.written
-      → PrintsBut (pieces given (task_of o) (first_of o) events) old.written new.written
-      → TellsNotes status (printed_lines (after_events given (first_of o) events).notes) old new
+  reads_values : (status : Status) → EndsAs given o start status events old.left new.left
+      → Prints status (pieces given (task_of o) (first_of o start) events) old.written new.written
+      → PrintsBut (pieces given (task_of o) (first_of o start) events) old.written new.written
+      → TellsNotes status (printed_lines (after_events given (first_of o start) events).notes) old new
       → (status ≡ DiskFault → Rose old.disk.faults new.disk.faults) → IsNoUsage status
       → Reads (Ok o) start Driverless given status events old new
   reads_values status ends printed but noted fault no_usage =
@@ -80,24 +80,24 @@ module _ (o : PlainOptions) (start : ℤ) (given : Given) (setup : PlainSetup)
       (subst (λ (l : Option (List ℤ)). Gives old.moments l []) (sym same_clock)
       (gives_none old.moments))
       printed but (not_over (Appends old.written new.written
-      (concat (pieces given (task_of o) (first_of o) events)))) noted (read.told given (keeps_same given.verdicts)) fault
+      (concat (pieces given (task_of o) (first_of o start) events)))) noted (read.told given (keeps_same given.verdicts)) fault
       no_usage
 
   abbrev text : List ℕ
-  text = values_text names (after_events given (first_of o) events)
+  text = values_text names (after_events given (first_of o start) events)
 
   -- a front of the lines was printed
   pub values_cut : (status : Status) → IsBroken status
       → (rest : List ℕ) × Sent old.written new.written text rest
-      → TellsNotes status (printed_lines (after_events given (first_of o) events).notes) old new
+      → TellsNotes status (printed_lines (after_events given (first_of o start) events).notes) old new
       → Reads (Ok o) start Driverless given status events old new
   values_cut status broken sent noted =
-      reads_values status (ends_free given o events old.left new.left status broken)
+      reads_values status (ends_free given o start events old.left new.left status broken)
       (printed status broken) but noted
       (no_fault (Rose old.disk.faults new.disk.faults) status broken) (usage_free status broken)
     where
-      but : PrintsBut (pieces given (task_of o) (first_of o) events) old.written new.written
-      but = subst (λ (t : Task). PrintsBut (pieces given t (first_of o) events) old.written
+      but : PrintsBut (pieces given (task_of o) (first_of o start) events) old.written new.written
+      but = subst (λ (t : Task). PrintsBut (pieces given t (first_of o start) events) old.written
           new.written) (sym task) (record {
             rest = sent.0;
             sent = (sent.1.0, append-nil text ∙ sent.1.1, sent.1.2);
@@ -105,16 +105,16 @@ module _ (o : PlainOptions) (start : ℤ) (given : Given) (setup : PlainSetup)
           })
 
       printed : (status : Status) → IsBroken status
-          → Prints status (pieces given (task_of o) (first_of o) events) old.written
+          → Prints status (pieces given (task_of o) (first_of o start) events) old.written
           new.written
       printed status (inl is) = subst (λ (st : Status). Prints st (pieces given (task_of o)
-          (first_of o) events) old.written new.written) (sym is) but
+          (first_of o start) events) old.written new.written) (sym is) but
       printed status (inr is) = subst (λ (st : Status). Prints st (pieces given (task_of o)
-          (first_of o) events) old.written new.written) (sym is) but
+          (first_of o start) events) old.written new.written) (sym is) but
 
   -- nothing was printed
   pub values_none : new.written ≡ old.written → (status : Status) → IsBroken status
-      → TellsNotes status (printed_lines (after_events given (first_of o) events).notes) old new
+      → TellsNotes status (printed_lines (after_events given (first_of o start) events).notes) old new
       → Reads (Ok o) start Driverless given status events old new
   values_none same status broken noted =
       values_cut status broken (
@@ -127,7 +127,7 @@ module _ (o : PlainOptions) (start : ℤ) (given : Given) (setup : PlainSetup)
   pub values_early : new.written ≡ old.written → new.told ≡ old.told
       → Reads (Ok o) start Driverless given NoMemory events old new
   values_early same same_told =
-      let notes : List ℕ = printed_lines (after_events given (first_of o) events).notes in
+      let notes : List ℕ = printed_lines (after_events given (first_of o start) events).notes in
       values_none same NoMemory (inr refl) (
         notes,
         subst (λ (t : Option (List ℕ)). Sent old.told t notes notes) (sym same_told)
@@ -136,13 +136,13 @@ module _ (o : PlainOptions) (start : ℤ) (given : Given) (setup : PlainSetup)
 
   -- the files were read
   module _ (lines notes : List (List ℕ))
-      (answers : AnswersNames given (first_state setup) events names lines notes) where
-    abbrev here : AnswersNames given (first_of o) events names lines notes
-    here = subst (λ (p : PlainSetup). AnswersNames given (first_state p) events names lines notes)
+      (answers : AnswersNames given (first_state setup start) events names lines notes) where
+    abbrev here : AnswersNames given (first_of o start) events names lines notes
+    here = subst (λ (p : PlainSetup). AnswersNames given (first_state p start) events names lines notes)
         is answers
 
     noted_as : (status : Status) → TellsNotes status (printed_lines notes) old new
-        → TellsNotes status (printed_lines (after_events given (first_of o) events).notes) old new
+        → TellsNotes status (printed_lines (after_events given (first_of o start) events).notes) old new
     noted_as status told = subst (λ (l : List (List ℕ)). TellsNotes status (printed_lines l) old
         new)
         (sym here.noted) told
@@ -175,16 +175,16 @@ module _ (o : PlainOptions) (start : ℤ) (given : Given) (setup : PlainSetup)
           → Reads (Ok o) start Driverless given Done events old new
       values_done sent =
           reads_values Done
-          (subst (λ (t : Task). EndsDone given t o events old.left new.left) (sym task)
+          (subst (λ (t : Task). EndsDone given t o start events old.left new.left) (sym task)
           (read.are, here.read))
           all
-          (prints_all (pieces given (task_of o) (first_of o) events) old.written new.written all)
+          (prints_all (pieces given (task_of o) (first_of o start) events) old.written new.written all)
           (noted_as Done told) (λ fault. absurd (subst IsOtherThanDisk fault tt)) tt
         where
           all : Appends old.written new.written
-              (concat (pieces given (task_of o) (first_of o) events))
+              (concat (pieces given (task_of o) (first_of o start) events))
           all = subst (λ (t : Task). Appends old.written new.written
-              (concat (pieces given t (first_of o) events))) (sym task)
+              (concat (pieces given t (first_of o start) events))) (sym task)
               (subst (λ (l : List ℕ). Appends old.written new.written l) (sym (append-nil text))
               (subst (λ (l : List (List ℕ)). Appends old.written new.written (printed_lines l))
               here.lines_are sent))

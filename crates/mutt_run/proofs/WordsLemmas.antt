@@ -137,9 +137,9 @@ module _ (choice : Result PlainOptions (List ℕ)) (start : ℤ) (Has : Kind →
   untold = subst (λ (t : Option (List ℕ)). Appends old.told t []) (sym same_told)
       (appends_none old.told)
 
-  reads_none : (status : Status) → EndsAs given (acted_on choice) status [] old.left new.left
-      → Prints status (pieces_by given choice []) old.written new.written
-      → PrintsBut (pieces_by given choice []) old.written new.written
+  reads_none : (status : Status) → EndsAs given (acted_on choice) start status [] old.left new.left
+      → Prints status (pieces_by given choice start []) old.written new.written
+      → PrintsBut (pieces_by given choice start []) old.written new.written
       → (status ≡ DiskFault → ⊥) → IsChosen choice status
       → Reads choice start Has given status [] old new
   reads_none status ends printed but fault chosen = record {
@@ -156,8 +156,8 @@ module _ (choice : Result PlainOptions (List ℕ)) (start : ℤ) (Has : Kind →
     but = but;
     whole = λ over. absurd (subst IsUnopened over tt);
     noted = notes_whole status [] old new untold;
-    told = subst (λ (d : Seen). Witnessed Has given (first_by choice) [] old.disk d) (sym same_disk)
-        (witnessed_none Has given (first_by choice) old.disk);
+    told = subst (λ (d : Seen). Witnessed Has given (first_by choice start) [] old.disk d) (sym same_disk)
+        (witnessed_none Has given (first_by choice start) old.disk);
     listed = tt;
     fault = λ is. absurd (fault is);
     chosen = chosen;
@@ -173,10 +173,10 @@ module _ (choice : Result PlainOptions (List ℕ)) (start : ℤ) (Has : Kind →
   pub memory_reads : new.written ≡ old.written
       → Reads choice start Has given NoMemory events old new
   memory_reads same =
-      let but : PrintsBut (pieces_by given choice []) old.written new.written =
-      subst (λ (w : Option (List ℕ)). PrintsBut (pieces_by given choice []) old.written w)
+      let but : PrintsBut (pieces_by given choice start []) old.written new.written =
+      subst (λ (w : Option (List ℕ)). PrintsBut (pieces_by given choice start []) old.written w)
       (sym same)
-      (but_none given (task_by choice) (first_by choice) old.written) in
+      (but_none given (task_by choice) (first_by choice start) old.written) in
       reads_so NoMemory (reads_none NoMemory tt but but
       (λ is. subst IsOtherThanDisk is tt) (chosen_memory choice))
 
@@ -211,12 +211,12 @@ module _ (o : PlainOptions) (start : ℤ) (Has : Kind → Type 0) (given : Given
   is_task = ap (λ (b : Bool). if b then TellVersion else query_task o.query) version
 
   abbrev texts : List (List ℕ)
-  texts = pieces given (task_of o) (first_by (Ok o)) []
+  texts = pieces given (task_of o) (first_by (Ok o) start) []
 
   texts_are : texts ≡ version_line ∷ []
-  texts_are = ap (λ (t : Task). pieces given t (first_by (Ok o)) []) is_task
+  texts_are = ap (λ (t : Task). pieces given t (first_by (Ok o) start) []) is_task
 
-  ends_so : (status : Status) → EndsAs given o status [] old.left new.left
+  ends_so : (status : Status) → EndsAs given o start status [] old.left new.left
       → Prints status texts old.written new.written → PrintsBut texts old.written new.written
       → (status ≡ DiskFault → ⊥) → IsChosen (Ok o) status
       → Reads (Ok o) start Has given status events old new
@@ -230,7 +230,7 @@ module _ (o : PlainOptions) (start : ℤ) (Has : Kind → Type 0) (given : Given
       → Reads (Ok o) start Has given status events old new
   version_reads Done before after told =
       ends_so Done
-      (subst (λ (t : Task). EndsDone given t o [] old.left new.left) (sym is_task) refl)
+      (subst (λ (t : Task). EndsDone given t o start [] old.left new.left) (sym is_task) refl)
       all (prints_all texts old.written new.written all)
       (λ is. subst IsOtherThanDisk is tt) tt
     where
@@ -302,7 +302,7 @@ reads_driven {choice} {start} {given} {status} {events} {old} {new} Has are read
   but = reads.but;
   whole = reads.whole;
   noted = reads.noted;
-  told = witnessed_files Driverless Has given (first_by choice) events old.disk new.disk are
+  told = witnessed_files Driverless Has given (first_by choice start) events old.disk new.disk are
       reads.told;
   listed = reads.listed;
   fault = reads.fault;

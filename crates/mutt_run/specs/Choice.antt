@@ -1,8 +1,7 @@
 -- What the words of a command line ask for.
-use Rattle.std.specs.Prelude.{List, [], ◌∷◌, ℕ, Result, if◌then◌else◌}
+use Rattle.std.specs.Prelude.{List, [], ◌∷◌, ℕ, ℤ, Result, if◌then◌else◌}
 use Rattle.std.specs.Result.{result_unwrap_or}
 use Rattle.mutt_words.specs.Options.{PlainOptions, no_words}
-use Rattle.mutt_words.specs.Words.{options_of}
 use Rattle.session_events.specs.Events.{Happening}
 use Rattle.session.specs.Given.{Given}
 use Rattle.session.specs.Runs.{State, after_events}
@@ -11,9 +10,6 @@ use Rattle.session.specs.Starting.{PlainSetup, first_state}
 -- the choice that is acted on; words that are no command line choose nothing
 abbrev pub acted_on : Result PlainOptions (List ℕ) → PlainOptions
 acted_on choice = result_unwrap_or choice no_words
-
-abbrev pub chosen : List (List ℕ) → PlainOptions
-chosen words = acted_on (options_of words)
 
 -- what a session starts from
 abbrev pub setup_of : PlainOptions → PlainSetup
@@ -26,9 +22,9 @@ setup_of o = record {
   window = record { rows = o.rows; cols = o.cols; offset = o.offset };
 }
 
--- the state of a run in which nothing has happened
-abbrev pub first_of : PlainOptions → State
-first_of o = first_state (setup_of o)
+-- the state of a run that starts at a moment, in which nothing has happened
+abbrev pub first_of : PlainOptions → ℤ → State
+first_of o start = first_state (setup_of o) start
 
 -- to print the version, or the values of some variables, or to read a folder
 pub data Task : Type 0 where
@@ -44,12 +40,12 @@ abbrev pub task_of : PlainOptions → Task
 task_of o = if o.version then TellVersion else query_task o.query
 
 -- the same by what the words choose
-abbrev pub first_by : Result PlainOptions (List ℕ) → State
-first_by choice = first_of (acted_on choice)
+abbrev pub first_by : Result PlainOptions (List ℕ) → ℤ → State
+first_by choice start = first_of (acted_on choice) start
 
 abbrev pub task_by : Result PlainOptions (List ℕ) → Task
 task_by choice = task_of (acted_on choice)
 
 -- the state after some events
-abbrev pub state_by : Given → Result PlainOptions (List ℕ) → List Happening → State
-state_by given choice events = after_events given (first_by choice) events
+abbrev pub state_by : Given → Result PlainOptions (List ℕ) → ℤ → List Happening → State
+state_by given choice start events = after_events given (first_by choice start) events

@@ -1,5 +1,5 @@
 -- Runs with nothing in their way: these are done, or stop for memory or at the limit of keys.
-use Rattle.std.specs.Prelude.{ℕ, List, [], ◌∷◌, length, Option, Some, None, Result, Ok, Err}
+use Rattle.std.specs.Prelude.{ℕ, ℤ, List, [], ◌∷◌, length, Option, Some, None, Result, Ok, Err}
 use Rattle.mail_base.specs.declared.kind.Kind.{Kind}
 use Rattle.disk_model.specs.Journal.{Past}
 use Rattle.folder_core.specs.declared.error.ScanError.{ScanError}
@@ -54,10 +54,11 @@ WereReadable Has given s (FolderRefused path why marks ∷ events) told =
 
 -- The words are a command line, and each folder that was looked for could be read, as the past
 -- tells that a disk has at the end.
-abbrev pub NamesReadable : (Kind → Type 0) → Given → Result PlainOptions (List ℕ)
+abbrev pub NamesReadable : (Kind → Type 0) → Given → Result PlainOptions (List ℕ) → ℤ
     → List Happening → Option Past → Type 0
-NamesReadable Has given (Err word) events told = ⊥
-NamesReadable Has given (Ok o) events told = WereReadable Has given (first_of o) events told
+NamesReadable Has given (Err word) start events told = ⊥
+NamesReadable Has given (Ok o) start events told =
+    WereReadable Has given (first_of o start) events told
 
 -- the run is done, or what is empty is not shown, or memory or the limit of keys stopped it
 abbrev pub IsPlainEnd : Status → Type 0

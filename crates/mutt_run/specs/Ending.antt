@@ -46,7 +46,7 @@ pub record IsRefused (why : OpenFault) (events : List Happening) : Type 0 where
   pub events_are : events ≡ files ++ FolderRefused path why marks ∷ []
 
 -- The folder is shown: it was opened, and an empty one may be shown. Its keys end so.
-pub record EndsShown (given : Given) (o : PlainOptions) (status : Status)
+pub record EndsShown (given : Given) (o : PlainOptions) (start : ℤ) (status : Status)
     (events : List Happening) (old new : Option (List ℕ)) : Type 0 where
   pub came : List Listed
   pub keys : List Happening
@@ -54,32 +54,32 @@ pub record EndsShown (given : Given) (o : PlainOptions) (status : Status)
   pub full : o.skip_empty ≡ true → came ≡ [] → ⊥
   pub reader : PlainReader
   pub takes : TakesKeys (pressed_keys events) reader old new
-  pub ends : EndsKeys status (after_events given (first_of o) events).turn.stage reader new
+  pub ends : EndsKeys status (after_events given (first_of o start) events).turn.stage reader new
 
 -- how a run is done
-abbrev pub EndsDone : Given → Task → PlainOptions → List Happening → Option (List ℕ)
+abbrev pub EndsDone : Given → Task → PlainOptions → ℤ → List Happening → Option (List ℕ)
     → Option (List ℕ) → Type 0
-EndsDone given TellVersion o events old new = events ≡ []
-EndsDone given (TellValues names) o events old new =
-    AreFiles events × ((after_events given (first_of o) events).frames ≡ [])
-EndsDone given ReadFolder o events old new = EndsShown given o Done events old new
+EndsDone given TellVersion o start events old new = events ≡ []
+EndsDone given (TellValues names) o start events old new =
+    AreFiles events × ((after_events given (first_of o start) events).frames ≡ [])
+EndsDone given ReadFolder o start events old new = EndsShown given o start Done events old new
 
 -- how the events of a run with this status end, and what is left of the keys
-abbrev pub EndsAs : Given → PlainOptions → Status → List Happening → Option (List ℕ)
+abbrev pub EndsAs : Given → PlainOptions → ℤ → Status → List Happening → Option (List ℕ)
     → Option (List ℕ) → Type 0
-EndsAs given o Done events old new = EndsDone given (task_of o) o events old new
-EndsAs given o (Usage word) events old new = events ≡ []
-EndsAs given o (NotOpened why) events old new =
+EndsAs given o start Done events old new = EndsDone given (task_of o) o start events old new
+EndsAs given o start (Usage word) events old new = events ≡ []
+EndsAs given o start (NotOpened why) events old new =
     (task_of o ≡ ReadFolder) × IsStated why × IsRefused why events
-EndsAs given o DiskFault events old new = (task_of o ≡ ReadFolder) × IsRefused (Folder Fault) events
-EndsAs given o KeysFault events old new =
-    (task_of o ≡ ReadFolder) × EndsShown given o KeysFault events old new
-EndsAs given o OutFault events old new = Unit {0}
-EndsAs given o NoMemory events old new = Unit {0}
-EndsAs given o Empty events old new =
+EndsAs given o start DiskFault events old new = (task_of o ≡ ReadFolder) × IsRefused (Folder Fault) events
+EndsAs given o start KeysFault events old new =
+    (task_of o ≡ ReadFolder) × EndsShown given o start KeysFault events old new
+EndsAs given o start OutFault events old new = Unit {0}
+EndsAs given o start NoMemory events old new = Unit {0}
+EndsAs given o start Empty events old new =
     (task_of o ≡ ReadFolder) × (o.skip_empty ≡ true) × IsOpened [] [] events
-EndsAs given o TooManyKeys events old new =
-    (task_of o ≡ ReadFolder) × EndsShown given o TooManyKeys events old new
+EndsAs given o start TooManyKeys events old new =
+    (task_of o ≡ ReadFolder) × EndsShown given o start TooManyKeys events old new
 
 -- the status of words that are no command line
 abbrev pub IsUsage : List ℕ → Status → Type 0

@@ -1,5 +1,5 @@
 -- What is printed.
-use Rattle.std.specs.Prelude.{◌≤◌, ℕ, List, [], ◌∷◌, codes, length, map, Option, Result}
+use Rattle.std.specs.Prelude.{◌≤◌, ℕ, ℤ, List, [], ◌∷◌, codes, length, map, Option, Result}
 use Rattle.std.specs.Io.KnownBytes.{Appends}
 use Rattle.std.specs.List.{concat}
 use Rattle.mail_base.specs.Faults.{Rose}
@@ -33,8 +33,8 @@ pieces given (TellValues names) first events =
 pieces given ReadFolder first events = map screen_text (screens_from given first events)
 
 -- the pieces of what the words choose
-abbrev pub pieces_by : Given → Result PlainOptions (List ℕ) → List Happening → List (List ℕ)
-pieces_by given choice events = pieces given (task_by choice) (first_by choice) events
+abbrev pub pieces_by : Given → Result PlainOptions (List ℕ) → ℤ → List Happening → List (List ℕ)
+pieces_by given choice start events = pieces given (task_by choice) (first_by choice start) events
 
 -- how long the last of some pieces is
 abbrev pub last_length : List (List ℕ) → ℕ

@@ -1,5 +1,5 @@
 -- What a run does outside.
-use Rattle.std.specs.Prelude.{◌≡◌, ◌≤◌, ◌⊎◌, ℕ, ℤ, List, [], Option, Result}
+use Rattle.std.specs.Prelude.{◌≡◌, ◌≤◌, ◌⊎◌, ◌∷◌, ℕ, ℤ, List, [], Option, Result}
 use Rattle.std.specs.Io.KnownBytes.{Appends}
 use Rattle.std.specs.List.{concat}
 use Rattle.mail_base.specs.Faults.{Rose}
@@ -14,7 +14,9 @@ use Rattle.session.specs.Runs.{IsRunFrom}
 use Rattle.session.specs.Telling.{Witnessed}
 use Rattle.session_state.specs.declared.stage.Stage.TheVariants.{Over}
 use Rattle.mutt_run.specs.Choice.{acted_on, first_by, state_by}
+use Rattle.mutt_run.specs.Complete.{IsPlainEnd, NamesReadable}
 use Rattle.mutt_run.specs.Ending.{AllListed, EndsAs, IsChosen}
+use Rattle.mutt_run.specs.Notes.{Tells, folder_in}
 use Rattle.mutt_run.specs.Printed.{Prints, PrintsBut, pieces_by}
 use Rattle.mutt_run.specs.Screens.{printed_lines}
 use Rattle.mutt_run.specs.Taken.{Gives, IsStart, TakesKeys, pressed_keys, pressed_moments}
@@ -56,21 +58,46 @@ TellsNotes status text old new = Appends old.told new.told text
 pub record Reads (choice : Result PlainOptions (List ℕ)) (start : ℤ) (Has : Kind → Type 0)
     (given : Given) (status : Status) (events : List Happening) (old new : Outside)
     : Type 0 where
-  pub run : IsRunFrom given (first_by choice) events
-  pub ends : EndsAs given (acted_on choice) status events old.left new.left
+  pub run : IsRunFrom given (first_by choice start) events
+  pub ends : EndsAs given (acted_on choice) start status events old.left new.left
   pub reader : PlainReader
   pub takes : TakesKeys (pressed_keys events) reader old.left new.left
   pub start_is : IsStart start events
   pub clocked : Gives old.moments new.moments (pressed_moments events)
-  pub printed : Prints status (pieces_by given choice events) old.written new.written
-  pub but : PrintsBut (pieces_by given choice events) old.written new.written
-  pub whole : (state_by given choice events).turn.stage ≡ Over
-      → Appends old.written new.written (concat (pieces_by given choice events))
-  pub noted : TellsNotes status (printed_lines (state_by given choice events).notes) old new
-  pub told : Witnessed Has given (first_by choice) events old.disk new.disk
+  pub printed : Prints status (pieces_by given choice start events) old.written new.written
+  pub but : PrintsBut (pieces_by given choice start events) old.written new.written
+  pub whole : (state_by given choice start events).turn.stage ≡ Over
+      → Appends old.written new.written (concat (pieces_by given choice start events))
+  pub noted : TellsNotes status (printed_lines (state_by given choice start events).notes) old new
+  pub told : Witnessed Has given (first_by choice start) events old.disk new.disk
   pub listed : AllListed given.mails events
   pub fault : status ≡ DiskFault → Rose old.disk.faults new.disk.faults
   pub chosen : IsChosen choice status
+
+-- What a run has come to whose start was at a moment. Where `Quiet` holds no fault was counted.
+pub record RunsFrom (choice : Result PlainOptions (List ℕ)) (start : ℤ) (Has : Kind → Type 0)
+    (given : Given) (status : Status) (events : List Happening) (old new : Outside)
+    (Quiet : Type 0) : Type 0 where
+  -- The events are a run, and it ends as the status says.
+  pub run : IsRunFrom given (first_by choice start) events
+  pub ends : EndsAs given (acted_on choice) start status events old.left new.left
+  -- The clock gave the moment of the start and then those of the keys.
+  pub opened : IsStart start events
+  pub clocked : Gives old.moments new.moments (start ∷ pressed_moments events)
+  -- What is printed and told.
+  pub out : Prints status (pieces_by given choice start events) old.written new.written
+  pub errs : Tells (λ st. EndsAs given (acted_on choice) start st events old.left new.left
+      × IsChosen choice st) (Rose old.faults new.faults)
+      (state_by given choice start events).notes (folder_in events) status old.told new.told
+  -- Behind the event that ends a run nothing is missing of its screens.
+  pub whole : (state_by given choice start events).turn.stage ≡ Over
+      → Appends old.written new.written (concat (pieces_by given choice start events))
+  -- What the events say of the disk is true.
+  pub told : Witnessed Has given (first_by choice start) events old.disk new.disk
+  -- With a readable folder and no fault the run is done, or stops for memory or at the limit of
+  -- keys.
+  pub complete : NamesReadable Has given choice start events new.disk.told → Quiet
+      → IsPlainEnd status
 
 -- a fault of the keys, and one of what is written or told, is answered only where it was counted
 pub record CountsStreams (status : Status) (keys_before keys_after out_before out_after : ℕ)

@@ -83,9 +83,3 @@ IsStart start (FileRefused path why marks ∷ events) = IsStart start events
 IsStart start (FolderOpened path kind moment came marks ∷ events) =
     (moment ≡ start) × IsStart start events
 IsStart start (FolderRefused path why marks ∷ events) = IsStart start events
-
--- the clock gave the moment of the start and then those of the keys
-pub record Clocked (old new : Option (List ℤ)) (events : List Happening) : Type 0 where
-  pub start : ℤ
-  pub opened : IsStart start events
-  pub given : Gives old new (start ∷ pressed_moments events)

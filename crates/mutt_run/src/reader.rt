@@ -1,8 +1,6 @@
 //! A whole run, from the words of a command line to its end.
 
-ghost use Rattle.std.specs.Prelude.{◌≡◌, ◌⊎◌, true, false, [], Ok, Any, IfErr, map};
-ghost use Rattle.std.specs.Io.KnownBytes.{Appends};
-ghost use Rattle.std.specs.List.{concat};
+ghost use Rattle.std.specs.Prelude.{◌≡◌, ◌⊎◌, ℤ, true, false, [], Ok, Any, IfErr, map};
 ghost use Rattle.mail_base.specs.Faults.{Rose};
 ghost use Rattle.mail_base.specs.Series.{plain_texts};
 ghost use Rattle.disk_model.specs.Looking.{LooksOnly};
@@ -10,18 +8,13 @@ ghost use Rattle.folder_core.specs.Letters.{plain_letter};
 ghost use Rattle.mutt_words.specs.Options.{IsUsable, plain_options};
 ghost use Rattle.mutt_words.specs.Words.{options_of};
 ghost use Rattle.session_events.specs.Events.{plain_events};
-ghost use Rattle.session_state.specs.Window.{IsMoment};
+ghost use Rattle.session_state.specs.Instants.{IsMoment};
 ghost use Rattle.session.specs.Given.{given_of};
-ghost use Rattle.session.specs.Runs.{IsRunFrom};
-ghost use Rattle.session.specs.Telling.{Witnessed};
-ghost use Rattle.session_state.specs.declared.stage.Stage.TheVariants.{Over};
-ghost use Rattle.mutt_run.specs.Choice.{chosen, first_by, state_by};
-ghost use Rattle.mutt_run.specs.Complete.{IsPlainEnd, NamesReadable};
-ghost use Rattle.mutt_run.specs.Ending.{AllListed, EndsAs, IsChosen};
-ghost use Rattle.mutt_run.specs.Notes.{Tells, folder_in};
-ghost use Rattle.mutt_run.specs.Printed.{Prints, TellsVersion, pieces_by};
-ghost use Rattle.mutt_run.specs.Reading.{CountsStreams, Reads, outside};
-ghost use Rattle.mutt_run.specs.Taken.{Clocked, TakesSome};
+ghost use Rattle.mutt_run.specs.Ending.{AllListed, IsChosen};
+ghost use Rattle.mutt_run.specs.Notes.{folder_in};
+ghost use Rattle.mutt_run.specs.Printed.{TellsVersion};
+ghost use Rattle.mutt_run.specs.Reading.{CountsStreams, Reads, RunsFrom, outside};
+ghost use Rattle.mutt_run.specs.Taken.{TakesSome};
 ghost use Rattle.mutt_run.specs.declared.status.Status.TheVariants.{DiskFault, KeysFault, OutFault};
 
 use crate::clock::now;
@@ -59,51 +52,25 @@ pub fn run<K: Source, O: Sink, E: Sink, C: Clock>(
     ensures unopened { IfErr (options_of (plain_texts words.now))
         (λ word. plain_events trace.new.events.items ≡ []) }
 
-    // The events are a run, and it ends as the status says.
-    ensures run { IsRunFrom
+    // A run from the moment that the clock gave first.
+    ensures runs { (start : ℤ) × RunsFrom (options_of (plain_texts words.now)) start
+        (λ kind. Any (λ d. sort (d.vtable, d.value) ≡ kind) drivers.old.list.items)
         (given_of (map plain_letter trace.new.archive.items) trace.new.verdicts.kept)
-        (first_by (options_of (plain_texts words.now))) (plain_events trace.new.events.items) }
-    ensures ends { EndsAs
-        (given_of (map plain_letter trace.new.archive.items) trace.new.verdicts.kept)
-        (chosen (plain_texts words.now)) result
-        (plain_events trace.new.events.items) (K.left keys.old) (K.left keys.new) }
+        result (plain_events trace.new.events.items)
+        (outside (O.written out.old) (E.written errs.old) (E.faults errs.old) (K.left keys.old)
+        (C.moments clock.old) (seen (dev.old.disk.vtable, dev.old.disk.value)))
+        (outside (O.written out.new) (E.written errs.new) (E.faults errs.new) (K.left keys.new)
+        (C.moments clock.new) (seen (dev.new.disk.vtable, dev.new.disk.value)))
+        (¬ (Rose (seen (dev.old.disk.vtable, dev.old.disk.value)).faults
+        (seen (dev.new.disk.vtable, dev.new.disk.value)).faults)
+        × ¬ (Rose (K.faults keys.old) (K.faults keys.new))
+        × ¬ (Rose (O.faults out.old) (O.faults out.new))
+        × ¬ (Rose (E.faults errs.old) (E.faults errs.new))) }
+    // The bytes of its keys were taken.
     ensures keys { TakesSome (plain_events trace.new.events.items) (K.left keys.old)
         (K.left keys.new) }
-    ensures moments { Clocked (C.moments clock.old) (C.moments clock.new)
-        (plain_events trace.new.events.items) }
 
-    // What is printed and told.
-    ensures out { Prints result (pieces_by
-        (given_of (map plain_letter trace.new.archive.items) trace.new.verdicts.kept)
-        (options_of (plain_texts words.now)) (plain_events trace.new.events.items))
-        (O.written out.old) (O.written out.new) }
-    ensures errs { Tells (λ status. EndsAs
-        (given_of (map plain_letter trace.new.archive.items) trace.new.verdicts.kept)
-        (chosen (plain_texts words.now)) status (plain_events trace.new.events.items)
-        (K.left keys.old) (K.left keys.new)
-        × IsChosen (options_of (plain_texts words.now)) status)
-        (Rose (E.faults errs.old) (E.faults errs.new))
-        (state_by (given_of (map plain_letter trace.new.archive.items) trace.new.verdicts.kept)
-        (options_of (plain_texts words.now)) (plain_events trace.new.events.items)).notes
-        (folder_in (plain_events trace.new.events.items)) result
-        (E.written errs.old) (E.written errs.new) }
-    // Behind the event that ends a run nothing is missing of its screens.
-    ensures whole { (state_by
-        (given_of (map plain_letter trace.new.archive.items) trace.new.verdicts.kept)
-        (options_of (plain_texts words.now)) (plain_events trace.new.events.items)).turn.stage
-        ≡ Over
-        → Appends (O.written out.old) (O.written out.new)
-        (concat (pieces_by
-        (given_of (map plain_letter trace.new.archive.items) trace.new.verdicts.kept)
-        (options_of (plain_texts words.now)) (plain_events trace.new.events.items))) }
-
-    // What the events say of the disk is true, and nothing is changed there.
-    ensures told { Witnessed (λ kind. Any (λ d. sort (d.vtable, d.value) ≡ kind)
-        drivers.old.list.items)
-        (given_of (map plain_letter trace.new.archive.items) trace.new.verdicts.kept)
-        (first_by (options_of (plain_texts words.now))) (plain_events trace.new.events.items)
-        (seen (dev.old.disk.vtable, dev.old.disk.value))
-        (seen (dev.new.disk.vtable, dev.new.disk.value)) }
+    // Nothing is changed on the disk.
     ensures looks { LooksOnly (seen (dev.old.disk.vtable, dev.old.disk.value)).told
         (seen (dev.new.disk.vtable, dev.new.disk.value)).told }
     ensures listed { AllListed (map plain_letter trace.new.archive.items)
@@ -118,19 +85,6 @@ pub fn run<K: Source, O: Sink, E: Sink, C: Clock>(
     ensures out_cause { result ≡ OutFault
         → Rose (O.faults out.old) (O.faults out.new)
         ⊎ Rose (E.faults errs.old) (E.faults errs.new) }
-
-    // With a readable folder and no fault the run is done, or stops for memory or at the limit of
-    // keys.
-    ensures complete { NamesReadable (λ kind. Any (λ d. sort (d.vtable, d.value) ≡ kind)
-        drivers.old.list.items)
-        (given_of (map plain_letter trace.new.archive.items) trace.new.verdicts.kept)
-        (options_of (plain_texts words.now)) (plain_events trace.new.events.items)
-        (seen (dev.new.disk.vtable, dev.new.disk.value)).told
-        → ¬ (Rose (seen (dev.old.disk.vtable, dev.old.disk.value)).faults
-        (seen (dev.new.disk.vtable, dev.new.disk.value)).faults)
-        → ¬ (Rose (K.faults keys.old) (K.faults keys.new)) → ¬
-        (Rose (O.faults out.old) (O.faults out.new))
-        → ¬ (Rose (E.faults errs.old) (E.faults errs.new)) → IsPlainEnd result }
 {
     let moment = now(clock);
     let status = obey_words(
@@ -236,7 +190,7 @@ fn obey<K: Source, O: Sink, E: Sink, C: Clock>(
         offset,
     };
     if are_asked(query.as_slice()) {
-        return answer(alloc, setup, &query, out, errs, dev, trace);
+        return answer(alloc, setup, &query, moment, out, errs, dev, trace);
     }
     read(
         alloc, setup, skip_empty, moment, keys, out, errs, dev, drivers, clock, trace,

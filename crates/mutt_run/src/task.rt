@@ -7,7 +7,8 @@ ghost use Rattle.folder_core.specs.Letters.{plain_letter};
 ghost use Rattle.mutt_words.specs.Options.{PlainOptions};
 ghost use Rattle.session.specs.Beginning.{Starts};
 ghost use Rattle.session_events.specs.Events.{AreFiles, plain_events};
-ghost use Rattle.session_state.specs.Window.{IsMoment, IsWindow};
+ghost use Rattle.session_screen.specs.Window.{IsWindow};
+ghost use Rattle.session_state.specs.Instants.{IsMoment};
 ghost use Rattle.session.specs.Fitting.{Fits};
 ghost use Rattle.session.specs.Given.{Given, IsGiven, given_of};
 ghost use Rattle.session.specs.Runs.{plain_session};
@@ -97,7 +98,7 @@ fn read_on<K: Source, O: Sink, E: Sink, C: Clock>(
         → (start : ℤ) → (before now : Seen) → ((given : Given)
         → IsGiven (map plain_letter trace.old.archive.items) trace.old.verdicts.kept given → Starts
         (λ kind. Any (λ d. sort (d.vtable, d.value) ≡ kind) drivers.now.list.items)
-        given (first_of o) start (plain_events trace.old.events.items)
+        given (first_of o start) start (plain_events trace.old.events.items)
         (plain_session session.old trace.old.notes) before now)
         → Reads (Ok o) start
         (λ kind. Any (λ d. sort (d.vtable, d.value) ≡ kind) drivers.now.list.items)
@@ -144,6 +145,7 @@ pub fn answer<O: Sink, E: Sink>(
     alloc: Global,
     setup: Setup,
     names: &Words,
+    moment: i64,
     out: &mut O,
     errs: &mut E,
     dev: &mut Device,
@@ -153,8 +155,9 @@ pub fn answer<O: Sink, E: Sink>(
     requires events { trace.old.events.items ≡ [] }
     requires notes { trace.old.notes.items ≡ [] }
     requires window { IsWindow (plain_setup setup).window }
+    requires moment { IsMoment moment }
     ensures reads { (o : PlainOptions) → plain_setup setup ≡ setup_of o
-        → task_of o ≡ TellValues (plain_texts names.now) → (moment : ℤ)
+        → task_of o ≡ TellValues (plain_texts names.now)
         → (left : Option (List ℕ)) → (moments : Option (List ℤ)) → Reads (Ok o) moment Driverless
         (given_of (map plain_letter trace.new.archive.items) trace.new.verdicts.kept)
         result (plain_events trace.new.events.items)
@@ -166,7 +169,7 @@ pub fn answer<O: Sink, E: Sink>(
     ensures faults { (before after : ℕ) → CountsStreams result before after
         (O.faults out.old) (O.faults out.new) (E.faults errs.old) (E.faults errs.new) }
 {
-    let Ok(lines) = Session::answers(alloc, setup, names, dev, trace) else {
+    let Ok(lines) = Session::answers(alloc, setup, names, moment, dev, trace) else {
         return Status::NoMemory;
     };
     if let Err(status) = tell_notes(alloc, errs, &trace.notes) {

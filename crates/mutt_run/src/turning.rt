@@ -6,7 +6,7 @@ ghost use Rattle.mail_base.specs.Faults.{Rose};
 ghost use Rattle.disk_model.specs.Seen.{Seen};
 ghost use Rattle.folder_core.specs.Letters.{plain_letter};
 ghost use Rattle.session_events.specs.Events.{KeyPressed, plain_events};
-ghost use Rattle.session_state.specs.Window.{IsMoment};
+ghost use Rattle.session_state.specs.Instants.{IsMoment};
 ghost use Rattle.session.specs.Fitting.{Fits};
 ghost use Rattle.session.specs.Given.{Given, IsGiven};
 ghost use Rattle.patterns.specs.Causes.{Keeps};

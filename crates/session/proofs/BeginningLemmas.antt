@@ -16,7 +16,7 @@ use Rattle.folder_core.specs.declared.error.ScanError.TheVariants as scan
 use Rattle.session_state.specs.declared.stage.Stage.{Stage}
 use Rattle.session_state.specs.declared.stage.Stage.TheVariants.{Unopened}
 use Rattle.session_state.specs.Frames.{PlainFrame}
-use Rattle.session_state.specs.Places.{folder_path}
+use Rattle.session_screen.specs.Places.{folder_path}
 use Rattle.session_state.specs.Rules.{answer_line}
 use Rattle.session_events.specs.declared.event.Marks.{Marks}
 use Rattle.session_events.specs.declared.event.OpenFault.{OpenFault}
@@ -24,13 +24,13 @@ use Rattle.session_events.specs.declared.event.OpenFault.TheVariants.{Taken, NoD
 use Rattle.session_events.specs.declared.setup.StartError.{StartError}
 use Rattle.session_events.specs.declared.setup.StartError.TheVariants as error
 use Rattle.session.specs.Beginning.{AnswersNames, BeginsRun, EndsStart, Fails, IsNoted, IsRefused}
-use Rattle.session.specs.Beginning.{Starts, start_error}
+use Rattle.session.specs.Beginning.{Starts}
 use Rattle.session_events.specs.Events.{Happening, FileRead, FileRefused, KeyPressed, FolderOpened}
 use Rattle.session_events.specs.Events.{FolderRefused}
 use Rattle.session.specs.Given.{Given}
 use Rattle.session_events.specs.Happened.{Counts, HasCause, IsListed}
 use Rattle.session.specs.Telling.{kind_in}
-use Rattle.session_events.specs.Opening.{IsOpening, OpensPath, refusal_of}
+use Rattle.session_events.specs.Opening.{IsOpening, OpensPath, refusal_of, start_error}
 use Rattle.session.specs.Runs.{Answers, State, after, after_events, arrived, first_wish}
 use Rattle.session_events.specs.Wishes.{moment_of}
 use Rattle.session.specs.Runs.{pushed, shown, wish_at}

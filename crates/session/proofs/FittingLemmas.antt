@@ -12,9 +12,10 @@ use Rattle.session_events.specs.Opening.{IsOpening, refusal_of}
 use Rattle.session_events.specs.Telling.{HasFileCause, TellsFile}
 use Rattle.session_events.specs.declared.event.Marks.{Marks}
 use Rattle.session.specs.Core.{IsEmpty}
-use Rattle.session_state.specs.Window.{IsMoment, IsWindow}
-use Rattle.session.specs.Fitting.{CanTake, Fits, IsLeft}
-use Rattle.session_state.specs.declared.moment.Moment.{Moment}
+use Rattle.session_screen.specs.Window.{IsWindow}
+use Rattle.session_state.specs.Instants.{IsMoment}
+use Rattle.session.specs.Fitting.{CanRead, CanTake, Fits, IsLeft}
+use Rattle.session_state.specs.declared.instant.Moment.{Moment}
 use Rattle.session.specs.declared.session_type.Session.{Session}
 
 -- Files of commands.
@@ -33,7 +34,7 @@ file_taken mails view event now next tells = file_needs mails view event tells.m
 
 file_keeps : (mails : List Mail) (old new : Session) (event : Happening) (marks : Marks)
     → HasFileCause event marks → IsLeft mails old new event
-    → new.core.desk.view ≡ old.core.desk.view
+    → (new.core.desk.view ≡ old.core.desk.view) × (new.checked ≡ old.checked)
 file_keeps mails old new (FileRead path text kept) marks cause left = left
 file_keeps mails old new (FileRefused path why kept) marks cause left = left
 file_keeps mails old new (KeyPressed key moment) marks cause left = absurd cause
@@ -44,7 +45,17 @@ pub file_left : (mails : List Mail) (old new : Session) (event : Happening) (now
     → TellsFile event now next → IsLeft mails old new event
     → new.core.desk.view ≡ old.core.desk.view
 file_left mails old new event now next tells left =
-    file_keeps mails old new event tells.marks tells.cause left
+    (file_keeps mails old new event tells.marks tells.cause left).0
+
+-- commands can be read behind a file as before
+pub file_fits : (mails : List Mail) (old new : Session) (event : Happening) (now next : Seen)
+    → TellsFile event now next → IsLeft mails old new event → new.window ≡ old.window
+    → CanRead old → CanRead new
+file_fits mails old new event now next tells left same can = record {
+  window = subst IsWindow (sym same) can.window;
+  checked = subst (λ (m : Moment). IsMoment m.0)
+      (sym (file_keeps mails old new event tells.marks tells.cause left).1) can.checked;
+}
 
 -- The opening.
 

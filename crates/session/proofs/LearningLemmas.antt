@@ -3,7 +3,7 @@ use Rattle.std.proofs.Common.{◌≡◌, ◌∙◌, List, [], ◌∷◌, ap, ref
 use Rattle.folder_core.specs.Letters.{Mail}
 use Rattle.session_index.specs.Effects.{with_index}
 use Rattle.session_index.specs.Index.{PlainIndex}
-use Rattle.session_state.specs.Lessons.{Named, Person, PlainLesson}
+use Rattle.session_state.specs.Lessons.{Kept, Named, Person, PlainLesson, Scored}
 use Rattle.session_state.specs.Rules.{PlainRules}
 use Rattle.session.specs.Answers.{learnt, with_lesson, with_lessons}
 use Rattle.session.specs.Core.{CoreState}
@@ -12,6 +12,8 @@ lesson_items : (mails : List Mail) (lesson : PlainLesson) (i : PlainIndex)
     → (with_lesson mails lesson i).facts.items ≡ i.facts.items
 lesson_items mails (Person table expr) i = refl
 lesson_items mails (Named name value) i = refl
+lesson_items mails (Scored entry) i = refl
+lesson_items mails (Kept keeps) i = refl
 
 -- no message comes or goes
 pub lessons_items : (mails : List Mail) (lessons : List PlainLesson) (i : PlainIndex)

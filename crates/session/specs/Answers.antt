@@ -3,7 +3,9 @@ use Rattle.std.specs.Prelude.{◌==◌, ◌||◌, ◌++◌, ℕ, Bool, true, fal
 use Rattle.std.specs.Prelude.{Some, codes, length, if◌then◌else◌}
 use Rattle.std.specs.Str.{bytes_eq}
 use Rattle.folder_core.specs.Letters.{Mail}
+use Rattle.index_items.specs.Kept.{kept}
 use Rattle.index_view.specs.Limit.{PlainLimit}
+use Rattle.patterns_match.specs.Scores.{PlainEntry}
 use Rattle.people.specs.People.{with_alias, with_expr}
 use Rattle.prompts.specs.declared.asking.Asking.{Asking}
 use Rattle.prompts.specs.declared.asking.Asking.TheVariants as asking
@@ -15,15 +17,14 @@ use Rattle.session_index.specs.Desk.{PlainWanted, ToAnswer, ToChoose, ToEnd, Una
 use Rattle.session_index.specs.Effects.{with_index}
 use Rattle.session_index.specs.Index.{PlainIndex, given as given_index}
 use Rattle.session_index.specs.Opening.{tuned as tuned_desk}
-use Rattle.session.specs.Core.{CoreState, Ground, with_desk}
-use Rattle.session.specs.Given.{Given}
+use Rattle.session.specs.Core.{CoreState, Ground, instant_of, with_desk}
 use Rattle.session.specs.Rules.{rule_of}
 use Rattle.session_state.specs.Days.{reading_of}
-use Rattle.session_state.specs.Lessons.{Named, Person, PlainLesson}
-use Rattle.session_state.specs.Sorting.{sort_words}
-use Rattle.session_state.specs.Tuning.{options_of}
+use Rattle.session_state.specs.Lessons.{Kept, Named, Person, PlainLesson, Scored}
+use Rattle.session_screen.specs.Sorting.{sort_words}
+use Rattle.session_screen.specs.Tuning.{options_of}
 use Rattle.session_state.specs.Typed.{Typed, typed_run}
-use Rattle.session_state.specs.declared.window.Window.{Window}
+use Rattle.session_screen.specs.declared.window.Window.{Window}
 
 -- Patterns.
 
@@ -51,7 +52,7 @@ without_limit mails c = record c { desk = limited mails None c.desk; limit = Non
 
 abbrev pub text_read : Ground → Asking → List ℕ → CoreState → CoreState
 text_read g asking text c = pattern_answered g.given.mails asking text
-    (reading_of g.given.verdicts g.window g.moment text) c
+    (reading_of g.given.verdicts (instant_of g.window g.moment) text) c
 
 abbrev pub limit_answered : Ground → List ℕ → CoreState → CoreState
 limit_answered g text c =
@@ -71,12 +72,17 @@ shown_on (Some text) c = with_desk (record c.desk { message = text }) c
 abbrev pub told : Typed → CoreState → CoreState
 told t c = shown_on t.shown (record c { rules = t.rules })
 
+abbrev pub with_scores : List Mail → List PlainEntry → PlainIndex → PlainIndex
+with_scores mails entries i = given_index mails (record i.facts { scores = entries }) i
+
 -- what a command tells is learnt
 abbrev pub with_lesson : List Mail → PlainLesson → PlainIndex → PlainIndex
 with_lesson mails (Person table expr) i = given_index mails
     (record i.facts { people = with_expr i.facts.people table expr }) i
 with_lesson mails (Named name value) i =
     record i { aliases = with_alias i.aliases name value }
+with_lesson mails (Scored entry) i = with_scores mails (i.facts.scores ++ entry ∷ []) i
+with_lesson mails (Kept keeps) i = with_scores mails (kept keeps i.facts.scores) i
 
 abbrev pub with_lessons : List Mail → List PlainLesson → PlainIndex → PlainIndex
 with_lessons mails [] i = i
@@ -91,15 +97,15 @@ learnt mails c = record c {
 
 -- a line of commands was typed: they are run, and the index learns what they tell it and stands by
 -- the variables
-abbrev pub commanded : Given → List ℕ → CoreState → CoreState
-commanded given text c = tuned given.mails (learnt given.mails
-    (told (typed_run given.verdicts None (lines_of text) c.rules) c))
+abbrev pub commanded : Ground → List ℕ → CoreState → CoreState
+commanded g text c = tuned g.given.mails (learnt g.given.mails (told
+    (typed_run (instant_of g.window g.moment) g.given.verdicts None (lines_of text) c.rules) c))
 
 -- Texts.
 
 abbrev pub text_answered : Ground → Asking → List ℕ → CoreState → CoreState
 text_answered g asking.Limit text c = limit_answered g text c
-text_answered g asking.Command text c = commanded g.given text c
+text_answered g asking.Command text c = commanded g text c
 text_answered g asking text c = text_read g asking text c
 
 -- Orders.

@@ -98,11 +98,3 @@ pub record AnswersNames (given : Given) (first : State) (events : List Happening
   pub noted : (after_events given first events).notes ≡ notes
   pub lines_are : lines
       ≡ map (answer_line (after_events given first events).turn.core.rules.settings) names
-
--- For the code alone.
-
--- how a start ends with this cause
-abbrev pub start_error : OpenFault → StartError
-start_error (Folder Fault) = error.DiskFault
-start_error (Folder NoRoom) = error.NoMemory
-start_error why = error.NotOpened why

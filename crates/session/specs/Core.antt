@@ -9,10 +9,11 @@ use Rattle.session_index.specs.Index.{index_of}
 use Rattle.session_index.specs.Effects.{said as said_on}
 use Rattle.session_index.specs.declared.notice.Notice.{Notice}
 use Rattle.session_state.specs.Rules.{PlainRules, first_rules}
-use Rattle.session_state.specs.Tuning.{options_of}
+use Rattle.session_screen.specs.Tuning.{options_of}
 use Rattle.session.specs.Given.{Given, given_of}
 use Rattle.session.specs.declared.core_state.Core.{Core}
-use Rattle.session_state.specs.declared.window.Window.{Window}
+use Rattle.session_screen.specs.declared.window.Window.{Window}
+use Rattle.session_state.specs.declared.instant.Instant.{Instant}
 
 -- what muttrc has set, what the index shows, and the text of its limit
 pub record CoreState : Type 0 where
@@ -65,6 +66,10 @@ with_desk d c = record c { desk = d }
 -- the last line says this
 abbrev pub said : Notice → CoreState → CoreState
 said notice c = with_desk (said_on notice c.desk) c
+
+-- a moment, with the reader's offset from UTC
+abbrev pub instant_of : Window → ℤ → Instant
+instant_of window moment = record { seconds = moment; offset = window.offset }
 
 abbrev pub ground_of : List Mail → List PlainJudged → Window → ℤ → Ground
 ground_of mails verdicts window moment = record {

@@ -6,13 +6,19 @@ use Rattle.session_events.specs.Events.{Happening, FileRead, FileRefused, KeyPre
 use Rattle.session_events.specs.Events.{FolderRefused}
 use Rattle.session_events.specs.Happened.{IsFresh}
 use Rattle.session.specs.Core.{IsEmpty}
-use Rattle.session_state.specs.Window.{IsMoment, IsWindow}
+use Rattle.session_screen.specs.Window.{IsWindow}
+use Rattle.session_state.specs.Instants.{IsMoment}
 use Rattle.session.specs.declared.session_type.Session.{Session}
 
 -- the index is of these letters, the screen has room for a page, and the calendar has the moment of
 -- the last check
 pub record Fits (mails : List Mail) (session : Session) : Type 0 where
   pub is_of : IsOf mails session.core.desk.view
+  pub window : IsWindow session.window
+  pub checked : IsMoment session.checked.0
+
+-- commands can be read: the screen has room for a page, and the calendar has the moment of the start
+pub record CanRead (session : Session) : Type 0 where
   pub window : IsWindow session.window
   pub checked : IsMoment session.checked.0
 
@@ -27,8 +33,10 @@ CanTake mails view (FolderRefused path why marks) = Unit {0}
 
 -- what it leaves
 abbrev pub IsLeft : List Mail → Session → Session → Happening → Type 0
-IsLeft mails old new (FileRead path text marks) = new.core.desk.view ≡ old.core.desk.view
-IsLeft mails old new (FileRefused path why marks) = new.core.desk.view ≡ old.core.desk.view
+IsLeft mails old new (FileRead path text marks) =
+    (new.core.desk.view ≡ old.core.desk.view) × (new.checked ≡ old.checked)
+IsLeft mails old new (FileRefused path why marks) =
+    (new.core.desk.view ≡ old.core.desk.view) × (new.checked ≡ old.checked)
 IsLeft mails old new (KeyPressed key moment) =
     IsOf mails new.core.desk.view × (new.checked ≡ old.checked)
 IsLeft mails old new (FolderOpened path kind moment came marks) =

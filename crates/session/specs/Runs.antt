@@ -1,28 +1,24 @@
 -- A run: what a state wishes, what an event makes of it, and the screens.
-use Rattle.std.specs.Prelude.{◌≡◌, ℕ, ℤ, List, [], ◌∷◌, ◌++◌, Option, option_map, Bool, true}
-use Rattle.std.specs.Prelude.{false}
+use Rattle.std.specs.Prelude.{◌≡◌, ℕ, ℤ, List, [], ◌∷◌, ◌++◌, Option, option_map}
 use Rattle.mail_base.specs.Series.{Held, plain_texts}
 use Rattle.mail_base.specs.declared.kind.Kind.{Kind}
 use Rattle.disk_model.specs.declared.answers.DiskError.{DiskError}
-use Rattle.disk_model.specs.declared.answers.DiskError.TheVariants as disk
 use Rattle.folder_core.specs.Letters.{Mail}
 use Rattle.folder_core.specs.declared.listing.Listed.{Listed}
 use Rattle.keymap.specs.Queue.{most_replacements}
 use Rattle.keymap.specs.declared.key.Key.{Key}
 use Rattle.people.specs.Judged.{PlainJudged}
-use Rattle.rc_lang_words.specs.declared.fault.RcFault.{RcFault}
-use Rattle.rc_lang_words.specs.declared.fault.RcFault.TheVariants as fault
 use Rattle.session_events.specs.Events.{Happening, FileRead, FileRefused, KeyPressed, FolderOpened}
 use Rattle.session_events.specs.Events.{FolderRefused}
 use Rattle.session_events.specs.Wishes.{Nothing, Open, Press, Source, Wish, answered, moment_of}
 use Rattle.session_state.specs.declared.stage.Stage.{Stage}
 use Rattle.session_state.specs.declared.stage.Stage.TheVariants.{Unopened, Pushing, Idle, Ready}
 use Rattle.session_state.specs.declared.stage.Stage.TheVariants.{Over}
-use Rattle.session_state.specs.declared.window.Window.{Window}
+use Rattle.session_screen.specs.declared.window.Window.{Window}
 use Rattle.session_state.specs.Frames.{PlainFrame, Script, plain_frames, read_script, skip_script}
-use Rattle.session_state.specs.Places.{folder_path}
+use Rattle.session_screen.specs.Places.{folder_path}
 use Rattle.session_state.specs.Rules.{put_all, without_puts}
-use Rattle.session.specs.Core.{CoreState, Ground, plain_core, with_desk}
+use Rattle.session.specs.Core.{CoreState, Ground, instant_of, plain_core, with_desk}
 use Rattle.session.specs.Given.{Given}
 use Rattle.session.specs.Keys.{TurnState, run_keys}
 use Rattle.session.specs.Opening.{opened}
@@ -30,8 +26,8 @@ use Rattle.session.specs.Screen.{Folder, screen}
 use Rattle.session.specs.declared.session_type.Session.{Session}
 
 -- what keys act on; the files of commands that are not at their ends, and what was told of them;
--- the screen's size; the open folder, its listing and the moment of its last check; and the folder
--- that the words name
+-- the screen's size; the open folder, its listing and the moment of its last check, before its
+-- opening that of the start; and the folder that the words name
 pub record State : Type 0 where
   pub turn : TurnState
   pub frames : List PlainFrame
@@ -92,16 +88,6 @@ with_script script s = record s {
   notes = script.notes;
 }
 
--- nothing stands at the path
-abbrev pub is_missing : DiskError → Bool
-is_missing disk.Missing = true
-is_missing _ = false
-
--- what is told where a file was not read
-abbrev pub read_fault : DiskError → RcFault
-read_fault disk.NoMemory = fault.NoMemory
-read_fault _ = fault.NotRead
-
 -- a key was taken: the message line is empty
 abbrev pub quiet : CoreState → CoreState
 quiet c = with_desk (record c.desk { message = [] }) c
@@ -141,12 +127,12 @@ opened_by mails path kind moment came s = record s {
 
 -- the text of the file that was wished was read
 abbrev pub read_in : List PlainJudged → List ℕ → State → State
-read_in verdicts text s =
-    with_script (read_script verdicts text s.frames s.turn.core.rules s.notes) s
+read_in verdicts text s = with_script (read_script (instant_of s.window s.checked) verdicts text
+    s.frames s.turn.core.rules s.notes) s
 
 -- the file that was wished was not read
 abbrev pub skipped : List PlainJudged → DiskError → State → State
-skipped verdicts why s = with_script (skip_script verdicts (is_missing why) (read_fault why)
+skipped verdicts why s = with_script (skip_script (instant_of s.window s.checked) verdicts why
     s.frames s.turn.core.rules s.notes) s
 
 -- a key was typed

@@ -1,11 +1,11 @@
 -- The state that a run starts from, by the words of a command line.
-use Rattle.std.specs.Prelude.{ℕ, pos, Bool, List, [], Option, option_map}
+use Rattle.std.specs.Prelude.{ℕ, ℤ, Bool, List, [], Option, option_map}
 use Rattle.mail_base.specs.Series.{plain_texts}
 use Rattle.mail_base.specs.declared.kind.Kind.{Kind}
 use Rattle.mail_base.specs.declared.kind.Kind.TheVariants.{Mbox}
 use Rattle.session_state.specs.Beginning.{first_frames}
 use Rattle.session_state.specs.declared.stage.Stage.TheVariants.{Unopened}
-use Rattle.session_state.specs.declared.window.Window.{Window}
+use Rattle.session_screen.specs.declared.window.Window.{Window}
 use Rattle.session_events.specs.declared.setup.Setup.{Setup}
 use Rattle.session.specs.Core.{first_core}
 use Rattle.session.specs.Runs.{State}
@@ -29,8 +29,9 @@ plain_setup setup = record {
   window = record { rows = setup.rows; cols = setup.cols; offset = setup.offset };
 }
 
-abbrev pub first_state : PlainSetup → State
-first_state setup = record {
+-- at this moment
+abbrev pub first_state : PlainSetup → ℤ → State
+first_state setup moment = record {
   turn = record {
     core = first_core setup.read_only;
     queue = [];
@@ -42,6 +43,6 @@ first_state setup = record {
   window = setup.window;
   folder = record { path = []; kind = Mbox };
   listing = [];
-  checked = pos 0;
+  checked = moment;
   named = setup.path;
 }

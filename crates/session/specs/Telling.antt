@@ -8,7 +8,7 @@ use Rattle.disk_model.specs.Seen.{Seen}
 use Rattle.session_events.specs.Events.{Happening}
 use Rattle.session_events.specs.Happened.{AllCounted, IsTrueAt, counts_at, counts_of, marks_of}
 use Rattle.session_events.specs.declared.event.Event.{Event}
-use Rattle.session_state.specs.Places.{new_kind}
+use Rattle.session_screen.specs.Places.{new_kind}
 use Rattle.session.specs.Given.{Given}
 use Rattle.session.specs.Runs.{State, after}
 

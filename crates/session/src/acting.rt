@@ -6,7 +6,8 @@ use keymap::{Key, Press};
 use mail_base::NoMemory;
 use people::Verdicts;
 use session_index::Notice;
-use session_state::{Moment, Window};
+use session_screen::Window;
+use session_state::Moment;
 
 impl Core {
     ghost use Rattle.std.specs.Prelude.{◌≡◌, ℤ, List, map, OnOk};
@@ -15,7 +16,8 @@ impl Core {
     ghost use Rattle.people.specs.Judged.{PlainJudged};
     ghost use Rattle.session.specs.Acting as spec;
     ghost use Rattle.session.specs.Core.{Stands, ground_of, plain_core};
-    ghost use Rattle.session_state.specs.Window.{IsMoment, IsWindow};
+    ghost use Rattle.session_screen.specs.Window.{IsWindow};
+    ghost use Rattle.session_state.specs.Instants.{IsMoment};
     ghost use Rattle.patterns.specs.Causes.{Keeps};
 
     /// Does what keys have come to.

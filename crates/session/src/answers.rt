@@ -2,6 +2,9 @@
 
 ghost use Rattle.std.specs.Prelude.{◌≡◌};
 ghost use Rattle.session.specs.Answers as spec;
+ghost use Rattle.session.specs.Core.{instant_of};
+ghost use Rattle.session_screen.specs.Window.{IsWindow};
+ghost use Rattle.session_state.specs.Instants.{IsInstant, IsMoment};
 
 use crate::core_state::Core;
 use folder_core::Archive;
@@ -10,7 +13,8 @@ use patterns_match::Pattern;
 use people::Verdicts;
 use prompts::Asking;
 use session_index::{Message, Wanted};
-use session_state::{Moment, Window, options_of, read_at, sort_words, text_of};
+use session_screen::{Window, options_of, sort_words, text_of};
+use session_state::{Instant, Moment, read_at};
 use std::alloc::Global;
 
 // Whether a text takes the limit away.
@@ -20,8 +24,21 @@ fn is_no_limit(text: &[u8]) -> bool
     text.is_empty() || text == b"all".as_slice()
 }
 
+// A moment, with the reader's offset from UTC.
+fn instant(window: Window, moment: Moment) -> Instant
+    requires window { IsWindow window }
+    requires moment { IsMoment moment.0 }
+    ensures value { result ≡ instant_of window moment.0 }
+    ensures is { IsInstant result }
+{
+    Instant {
+        seconds: moment.0,
+        offset: window.offset,
+    }
+}
+
 impl Core {
-    ghost use Rattle.std.specs.Prelude.{◌≡◌, None, Some, List, map, option_map, IfOk, OnOk};
+    ghost use Rattle.std.specs.Prelude.{◌≡◌, None, Some, List, map, OnOk};
     ghost use Rattle.folder_core.specs.Letters.{plain_letter};
     ghost use Rattle.index_view.specs.Limit.{plain_limit};
     ghost use Rattle.index_view.specs.View.{IsOf};
@@ -29,11 +46,10 @@ impl Core {
     ghost use Rattle.session_index.specs.Desk.{plain_wanted};
     ghost use Rattle.session.specs.Answers as spec;
     ghost use Rattle.session.specs.Core.{Stands, ground_of, plain_core};
-    ghost use Rattle.session_state.specs.Window.{IsMoment, IsWindow};
+    ghost use Rattle.session_screen.specs.Window.{IsWindow};
+    ghost use Rattle.session_state.specs.Instants.{IsInstant, IsMoment};
     ghost use Rattle.patterns.specs.Causes.{Keeps};
     ghost use Rattle.rc_lang_words.specs.Words.{lines_of};
-    ghost use Rattle.session.specs.Given.{given_of};
-    ghost use Rattle.session_state.specs.Lessons.{IsLent};
     ghost use Rattle.session_state.specs.Typed.{typed_run};
 
     // Tells that a text is no pattern.
@@ -51,7 +67,8 @@ impl Core {
 
     // Keeps the text of a limit for the status line.
     fn keep_limit(&mut self, asking: Asking, text: Line)
-        ensures core { plain_core self.new ≡ spec.limit_kept asking text.items (plain_core self.old) }
+        ensures core { plain_core self.new
+            ≡ spec.limit_kept asking text.items (plain_core self.old) }
         ensures view { self.new.desk.view ≡ self.old.desk.view }
     {
         if let Asking::Limit = asking {
@@ -96,7 +113,8 @@ impl Core {
             (ground_of (map plain_letter archive.now.items) later window moment.0)
             asking text.items (plain_core self.old)) self.new) }
     {
-        match read_at(self.desk.alloc, &text, window, moment, verdicts)? {
+        let time = instant(window, moment);
+        match read_at(self.desk.alloc, &text, time, verdicts)? {
             Some(pattern) => self.take_pattern(archive, asking, text, pattern),
             None => self.refuse_pattern(&text),
         }
@@ -134,22 +152,27 @@ impl Core {
     {
         match asking {
             Asking::Limit if is_no_limit(text.as_slice()) => self.drop_limit(archive),
-            Asking::Command => self.command(archive, verdicts, &text),
+            Asking::Command => self.command(window, moment, archive, verdicts, &text),
             _ => self.read_text(window, moment, archive, verdicts, asking, text),
         }
     }
 
     // Runs the commands that were typed.
-    fn run_typed(&mut self, verdicts: &mut Verdicts, text: &Line) -> Result<(), NoMemory>
-        requires { IsLent verdicts.old.kept }
+    fn run_typed(
+        &mut self,
+        time: Instant,
+        verdicts: &mut Verdicts,
+        text: &Line,
+    ) -> Result<(), NoMemory>
+        requires { IsInstant time }
         ensures keeps { Keeps verdicts.old.kept verdicts.new.kept }
         ensures core { OnOk result ((later : List PlainJudged) → Keeps verdicts.new.kept later
             → plain_core self.new ≡ spec.told
-            (typed_run later None (lines_of text.now.items) (plain_core self.old).rules)
+            (typed_run time later None (lines_of text.now.items) (plain_core self.old).rules)
             (plain_core self.old)) }
         ensures view { self.new.desk.view ≡ self.old.desk.view }
     {
-        match self.rules.run_typed(verdicts, text.as_slice())? {
+        match self.rules.run_typed(time, verdicts, text.as_slice())? {
             None => Ok(()),
             Some(line) => {
                 self.desk.message = Message::Text(line);
@@ -161,18 +184,22 @@ impl Core {
     // Does what commands do that were typed.
     fn command(
         &mut self,
+        window: Window,
+        moment: Moment,
         archive: &Archive,
         verdicts: &mut Verdicts,
         text: &Line,
     ) -> Result<(), NoMemory>
+        requires window { IsWindow window }
+        requires moment { IsMoment moment.0 }
         requires is_of { IsOf (map plain_letter archive.now.items) self.old.desk.view }
         ensures keeps { Keeps verdicts.old.kept verdicts.new.kept }
         ensures core { OnOk result ((later : List PlainJudged) → Keeps verdicts.new.kept later
             → Stands (map plain_letter archive.now.items) (spec.commanded
-            (given_of (map plain_letter archive.now.items) later) text.now.items
+            (ground_of (map plain_letter archive.now.items) later window moment.0) text.now.items
             (plain_core self.old)) self.new) }
     {
-        self.run_typed(verdicts, text)?;
+        self.run_typed(instant(window, moment), verdicts, text)?;
         self.learn(archive)?;
         self.tune(archive)
     }

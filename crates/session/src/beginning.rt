@@ -1,16 +1,12 @@
 //! How a session begins.
 
-ghost use Rattle.std.specs.Prelude.{◌≡◌};
-ghost use Rattle.session.specs.Beginning as spec;
-ghost use Rattle.session_events.specs.Events.{plain_event};
-ghost use Rattle.session_events.specs.Opening as opening;
-
 use crate::session_type::Session;
 use disk_model::Device;
-use folder_core::{Archive, Drivers, ScanError};
+use folder_core::{Archive, Drivers};
 use mail_base::{Bytes, Lines, NoMemory, Words};
-use session_events::{Event, OpenFault, Setup, StartError, Trace, open_event};
-use session_state::text_of;
+use session_events::{Event, Setup, StartError, Trace, open_event};
+use session_screen::{folder_path as path_in, new_kind as kind_in, text_of};
+use session_state::Moment;
 use std::alloc::Global;
 
 impl Session {
@@ -21,13 +17,14 @@ impl Session {
     ghost use Rattle.patterns.specs.Causes.{Keeps};
     ghost use Rattle.folder_core.specs.Letters.{plain_letter};
     ghost use Rattle.session_state.specs.Frames.{plain_frames};
-    ghost use Rattle.session_state.specs.Places.{folder_path, new_kind};
+    ghost use Rattle.session_screen.specs.Places.{folder_path, new_kind};
     ghost use Rattle.session_state.specs.declared.stage.Stage.TheVariants.{Unopened};
     ghost use Rattle.session.specs.Beginning.{AnswersNames, Fails, Starts};
     ghost use Rattle.session_events.specs.Events.{plain_event, plain_events};
     ghost use Rattle.session.specs.Core.{IsEmpty};
-    ghost use Rattle.session_state.specs.Window.{IsMoment, IsWindow};
-    ghost use Rattle.session.specs.Fitting.{Fits};
+    ghost use Rattle.session_screen.specs.Window.{IsWindow};
+    ghost use Rattle.session_state.specs.Instants.{IsMoment};
+    ghost use Rattle.session.specs.Fitting.{CanRead, Fits};
     ghost use Rattle.session.specs.Given.{Given, IsGiven};
     ghost use Rattle.session_events.specs.Opening.{OpensPath};
     ghost use Rattle.session.specs.Runs.{State, plain_session};
@@ -54,19 +51,19 @@ impl Session {
         ensures ok { IfOk result (λ session. (given : Given)
             → IsGiven (map plain_letter trace.new.archive.items) trace.new.verdicts.kept given
             → Starts (λ kind. Any (λ d. sort (d.vtable, d.value) ≡ kind) drivers.now.list.items)
-            given (first_state (plain_setup setup)) moment
+            given (first_state (plain_setup setup) moment) moment
             (plain_events trace.new.events.items) (plain_session session trace.new.notes)
             (seen (dev.old.disk.vtable, dev.old.disk.value))
             (seen (dev.new.disk.vtable, dev.new.disk.value))) }
         ensures err { IfErr result (λ why. (given : Given)
             → IsGiven (map plain_letter trace.new.archive.items) trace.new.verdicts.kept given
             → Fails (λ kind. Any (λ d. sort (d.vtable, d.value) ≡ kind) drivers.now.list.items)
-            given (first_state (plain_setup setup)) moment
+            given (first_state (plain_setup setup) moment) moment
             why (plain_texts trace.new.notes) (plain_events trace.new.events.items)
             (seen (dev.old.disk.vtable, dev.old.disk.value))
             (seen (dev.new.disk.vtable, dev.new.disk.value))) }
     {
-        let mut session = Session::first(alloc, setup)?;
+        let mut session = Session::first(alloc, setup, Moment(moment))?;
         session.begin(dev, drivers, moment, trace)?;
         Ok(session)
     }
@@ -77,24 +74,26 @@ impl Session {
         alloc: Global,
         setup: Setup,
         names: &Words,
+        moment: i64,
         dev: &mut Device,
         trace: &mut Trace,
     ) -> Result<Lines, NoMemory>
         requires events { trace.old.events.items ≡ [] }
         requires notes { trace.old.notes.items ≡ [] }
         requires window { IsWindow (plain_setup setup).window }
+        requires moment { IsMoment moment }
         ensures ok { IfOk result (λ lines. (given : Given)
             → Keeps trace.new.verdicts.kept given.verdicts
-            → AnswersNames given (first_state (plain_setup setup))
+            → AnswersNames given (first_state (plain_setup setup) moment)
             (plain_events trace.new.events.items) (plain_texts names.now) (plain_texts lines)
             (plain_texts trace.new.notes)) }
-        ensures sources { SourcesOff trace.new.verdicts.kept (first_state (plain_setup setup))
+        ensures sources { SourcesOff trace.new.verdicts.kept (first_state (plain_setup setup) moment)
             (plain_events trace.new.events.items)
             (seen (dev.old.disk.vtable, dev.old.disk.value))
             (seen (dev.new.disk.vtable, dev.new.disk.value)) }
         ensures archive { trace.new.archive ≡ trace.old.archive }
     {
-        let mut session = Session::first(alloc, setup)?;
+        let mut session = Session::first(alloc, setup, Moment(moment))?;
         session.answer(names, dev, trace)
     }
 
@@ -108,7 +107,7 @@ impl Session {
     ) -> Result<(), StartError>
         requires unopened { self.old.stage ≡ Unopened }
         requires archive { trace.old.archive.items ≡ [] }
-        requires window { IsWindow self.old.window }
+        requires fits { CanRead self.old }
         requires moment { IsMoment moment }
         requires empty { IsEmpty self.old.core.desk.view }
         ensures fits { OnOk result (Fits (map plain_letter trace.new.archive.items) self.new) }
@@ -145,7 +144,7 @@ impl Session {
         trace: &mut Trace,
     ) -> Result<Lines, NoMemory>
         requires unopened { self.old.stage ≡ Unopened }
-        requires window { IsWindow self.old.window }
+        requires fits { CanRead self.old }
         ensures ok { IfOk result (λ lines. (first : State) → (before : Seen)
             → Sources trace.old.verdicts.kept first (plain_events trace.old.events.items)
             (plain_session self.old trace.old.notes) before
@@ -177,7 +176,7 @@ impl Session {
         requires unopened { self.old.stage ≡ Unopened }
         requires read { plain_frames self.old.frames ≡ [] }
         requires archive { trace.old.archive.items ≡ [] }
-        requires window { IsWindow self.old.window }
+        requires fits { CanRead self.old }
         requires moment { IsMoment moment }
         requires empty { IsEmpty self.old.core.desk.view }
         ensures fits { OnOk result (Fits (map plain_letter trace.new.archive.items) self.new) }
@@ -204,11 +203,11 @@ impl Session {
     {
         trace.events.reserve(1)?;
         let event = self.look(dev, drivers, moment, &mut trace.archive)?;
-        let refusal = refusal_of(&event);
+        let refusal = event.refusal();
         self.happen(event, trace)?;
         match refusal {
             None => Ok(()),
-            Some(why) => Err(start_error(why)),
+            Some(why) => Err(StartError::of(why)),
         }
     }
 
@@ -232,9 +231,10 @@ impl Session {
         ensures err { OnErr result ((seen (dev.new.disk.vtable, dev.new.disk.value)
             ≡ seen (dev.old.disk.vtable, dev.old.disk.value)) × (archive.new ≡ archive.old)) }
     {
-        let path = self.core.rules.folder_path(self.alloc, self.named_path())?;
+        let settings = self.core.rules.settings();
+        let path = path_in(self.alloc, settings, self.named_path())?;
         let name = Bytes::copy_of(self.alloc, path.as_slice())?;
-        let empty = self.core.rules.new_kind();
+        let empty = kind_in(settings);
         let path = text_of(&path);
         Ok(open_event(self.alloc, dev, drivers, empty, path, name, moment, archive))
     }
@@ -247,25 +247,5 @@ impl Session {
             Some(path) => Some(path.as_slice()),
             None => None,
         }
-    }
-}
-
-// Why the folder was not opened.
-fn refusal_of(event: &Event) -> Option<OpenFault>
-    ensures { result ≡ opening.refusal_of (plain_event event.now) }
-{
-    match event {
-        Event::NotOpened { why, .. } => Some(*why),
-        _ => None,
-    }
-}
-
-fn start_error(why: OpenFault) -> StartError
-    ensures { result ≡ spec.start_error why }
-{
-    match why {
-        OpenFault::Folder(ScanError::Fault) => StartError::DiskFault,
-        OpenFault::Folder(ScanError::NoMemory) => StartError::NoMemory,
-        why => StartError::NotOpened(why),
     }
 }

@@ -5,7 +5,8 @@ use mail_base::{Line, NoMemory};
 use patterns_match::Scores;
 use people::People;
 use session_index::{Desk, Message, Wanted};
-use session_state::{Rules, options_of};
+use session_screen::options_of;
+use session_state::Rules;
 use std::alloc::Global;
 
 /// What keys act on: what muttrc has set, the index, and the text of its limit.

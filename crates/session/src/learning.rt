@@ -1,9 +1,32 @@
 //! How the index learns what commands tell it.
 
+ghost use Rattle.std.specs.Prelude.{map, OnOk};
+ghost use Rattle.folder_core.specs.Letters.{plain_letter};
+ghost use Rattle.index_view.specs.View.{IsOf};
+ghost use Rattle.patterns_match.specs.ScoreEntries.{held_entry};
+ghost use Rattle.session.specs.Answers as spec;
+ghost use Rattle.session_index.specs.Index.{Shows, index_of};
+ghost use Rattle.session_state.specs.Lessons.{Scored};
+
 use crate::core_state::Core;
 use folder_core::Archive;
+use index_view::View;
 use mail_base::NoMemory;
+use patterns_match::ScoreEntry;
 use session_state::Lesson;
+
+// Adds an entry, for which the command that tells it has seen that there is room.
+fn add_score(view: &mut View, archive: &Archive, entry: ScoreEntry) -> Result<(), NoMemory>
+    requires { IsOf (map plain_letter archive.now.items) view.old }
+    ensures { OnOk result (Shows (map plain_letter archive.now.items)
+        (spec.with_lesson (map plain_letter archive.now.items) (Scored (held_entry entry))
+        (index_of view.old)) view.new) }
+{
+    match view.add_score(archive, entry.pattern, entry.value, entry.last) {
+        Ok(()) => Ok(()),
+        Err(_) => Err(NoMemory),
+    }
+}
 
 impl Core {
     ghost use Rattle.std.specs.Prelude.{◌≡◌, map, OnOk};
@@ -28,6 +51,8 @@ impl Core {
         match lesson {
             Lesson::Person(table, expr) => view.add_person(archive, table, expr),
             Lesson::Named(name, value) => view.add_alias(name.as_slice(), value.as_slice()),
+            Lesson::Scored(entry) => add_score(view, archive, entry),
+            Lesson::Kept(keeps) => view.keep_scores(archive, keeps.as_slice()),
         }
     }
 

@@ -3,12 +3,13 @@
 ghost use Rattle.std.specs.Prelude.{◌≡◌};
 ghost use Rattle.session_events.specs.Events.{KeyPressed, plain_event};
 
-use crate::screen::{Place, screen_lines};
+use crate::screen::screen_lines;
 use crate::session_type::Session;
 use folder_core::Drivers;
 use keymap::Key;
 use mail_base::{Lines, NoMemory};
 use session_events::{Event, Next, Trace};
+use session_screen::Place;
 use session_state::Stage;
 use std::alloc::Global;
 
@@ -19,7 +20,7 @@ impl Session {
     ghost use Rattle.mail_base.specs.Series.{plain_texts};
     ghost use Rattle.session_events.specs.Events.{KeyPressed, plain_events};
     ghost use Rattle.patterns.specs.Causes.{Keeps};
-    ghost use Rattle.session_state.specs.Window.{IsMoment};
+    ghost use Rattle.session_state.specs.Instants.{IsMoment};
     ghost use Rattle.session.specs.Fitting.{Fits};
     ghost use Rattle.session.specs.Given.{Given, IsGiven};
     ghost use Rattle.session.specs.Runs.{State, plain_session, pushed as pushed_on, screen_in};

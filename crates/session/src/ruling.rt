@@ -3,11 +3,11 @@
 use crate::core_state::Core;
 use rc_lang::Variable;
 use session_index::Rule;
-use session_state::{Window, is_set};
+use session_screen::{Window, is_set};
 
 impl Core {
     ghost use Rattle.std.specs.Prelude.{◌≡◌, ◌<◌};
-    ghost use Rattle.session_state.specs.Window.{IsWindow};
+    ghost use Rattle.session_screen.specs.Window.{IsWindow};
     ghost use Rattle.session.specs.Rules as spec;
 
     /// What the settings and the window say of functions.

@@ -1,41 +1,20 @@
 //! The screen: the page of the index that holds the cursor, the status line and the last line.
 
-ghost use Rattle.std.specs.Prelude.{◌≡◌, ◌==◌, not, length, map, IfOk, true};
+ghost use Rattle.std.specs.Prelude.{◌≡◌, length, map, IfOk};
 ghost use Rattle.folder_core.specs.Letters.{plain_letter};
-ghost use Rattle.index_items.specs.Changes.{changes_of};
 ghost use Rattle.index_view.specs.View.{IsOf};
 ghost use Rattle.mail_base.specs.Series.{plain_texts};
 ghost use Rattle.session.specs.Core.{plain_core};
-ghost use Rattle.session_state.specs.Window.{IsWindow};
 ghost use Rattle.session.specs.Screen as spec;
 ghost use Rattle.session_index.specs.Desk.{message_text as text_of_message};
-ghost use Rattle.session_index.specs.Status.{plain_banner};
+ghost use Rattle.session_screen.specs.Window.{IsWindow};
 
 use crate::core_state::Core;
 use folder_core::Archive;
-use index_rows::status_line as status_row;
-use index_view::View;
-use mail_base::{Kind, Line, Lines, NoMemory};
-use rc_lang::{ROW_LETTERS, STATUS_LETTERS, Variable};
-use session_index::{Banner, Message, count_shown, summary};
-use session_state::{Window, cut, format_in, text_of};
+use mail_base::{Line, Lines, NoMemory};
+use session_index::Message;
+use session_screen::{Banner, Place, Window, cut, page_lines, status_line, text_of};
 use std::alloc::Global;
-
-/// The folder that is open.
-#[derive(Clone, Copy)]
-pub struct Place<'a> {
-    pub path: &'a [u8],
-    pub kind: Kind,
-}
-
-// Whether a sync that purges has something to do.
-fn is_changed(alloc: Global, view: &View, kind: Kind) -> Result<bool, NoMemory>
-    ensures { IfOk result (λ changed. changed
-        ≡ not (length (changes_of kind true view.now.items) == 0)) }
-{
-    let changes = view.changes(alloc, kind, true)?;
-    Ok(changes.len() != 0)
-}
 
 // The text of the last line where no prompt stands.
 fn message_text(message: &Message) -> &str
@@ -61,57 +40,12 @@ fn last_line(alloc: Global, core: &Core, cols: usize) -> Result<Line, NoMemory>
     }
 }
 
-fn page_lines(
-    alloc: Global,
-    archive: &Archive,
-    core: &Core,
-    window: Window,
-) -> Result<Lines, NoMemory>
-    requires window { IsWindow window }
-    requires is_of { IsOf (map plain_letter archive.now.items) core.now.desk.view }
-    ensures { IfOk result (λ lines. plain_texts lines ≡ spec.page_lines
-        (map plain_letter archive.now.items) window (plain_core core.now)) }
-{
-    let settings = core.rules.settings();
-    let format = format_in(alloc, ROW_LETTERS, settings, Variable::IndexFormat)?;
-    let to_chars = settings.text(Variable::ToChars);
-    let Window { rows, cols, offset } = window;
-    core.desk
-        .view
-        .lines(alloc, archive, &format, to_chars, offset, rows - 2, cols)
-}
-
-fn status_line(
-    alloc: Global,
-    archive: &Archive,
-    core: &Core,
-    window: Window,
-    place: Place<'_>,
-) -> Result<Line, NoMemory>
-    requires window { IsWindow window }
-    requires is_of { IsOf (map plain_letter archive.now.items) core.now.desk.view }
-    ensures { IfOk result (λ line. line.items ≡ spec.status_line
-        (map plain_letter archive.now.items) window (spec.plain_place place.entry)
-        (plain_core core.now)) }
-{
-    let settings = core.rules.settings();
-    let format = format_in(alloc, STATUS_LETTERS, settings, Variable::StatusFormat)?;
-    let banner = Banner {
-        path: place.path,
-        read_only: core.desk.read_only,
-        changed: is_changed(alloc, &core.desk.view, place.kind)?,
-        limit: core.limit_text(),
-        sort: settings.text(Variable::Sort),
-        sort_aux: settings.text(Variable::SortAux),
-    };
-    let counts = count_shown(&core.desk.view);
-    let summary = summary(&core.desk.view, counts, window.rows as usize - 2, banner);
-    status_row(alloc, &format, &summary, window.cols)
-}
-
 impl Core {
-    ghost use Rattle.std.specs.Prelude.{◌≡◌, option_map};
+    ghost use Rattle.std.specs.Prelude.{◌≡◌, option_map, IfOk};
+    ghost use Rattle.folder_core.specs.Letters.{plain_letter};
     ghost use Rattle.session.specs.Core.{plain_core};
+    ghost use Rattle.session.specs.Screen as spec;
+    ghost use Rattle.session_screen.specs.Status.{plain_banner};
 
     // The text of the limit.
     fn limit_text(&self) -> Option<&[u8]>
@@ -122,10 +56,22 @@ impl Core {
             None => None,
         }
     }
+
+    // What the status line shows beside the index and the settings.
+    fn banner<'a>(&'a self, place: Place<'a>) -> Banner<'a>
+        ensures { plain_banner result
+            ≡ spec.banner_of (spec.plain_place place.entry) (plain_core self.now) }
+    {
+        Banner {
+            place,
+            read_only: self.desk.read_only,
+            limit: self.limit_text(),
+        }
+    }
 }
 
 /// The lines of a screen, exactly as many as the window has rows.
-#[tactic(auto, using(crate::proofs::ShownLemmas::screen_rows), unfolding(crate::specs::Screen::screen))]
+#[tactic(auto, using(crate::proofs::ShownLemmas::screen_rows))]
 pub fn screen_lines(
     alloc: Global,
     archive: &Archive,
@@ -141,8 +87,10 @@ pub fn screen_lines(
     ensures rows { length (spec.screen (map plain_letter archive.now.items) window
         (spec.plain_place place.entry) (plain_core core.now)) ≡ window.rows }
 {
-    let mut lines = page_lines(alloc, archive, core, window)?;
-    lines.push(status_line(alloc, archive, core, window, place)?)?;
+    let view = &core.desk.view;
+    let settings = core.rules.settings();
+    let mut lines = page_lines(alloc, archive, view, settings, window)?;
+    lines.push(status_line(alloc, view, settings, window, core.banner(place))?)?;
     lines.push(last_line(alloc, core, window.cols as usize)?)?;
     Ok(lines)
 }

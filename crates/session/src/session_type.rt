@@ -1,8 +1,5 @@
 //! A session, and how it takes in what happened.
 
-ghost use Rattle.std.specs.Prelude.{◌≡◌};
-ghost use Rattle.session.specs.Runs as spec;
-
 use crate::core_state::Core;
 use crate::turn::settle;
 use disk_model::DiskError;
@@ -10,10 +7,10 @@ use folder_core::{Archive, Listing};
 use keymap::{Key, KeyQueue};
 use mail_base::{Bytes, Kind, Line, Lines, NoMemory};
 use people::Verdicts;
-use rc_lang::RcFault;
 use session_events::{Event, Trace};
 use session_index::Message;
-use session_state::{Frame, Moment, Stage, Window, read_first, skip_first};
+use session_screen::Window;
+use session_state::{Frame, Instant, Moment, Stage, read_first, skip_first};
 use std::alloc::Global;
 
 /// What a run stands on between its events.
@@ -28,7 +25,7 @@ pub struct Session {
     pub path: Bytes,
     pub kind: Kind,
     pub listing: Listing,
-    /// The moment of the folder's last check, its opening at first.
+    /// The moment of the folder's last check: its opening at first, and before that the start.
     pub checked: Moment,
     pub named: Option<Bytes>,
 }
@@ -41,13 +38,14 @@ impl Session {
     ghost use Rattle.index_view.specs.View.{IsOf};
     ghost use Rattle.patterns.specs.Causes.{Keeps};
     ghost use Rattle.people.specs.Judged.{PlainJudged};
-    ghost use Rattle.session_state.specs.Lessons.{IsLent};
+    ghost use Rattle.session_state.specs.Instants.{IsInstant};
     ghost use Rattle.session_events.specs.Events.{plain_event, plain_events};
     ghost use Rattle.session_events.specs.Happened.{IsFresh};
     ghost use Rattle.session_events.specs.Wishes as wish;
-    ghost use Rattle.session.specs.Core.{IsEmpty};
-    ghost use Rattle.session_state.specs.Window.{IsMoment, IsWindow};
-    ghost use Rattle.session.specs.Fitting.{CanTake, IsLeft};
+    ghost use Rattle.session.specs.Core.{IsEmpty, instant_of};
+    ghost use Rattle.session_screen.specs.Window.{IsWindow};
+    ghost use Rattle.session_state.specs.Instants.{IsMoment};
+    ghost use Rattle.session.specs.Fitting.{CanRead, CanTake, IsLeft};
     ghost use Rattle.session.specs.Given.{Given, IsGiven};
     ghost use Rattle.session.specs.Runs.{State};
     ghost use Rattle.session_state.specs.Frames.{plain_frames};
@@ -62,7 +60,7 @@ impl Session {
         notes: &mut Lines,
         event: &Event,
     ) -> Result<(), NoMemory>
-        requires window { IsWindow self.old.window }
+        requires read { CanRead self.old }
         requires fits { CanTake (map plain_letter archive.now.items) self.old.core.desk.view
             (plain_event event.now) }
         ensures arrived { OnOk result ((given : Given)
@@ -98,7 +96,7 @@ impl Session {
     /// Puts what happened into the trace, and takes it in.
     pub fn happen(&mut self, event: Event, trace: &mut Trace) -> Result<(), NoMemory>
         requires room { 0 < trace.old.events.room }
-        requires window { IsWindow self.old.window }
+        requires read { CanRead self.old }
         requires fits { CanTake (map plain_letter trace.old.archive.items)
             self.old.core.desk.view (plain_event event) }
         ensures events { plain_events trace.new.events.items
@@ -138,22 +136,38 @@ impl Session {
         notes: &mut Lines,
         text: &[u8],
     ) -> Result<(), NoMemory>
-        requires { IsLent verdicts.old.kept }
+        requires { CanRead self.old }
         ensures read { OnOk result ((later : List PlainJudged) → Keeps verdicts.new.kept later
             → spec.plain_session self.new notes.new
             ≡ spec.read_in later text.now (spec.plain_session self.old notes.old)) }
         ensures kept { Keeps verdicts.old.kept verdicts.new.kept }
         ensures view { self.new.core.desk.view ≡ self.old.core.desk.view }
         ensures window { self.new.window ≡ self.old.window }
+        ensures checked { self.new.checked ≡ self.old.checked }
     {
+        let start = self.reading_time();
+        let rules = &mut self.core.rules;
         read_first(
             self.alloc,
-            &mut self.core.rules,
+            rules,
+            start,
             verdicts,
             &mut self.frames,
             notes,
             text,
         )
+    }
+
+    // The moment at which files of commands are read.
+    fn reading_time(&self) -> Instant
+        requires { CanRead self.now }
+        ensures time { result ≡ instant_of self.now.window self.now.checked.0 }
+        ensures is { IsInstant result }
+    {
+        Instant {
+            seconds: self.checked.0,
+            offset: self.window.offset,
+        }
     }
 
     fn skip(
@@ -162,19 +176,26 @@ impl Session {
         notes: &mut Lines,
         why: DiskError,
     ) -> Result<(), NoMemory>
-        requires { IsLent verdicts.old.kept }
+        requires { CanRead self.old }
         ensures skipped { OnOk result ((later : List PlainJudged) → Keeps verdicts.new.kept later
             → spec.plain_session self.new notes.new
             ≡ spec.skipped later why (spec.plain_session self.old notes.old)) }
         ensures kept { Keeps verdicts.old.kept verdicts.new.kept }
         ensures view { self.new.core.desk.view ≡ self.old.core.desk.view }
         ensures window { self.new.window ≡ self.old.window }
+        ensures checked { self.new.checked ≡ self.old.checked }
     {
-        let missing = is_missing(why);
-        let fault = read_fault(why);
+        let start = self.reading_time();
         let rules = &mut self.core.rules;
-        let frames = &mut self.frames;
-        skip_first(self.alloc, rules, verdicts, frames, notes, missing, fault)
+        skip_first(
+            self.alloc,
+            rules,
+            start,
+            verdicts,
+            &mut self.frames,
+            notes,
+            why,
+        )
     }
 
     /// A key was taken: the message line is empty.
@@ -289,20 +310,5 @@ impl Session {
         self.queue = KeyQueue::new(self.alloc);
         self.core.rules.put_into(&mut self.queue)?;
         self.settle_at(self.checked, archive, verdicts)
-    }
-}
-
-fn is_missing(why: DiskError) -> bool
-    ensures { result ≡ spec.is_missing why }
-{
-    matches!(why, DiskError::Missing)
-}
-
-fn read_fault(why: DiskError) -> RcFault
-    ensures { result ≡ spec.read_fault why }
-{
-    match why {
-        DiskError::NoMemory => RcFault::NoMemory,
-        _ => RcFault::NotRead,
     }
 }

@@ -4,14 +4,14 @@ use crate::session_type::Session;
 use disk_model::Device;
 use mail_base::{Bytes, NoMemory};
 use session_events::{Event, Trace, source_event};
-use session_state::text_of;
+use session_screen::text_of;
 
 impl Session {
     ghost use Rattle.std.specs.Prelude.{◌≡◌, [], false};
     ghost use Rattle.std.specs.Prelude.{IfOk, IfSome, MatchOption, OnOk};
     ghost use Rattle.disk_model.specs.Seen.{Seen};
     ghost use Rattle.patterns.specs.Causes.{Keeps};
-    ghost use Rattle.session_state.specs.Window.{IsWindow};
+    ghost use Rattle.session.specs.Fitting.{CanRead};
     ghost use Rattle.session.specs.Runs.{State, first_wish, plain_session};
     ghost use Rattle.session_events.specs.Wishes.{answered};
     ghost use Rattle.session_events.specs.Events.{plain_event, plain_events};
@@ -42,7 +42,7 @@ impl Session {
     /// Reads all files of commands, each with those that it names.
     pub fn source_all(&mut self, dev: &mut Device, trace: &mut Trace) -> Result<(), NoMemory>
         requires unopened { self.old.stage ≡ Unopened }
-        requires window { IsWindow self.old.window }
+        requires fits { CanRead self.old }
         ensures sources { OnOk result ((first : State) → (before : Seen)
             → Sources trace.old.verdicts.kept first (plain_events trace.old.events.items)
             (plain_session self.old trace.old.notes) before
@@ -59,6 +59,7 @@ impl Session {
         ensures unopened { OnOk result (self.new.stage ≡ Unopened) }
         ensures read { OnOk result (plain_frames self.new.frames ≡ []) }
         ensures view { OnOk result (self.new.core.desk.view ≡ self.old.core.desk.view) }
+        ensures fits { OnOk result (CanRead self.new) }
         ensures window { self.new.window ≡ self.old.window }
         ensures archive { trace.new.archive ≡ trace.old.archive }
         ensures kept { Keeps trace.old.verdicts.kept trace.new.verdicts.kept }
@@ -75,7 +76,7 @@ impl Session {
     // Reads the file of commands that is wished and takes it in, if there is one.
     fn source_next(&mut self, dev: &mut Device, trace: &mut Trace) -> Result<bool, NoMemory>
         requires unopened { self.old.stage ≡ Unopened }
-        requires window { IsWindow self.old.window }
+        requires fits { CanRead self.old }
         ensures sources { OnOk result ((first : State) → (before : Seen)
             → Sources trace.old.verdicts.kept first (plain_events trace.old.events.items)
             (plain_session self.old trace.old.notes) before
@@ -92,6 +93,7 @@ impl Session {
         ensures unopened { OnOk result (self.new.stage ≡ Unopened) }
         ensures read { IfOk result (λ more. more ≡ false → plain_frames self.new.frames ≡ []) }
         ensures view { OnOk result (self.new.core.desk.view ≡ self.old.core.desk.view) }
+        ensures fits { OnOk result (CanRead self.new) }
         ensures window { self.new.window ≡ self.old.window }
         ensures archive { trace.new.archive ≡ trace.old.archive }
         ensures kept { Keeps trace.old.verdicts.kept trace.new.verdicts.kept }

@@ -6,7 +6,8 @@ use folder_core::Listing;
 use keymap::KeyQueue;
 use mail_base::{Bytes, Kind, NoMemory};
 use session_events::Setup;
-use session_state::{Moment, Stage, Window, first_frames};
+use session_screen::Window;
+use session_state::{Moment, Stage, first_frames};
 use std::alloc::Global;
 
 impl Session {
@@ -17,9 +18,9 @@ impl Session {
     ghost use Rattle.session.specs.Starting.{first_state, plain_setup};
 
     /// What a session stands on before anything happened.
-    pub fn first(alloc: Global, setup: Setup) -> Result<Session, NoMemory>
+    pub fn first(alloc: Global, setup: Setup, moment: Moment) -> Result<Session, NoMemory>
         ensures state { IfOk result (λ session. (notes : Held (Held ℕ)) → notes.items ≡ []
-            → plain_session session notes ≡ first_state (plain_setup setup)) }
+            → plain_session session notes ≡ first_state (plain_setup setup) moment.0) }
         ensures empty { IfOk result (λ session. IsEmpty session.core.desk.view) }
     {
         let commands = setup.commands.as_slice();
@@ -38,7 +39,7 @@ impl Session {
             path: Bytes::new(alloc),
             kind: Kind::Mbox,
             listing: Listing::new(alloc),
-            checked: Moment(0),
+            checked: moment,
             named: setup.path,
         })
     }

@@ -8,7 +8,8 @@ ghost use Rattle.keymap.specs.Queue.{most_replacements};
 ghost use Rattle.people.specs.Judged.{PlainJudged};
 ghost use Rattle.session_index.specs.Desk.{plain_wanted};
 ghost use Rattle.session.specs.Core.{ground_of, plain_core};
-ghost use Rattle.session_state.specs.Window.{IsMoment, IsWindow};
+ghost use Rattle.session_screen.specs.Window.{IsWindow};
+ghost use Rattle.session_state.specs.Instants.{IsMoment};
 ghost use Rattle.patterns.specs.Causes.{Keeps};
 ghost use Rattle.session.specs.Keys.{Steps, fuel, settled, turn_of};
 ghost use Rattle.session.specs.Keys.{stage_after as stage_after_press};
@@ -19,7 +20,8 @@ use keymap::{KeyQueue, Press};
 use mail_base::NoMemory;
 use people::Verdicts;
 use session_index::Wanted;
-use session_state::{Moment, Stage, Window};
+use session_screen::Window;
+use session_state::{Moment, Stage};
 
 /// Lets the keys that wait act, until none waits or something is wanted, and tells what comes then.
 pub fn settle(

@@ -12,7 +12,11 @@ use Rattle.session_events.specs.Events.{FolderRefused}
 use Rattle.session_events.specs.Happened.{IsCause, IsFresh, IsListed, WasOpened, WasRefused}
 use Rattle.session_events.specs.Wishes.{Open, answered}
 use Rattle.session_events.specs.Telling.{Tells}
+use Rattle.folder_core.specs.declared.error.ScanError.TheVariants.{Fault, NoMemory}
 use Rattle.session_events.specs.declared.event.OpenFault.{OpenFault}
+use Rattle.session_events.specs.declared.event.OpenFault.TheVariants.{Folder}
+use Rattle.session_events.specs.declared.setup.StartError.{StartError}
+use Rattle.session_events.specs.declared.setup.StartError.TheVariants as error
 use Rattle.session_events.specs.declared.opening.Opened.{Opened}
 
 -- what was read at a path, or why not, as the journal shows it
@@ -57,3 +61,11 @@ pub record OpensPath (Has : Kind → Type 0) (empty : Kind) (path : List ℕ) (m
   pub answers : answered event ≡ Open path
   pub listed : IsListed letters event
   pub opening : IsOpening moment event
+
+-- For the code alone.
+
+-- how a start ends with this cause
+abbrev pub start_error : OpenFault → StartError
+start_error (Folder Fault) = error.DiskFault
+start_error (Folder NoMemory) = error.NoMemory
+start_error why = error.NotOpened why

@@ -57,6 +57,22 @@ pub enum Event {
     },
 }
 
+impl Event {
+    ghost use Rattle.std.specs.Prelude.{◌≡◌};
+    ghost use Rattle.session_events.specs.Events.{plain_event};
+    ghost use Rattle.session_events.specs.Opening.{refusal_of};
+
+    /// Why the folder was not opened, where it was not.
+    pub fn refusal(&self) -> Option<OpenFault>
+        ensures { result ≡ refusal_of (plain_event self.now) }
+    {
+        match self {
+            Event::NotOpened { why, .. } => Some(*why),
+            _ => None,
+        }
+    }
+}
+
 /// Events in their order.
 pub type Events = Series<Event>;
 

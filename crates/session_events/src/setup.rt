@@ -1,6 +1,7 @@
 //! What a session starts from.
 
 use crate::event::OpenFault;
+use folder_core::ScanError;
 use mail_base::{Bytes, Kind, NoMemory, Words};
 
 /// What the words of a command line say.
@@ -32,6 +33,22 @@ pub enum StartError {
     /// The disk failed in the opening.
     DiskFault,
     NoMemory,
+}
+
+impl StartError {
+    ghost use Rattle.std.specs.Prelude.{◌≡◌};
+    ghost use Rattle.session_events.specs.Opening.{start_error};
+
+    /// How a start ends without a folder, for this cause.
+    pub fn of(why: OpenFault) -> StartError
+        ensures { result ≡ start_error why }
+    {
+        match why {
+            OpenFault::Folder(ScanError::Fault) => StartError::DiskFault,
+            OpenFault::Folder(ScanError::NoMemory) => StartError::NoMemory,
+            why => StartError::NotOpened(why),
+        }
+    }
 }
 
 impl From<NoMemory> for StartError {

@@ -6,8 +6,6 @@ pub mod Folding
 pub mod Acts
 pub mod Meant
 pub mod Searching
-pub mod Counting
-pub mod Status
 pub mod Notices
 pub mod Functions
 pub mod Desk

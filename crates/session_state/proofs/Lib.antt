@@ -1,5 +1,3 @@
-mod Fitting
-mod Shape
 mod CommandsLemmas
 mod DateLemmas
 mod ReadingLemmas

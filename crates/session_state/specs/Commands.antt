@@ -26,12 +26,12 @@ use Rattle.rc_lang.specs.declared.command.Command.{Command}
 use Rattle.rc_lang.specs.declared.command.Command.TheVariants.{Set, Unset, Toggle, Reset, Bind}
 use Rattle.rc_lang.specs.declared.command.Command.TheVariants.{Macro, Push, Exec}
 use Rattle.rc_lang.specs.declared.command.Command.TheVariants.{Source, Lists, Subscribe}
-use Rattle.rc_lang.specs.declared.command.Command.TheVariants.{Alternates, Alias}
+use Rattle.rc_lang.specs.declared.command.Command.TheVariants.{Alternates, Alias, Score, Unscore}
 use Rattle.rc_lang_words.specs.Faults.{Fault, no_memory, plain_error}
 use Rattle.rc_lang_words.specs.Words.{PlainPiece}
 use Rattle.rc_lang_words.specs.declared.fault.RcError.{RcError}
 use Rattle.rc_lang_words.specs.declared.fault.RcFault.TheVariants.{BadKey, UnknownFunction}
-use Rattle.rc_lang_words.specs.declared.fault.RcFault.TheVariants.{UnknownMenu}
+use Rattle.rc_lang_words.specs.declared.fault.RcFault.TheVariants.{UnknownMenu, BadValue}
 use Rattle.session_state.specs.declared.commands.Answer.{Answer}
 use Rattle.session_state.specs.declared.commands.Answer.TheVariants as answer
 use Rattle.session_state.specs.declared.commands.Obeyed.{Obeyed}
@@ -40,8 +40,12 @@ use Rattle.session_state.specs.declared.request.BindRequest.{BindRequest}
 use Rattle.session_state.specs.declared.request.MacroRequest.{MacroRequest}
 use Rattle.people.specs.Judged.{PlainJudged}
 use Rattle.people.specs.declared.people.PeopleTable.TheVariants as table
-use Rattle.session_state.specs.Lessons.{Named, PlainLesson, joined, people_of}
+use Rattle.patterns_match.specs.Scores.{PlainEntry}
+use Rattle.session_state.specs.Lessons.{Kept, Named, PlainLesson, Scored, joined, people_of}
 use Rattle.session_state.specs.Rules.{PlainRules}
+use Rattle.session_state.specs.Scoring.{entry_of, keeps_of, kept_texts, value_of}
+use Rattle.session_state.specs.declared.instant.Instant.{Instant}
+use Rattle.session_state.specs.declared.scoring.ScoreValue.{ScoreValue}
 
 -- Words.
 
@@ -232,40 +236,66 @@ told_by (Err fault) rules = refused fault rules
 abbrev pub alias_of : List (List ℕ) → PlainLesson
 alias_of words = Named (word_at words 1) (joined (drop 2 words))
 
+-- an entry of scores is added
+abbrev pub with_entry : List ℕ → Result PlainEntry Fault → PlainRules → Ran
+with_entry text (Ok entry) rules = done (record rules {
+  scores = rules.scores ++ text ∷ [];
+  lessons = rules.lessons ++ Scored entry ∷ [];
+})
+with_entry text (Err fault) rules = refused fault rules
+
+-- a pattern scores a value, of which the word is this one; there are 4,096 entries at most
+abbrev pub scored_by : Instant → List PlainJudged → List ℕ → List ℕ → Option ScoreValue
+    → PlainRules → Ran
+scored_by time verdicts text word None rules = refused (fault_of BadValue word) rules
+scored_by time verdicts text word (Some value) rules =
+    if nat_le 4_096 (length rules.scores) then refused (fault_of BadValue word) rules
+    else with_entry text (entry_of time verdicts text value) rules
+
+-- the entries that these words name are taken away
+abbrev pub unscored_by : List (List ℕ) → PlainRules → Ran
+unscored_by words rules = done (record rules {
+  scores = kept_texts words rules.scores;
+  lessons = rules.lessons ++ Kept (keeps_of words rules.scores) ∷ [];
+})
+
 -- a command with the texts of its words, its own name first, by the verdicts on expressions; the
 -- others do nothing yet
-abbrev pub obeyed : List PlainJudged → Command → List (List ℕ) → PlainRules → Ran
-obeyed verdicts Set words rules = set_by (outcome rules.settings words) rules
-obeyed verdicts Unset words rules = set_by (outcome rules.settings words) rules
-obeyed verdicts Toggle words rules = set_by (outcome rules.settings words) rules
-obeyed verdicts Reset words rules = set_by (outcome rules.settings words) rules
-obeyed verdicts Bind words rules = bound_by (bind_of words) rules
-obeyed verdicts Macro words rules = replaced_by (macro_of words) rules
-obeyed verdicts Push words rules = put_by (text_of (word_at words 1)) rules
-obeyed verdicts Exec words rules = put_by (calls_of (drop 1 words)) rules
-obeyed verdicts Source words rules = sourcing (word_at words 1) rules
-obeyed verdicts Lists words rules = told_by (people_of verdicts table.Lists (drop 1 words)) rules
-obeyed verdicts Subscribe words rules =
+abbrev pub obeyed : Instant → List PlainJudged → Command → List (List ℕ) → PlainRules → Ran
+obeyed time verdicts Set words rules = set_by (outcome rules.settings words) rules
+obeyed time verdicts Unset words rules = set_by (outcome rules.settings words) rules
+obeyed time verdicts Toggle words rules = set_by (outcome rules.settings words) rules
+obeyed time verdicts Reset words rules = set_by (outcome rules.settings words) rules
+obeyed time verdicts Bind words rules = bound_by (bind_of words) rules
+obeyed time verdicts Macro words rules = replaced_by (macro_of words) rules
+obeyed time verdicts Push words rules = put_by (text_of (word_at words 1)) rules
+obeyed time verdicts Exec words rules = put_by (calls_of (drop 1 words)) rules
+obeyed time verdicts Source words rules = sourcing (word_at words 1) rules
+obeyed time verdicts Lists words rules = told_by (people_of verdicts table.Lists (drop 1 words)) rules
+obeyed time verdicts Subscribe words rules =
     told_by (people_of verdicts table.Subscribed (drop 1 words)) rules
-obeyed verdicts Alternates words rules =
+obeyed time verdicts Alternates words rules =
     told_by (people_of verdicts table.Mine (drop 1 words)) rules
-obeyed verdicts Alias words rules = told_by (Ok (alias_of words ∷ [])) rules
-obeyed verdicts _ words rules = done rules
+obeyed time verdicts Alias words rules = told_by (Ok (alias_of words ∷ [])) rules
+obeyed time verdicts Score words rules =
+    scored_by time verdicts (word_at words 1) (word_at words 2) (value_of (word_at words 2)) rules
+obeyed time verdicts Unscore words rules = unscored_by (drop 1 words) rules
+obeyed time verdicts _ words rules = done rules
 
-abbrev pub obeyed_texts : List PlainJudged → Command → PlainRules
+abbrev pub obeyed_texts : Instant → List PlainJudged → Command → PlainRules
     → Result (List (List ℕ)) Fault → Ran
-obeyed_texts verdicts command rules (Ok texts) = obeyed verdicts command texts rules
-obeyed_texts verdicts command rules (Err fault) = refused fault rules
+obeyed_texts time verdicts command rules (Ok texts) = obeyed time verdicts command texts rules
+obeyed_texts time verdicts command rules (Err fault) = refused fault rules
 
-abbrev pub obeyed_command : List PlainJudged → List (List PlainPiece) → PlainRules
+abbrev pub obeyed_command : Instant → List PlainJudged → List (List PlainPiece) → PlainRules
     → Result Command Fault → Ran
-obeyed_command verdicts words rules (Ok command) =
-    obeyed_texts verdicts command rules (expanded_words rules.settings words)
-obeyed_command verdicts words rules (Err fault) = refused fault rules
+obeyed_command time verdicts words rules (Ok command) =
+    obeyed_texts time verdicts command rules (expanded_words rules.settings words)
+obeyed_command time verdicts words rules (Err fault) = refused fault rules
 
 -- a command by its words as they are written
-unfoldable pub ran : List PlainJudged → List (List PlainPiece) → PlainRules → Ran
-ran verdicts words rules = obeyed_command verdicts words rules (command_of rules.settings words)
+unfoldable pub ran : Instant → List PlainJudged → List (List PlainPiece) → PlainRules → Ran
+ran time verdicts words rules = obeyed_command time verdicts words rules (command_of rules.settings words)
 
 -- For the code alone.
 

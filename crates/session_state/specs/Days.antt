@@ -17,7 +17,7 @@ use Rattle.people.specs.Judged.{PlainJudged}
 use Rattle.index_view.specs.Limit.{PlainLimit}
 use Rattle.patterns.specs.declared.pattern_error.PatternError.{PatternError}
 use Rattle.patterns.specs.declared.pattern_error.PatternError.TheVariants as error
-use Rattle.session_state.specs.declared.window.Window.{Window}
+use Rattle.session_state.specs.declared.instant.Instant.{Instant}
 
 -- the calendar has this day
 abbrev pub is_civil : ℤ → ℕ → ℕ → Bool
@@ -67,11 +67,11 @@ unfoldable pub reading : List PlainJudged → ℤ → ℤ → List ℕ → Optio
 reading verdicts moment offset text =
     reading_by verdicts (pattern_of (days_of (date_on (day_number moment offset))) text)
 
--- the same in the reader's offset
-abbrev pub reading_of : List PlainJudged → Window → ℤ → List ℕ → Option PlainLimit
-reading_of verdicts window moment text = option_map
-    (λ tree. record { tree = tree; offset = window.offset })
-    (reading verdicts moment window.offset text)
+-- the same, with the offset by which days are counted
+abbrev pub reading_of : List PlainJudged → Instant → List ℕ → Option PlainLimit
+reading_of verdicts time text = option_map
+    (λ tree. record { tree = tree; offset = time.offset })
+    (reading verdicts time.seconds time.offset text)
 
 -- For the code alone.
 

@@ -1,10 +1,12 @@
 -- Files of commands, each inside of the one that names it, and what they make of the rules.
-use Rattle.std.specs.Prelude.{◌+◌, ◌<◌, ℕ, Bool, false, List, [], ◌∷◌, ◌++◌, Option, Some, None}
+use Rattle.std.specs.Prelude.{◌+◌, ◌<◌, ℕ, Bool, false, List, [], ◌∷◌, ◌++◌, Option, Some, None, true}
 use Rattle.std.specs.Prelude.{Result}
 use Rattle.std.specs.Prelude.{Ok, Err}
 use Rattle.std.specs.Prelude.{codes, drop, map, nat_lt, if◌then◌else◌, Vec}
 use Rattle.std.specs.declared.alloc.Global.{Global}
 use Rattle.std.specs.Fmt.{decimal}
+use Rattle.disk_model.specs.declared.answers.DiskError.{DiskError}
+use Rattle.disk_model.specs.declared.answers.DiskError.TheVariants as disk
 use Rattle.mail_base.specs.Series.{Held, plain_texts}
 use Rattle.mail_base.specs.Shown.{utf8_text}
 use Rattle.people.specs.Judged.{PlainJudged}
@@ -12,7 +14,7 @@ use Rattle.rc_lang.specs.Settings.{fault_of}
 use Rattle.rc_lang_words.specs.Faults.{Fault, fault_text}
 use Rattle.rc_lang_words.specs.Words.{PlainLine, lines_of, plain_line}
 use Rattle.rc_lang_words.specs.declared.fault.RcFault.{RcFault}
-use Rattle.rc_lang_words.specs.declared.fault.RcFault.TheVariants.{TooMuchSource}
+use Rattle.rc_lang_words.specs.declared.fault.RcFault.TheVariants.{NoMemory, NotRead, TooMuchSource}
 use Rattle.session_state.specs.declared.commands.Answer.TheVariants as answer
 use Rattle.session_state.specs.declared.commands.Obeyed.{Obeyed}
 use Rattle.session_state.specs.declared.commands.Obeyed.TheVariants.{Answered, Refused}
@@ -21,6 +23,7 @@ use Rattle.session_state.specs.declared.frame.Origin.{Origin}
 use Rattle.session_state.specs.declared.frame.Origin.TheVariants.{Default, Named, Typed}
 use Rattle.session_state.specs.Commands.{PlainAnswer, Quiet, Ran, ToRead, ToShow, ran, refused}
 use Rattle.session_state.specs.Rules.{PlainRules}
+use Rattle.session_state.specs.declared.instant.Instant.{Instant}
 
 -- a file, why it is read, and how deep it is nested
 pub record Place : Type 0 where
@@ -76,12 +79,12 @@ note_of file line fault =
 -- Commands, one after the other.
 
 -- a command as it was read
-abbrev pub ran_read : List PlainJudged → Option RcFault → PlainLine → PlainRules → Ran
-ran_read verdicts None line rules = ran verdicts line.words rules
-ran_read verdicts (Some fault) line rules = refused (fault_of fault []) rules
+abbrev pub ran_read : Instant → List PlainJudged → Option RcFault → PlainLine → PlainRules → Ran
+ran_read time verdicts None line rules = ran time verdicts line.words rules
+ran_read time verdicts (Some fault) line rules = refused (fault_of fault []) rules
 
-abbrev pub ran_line : List PlainJudged → PlainLine → PlainRules → Ran
-ran_line verdicts line rules = ran_read verdicts line.fault line rules
+abbrev pub ran_line : Instant → List PlainJudged → PlainLine → PlainRules → Ran
+ran_line time verdicts line rules = ran_read time verdicts line.fault line rules
 
 -- a file that is nested too deep is not read
 abbrev pub judged : ℕ → Result PlainAnswer Fault → Result PlainAnswer Fault
@@ -108,14 +111,15 @@ behind_line place line lines more rules notes (Ok (ToRead path)) =
 behind_line place line lines more rules notes (Err fault) =
     more rules (notes ++ note_of place.file (line_number place.origin line) fault ∷ [])
 
-abbrev pub file_run : List PlainJudged → Place → List PlainLine → PlainRules → List (List ℕ)
+abbrev pub file_run : Instant → List PlainJudged → Place → List PlainLine → PlainRules
+    → List (List ℕ)
     → Half
-file_run verdicts place [] rules notes =
+file_run time verdicts place [] rules notes =
     record { rules = rules; notes = notes; left = []; source = None }
-file_run verdicts place (line ∷ lines) rules notes =
-    behind_line place line.line lines (file_run verdicts place lines)
-    (ran_line verdicts line rules).rules notes
-    (judged place.depth (ran_line verdicts line rules).answer)
+file_run time verdicts place (line ∷ lines) rules notes =
+    behind_line place line.line lines (file_run time verdicts place lines)
+    (ran_line time verdicts line rules).rules notes
+    (judged place.depth (ran_line time verdicts line rules).answer)
 
 -- Files, the one that is read now first.
 
@@ -140,29 +144,40 @@ abbrev pub with_half : Place → List PlainFrame → (PlainRules → List (List 
     → Script
 with_half place frames rest half = behind_file place frames rest half half.source
 
-abbrev pub frame_run : List PlainJudged → PlainFrame → List PlainFrame
+abbrev pub frame_run : Instant → List PlainJudged → PlainFrame → List PlainFrame
     → (PlainRules → List (List ℕ) → Script)
     → Option (List PlainLine) → PlainRules → List (List ℕ) → Script
-frame_run verdicts frame frames rest None rules notes =
+frame_run time verdicts frame frames rest None rules notes =
     record { rules = rules; frames = frame ∷ frames; notes = notes }
-frame_run verdicts frame frames rest (Some lines) rules notes =
-    with_half frame.place frames rest (file_run verdicts frame.place lines rules notes)
+frame_run time verdicts frame frames rest (Some lines) rules notes =
+    with_half frame.place frames rest (file_run time verdicts frame.place lines rules notes)
 
 -- the commands of these files are run by the verdicts on expressions, up to one that is still to be
 -- read
-abbrev pub frames_run : List PlainJudged → List PlainFrame → PlainRules → List (List ℕ) → Script
-frames_run verdicts [] rules notes = record { rules = rules; frames = []; notes = notes }
-frames_run verdicts (frame ∷ frames) rules notes =
-    frame_run verdicts frame frames (frames_run verdicts frames) frame.left rules notes
+abbrev pub frames_run : Instant → List PlainJudged → List PlainFrame → PlainRules → List (List ℕ)
+    → Script
+frames_run time verdicts [] rules notes = record { rules = rules; frames = []; notes = notes }
+frames_run time verdicts (frame ∷ frames) rules notes =
+    frame_run time verdicts frame frames (frames_run time verdicts frames) frame.left rules notes
 
 -- What was read, or not.
 
 -- the first file has this text
-abbrev pub read_script : List PlainJudged → List ℕ → List PlainFrame → PlainRules
+abbrev pub read_script : Instant → List PlainJudged → List ℕ → List PlainFrame → PlainRules
     → List (List ℕ) → Script
-read_script verdicts text [] rules notes = record { rules = rules; frames = []; notes = notes }
-read_script verdicts text (frame ∷ frames) rules notes =
-    frames_run verdicts (with_text text frame ∷ frames) rules notes
+read_script time verdicts text [] rules notes = record { rules = rules; frames = []; notes = notes }
+read_script time verdicts text (frame ∷ frames) rules notes =
+    frames_run time verdicts (with_text text frame ∷ frames) rules notes
+
+-- nothing stands at the path
+abbrev pub is_missing : DiskError → Bool
+is_missing disk.Missing = true
+is_missing _ = false
+
+-- what is told where a file was not read
+abbrev pub read_fault : DiskError → RcFault
+read_fault disk.NoMemory = NoMemory
+read_fault _ = NotRead
 
 -- a file that need not be there may be missing
 abbrev pub is_quiet : Origin → Bool → Bool
@@ -171,17 +186,18 @@ is_quiet Named is_missing = false
 is_quiet Typed is_missing = false
 
 -- what is told of a file that was not read, which has no line
-abbrev pub skip_notes : Place → Bool → RcFault → List (List ℕ)
-skip_notes place is_missing fault =
-    if is_quiet place.origin is_missing then [] else note_of place.file 0 (fault_of fault []) ∷ []
+abbrev pub skip_notes : Place → DiskError → List (List ℕ)
+skip_notes place why =
+    if is_quiet place.origin (is_missing why) then []
+    else note_of place.file 0 (fault_of (read_fault why) []) ∷ []
 
--- the first file was not read for this fault
-abbrev pub skip_script : List PlainJudged → Bool → RcFault → List PlainFrame → PlainRules
+-- the first file was not read, for this cause
+abbrev pub skip_script : Instant → List PlainJudged → DiskError → List PlainFrame → PlainRules
     → List (List ℕ) → Script
-skip_script verdicts is_missing fault [] rules notes =
+skip_script time verdicts why [] rules notes =
     record { rules = rules; frames = []; notes = notes }
-skip_script verdicts is_missing fault (frame ∷ frames) rules notes =
-    frames_run verdicts frames rules (notes ++ skip_notes frame.place is_missing fault)
+skip_script time verdicts why (frame ∷ frames) rules notes =
+    frames_run time verdicts frames rules (notes ++ skip_notes frame.place why)
 
 abbrev pub script_of : PlainRules → Vec Frame Global → Held (Held ℕ) → Script
 script_of rules frames notes =

@@ -1,7 +1,10 @@
--- What commands tell the index: who is in the tables of people, and what names stand for.
-use Rattle.std.specs.Prelude.{◌++◌, ℕ, List, [], ◌∷◌, Result, Ok, Err, if◌then◌else◌}
+-- What commands tell the index: who is in the tables of people, what names stand for, and what
+-- messages score.
+use Rattle.std.specs.Prelude.{◌++◌, ℕ, Bool, List, [], ◌∷◌, Result, Ok, Err, if◌then◌else◌}
 use Rattle.mail_base.specs.Shown.{utf8_text}
 use Rattle.patterns.specs.Causes.{is_good_on}
+use Rattle.patterns_match.specs.ScoreEntries.{held_entry}
+use Rattle.patterns_match.specs.Scores.{PlainEntry}
 use Rattle.people.specs.Judged.{PlainJudged}
 use Rattle.people.specs.declared.people.PeopleTable.{PeopleTable}
 use Rattle.rc_lang.specs.Expansion.{before_rest}
@@ -11,14 +14,19 @@ use Rattle.rc_lang_words.specs.declared.fault.RcFault.TheVariants.{BadExpression
 use Rattle.session_state.specs.declared.lesson.Lesson.{Lesson}
 use Rattle.session_state.specs.declared.lesson.Lesson.TheVariants as lesson
 
--- an expression belongs to a table of people, or a name stands for a value
+-- an expression belongs to a table of people, a name stands for a value, there is one more entry of
+-- scores, or of the entries these are kept
 pub data PlainLesson : Type 0 where
   Person : (table : PeopleTable) → (expr : List ℕ) → PlainLesson
   Named : (name : List ℕ) → (value : List ℕ) → PlainLesson
+  Scored : (entry : PlainEntry) → PlainLesson
+  Kept : (keeps : List Bool) → PlainLesson
 
 abbrev pub plain_lesson : Lesson → PlainLesson
 plain_lesson (lesson.Person table expr) = Person table expr
 plain_lesson (lesson.Named name value) = Named name.items value.items
+plain_lesson (lesson.Scored entry) = Scored (held_entry entry)
+plain_lesson (lesson.Kept keeps) = Kept keeps.items
 
 -- a word that is an expression by these verdicts, for a table; or the word is at fault
 unfoldable pub person_of : List PlainJudged → PeopleTable → List ℕ

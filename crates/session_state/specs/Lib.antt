@@ -1,13 +1,10 @@
 pub mod Rules
-pub mod Places
 pub mod Commands
 pub mod Frames
 pub mod Beginning
-pub mod Columns
-pub mod Tuning
-pub mod Sorting
-pub mod Formats
-pub mod Window
+pub mod Instants
 pub mod Days
 pub mod Lessons
+pub mod Scoring
+pub mod Codes
 pub mod Typed

@@ -7,18 +7,24 @@ use Rattle.session_state.specs.Lessons.{PlainLesson}
 use Rattle.rc_lang.specs.Values.{PlainValue, shown_line}
 use Rattle.rc_lang.specs.Variables.{place_of}
 
--- the values of the variables, the bindings, the keys that commands have put, of each apart, and
--- what they tell the index
+-- the values of the variables, the bindings, the texts of the patterns that score, the keys that
+-- commands have put, of each apart, and what they tell the index
 pub record PlainRules : Type 0 where
   pub settings : List PlainValue
   pub keymap : PlainKeymap
+  pub scores : List (List ℕ)
   pub put : List (List Key)
   pub lessons : List PlainLesson
 
 -- before a muttrc is read
 unfoldable pub first_rules : PlainRules
-first_rules =
-    record { settings = defaults; keymap = default_keymap; put = []; lessons = [] }
+first_rules = record {
+  settings = defaults;
+  keymap = default_keymap;
+  scores = [];
+  put = [];
+  lessons = [];
+}
 
 -- keys that commands have put, each before those that were put earlier
 abbrev pub put_all : List (List Key) → List Key

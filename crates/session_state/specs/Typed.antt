@@ -9,6 +9,7 @@ use Rattle.rc_lang_words.specs.declared.fault.RcFault.TheVariants.{NotRead}
 use Rattle.session_state.specs.Commands.{PlainAnswer, Quiet, ToRead, ToShow}
 use Rattle.session_state.specs.Frames.{ran_line}
 use Rattle.session_state.specs.Rules.{PlainRules}
+use Rattle.session_state.specs.declared.instant.Instant.{Instant}
 
 -- what muttrc has set behind commands that were typed, and what is shown of them
 pub record Typed : Type 0 where
@@ -27,8 +28,9 @@ answer_shown before (Ok (ToRead path)) = fault_shown (fault_of NotRead [])
 answer_shown before (Err fault) = fault_shown fault
 
 -- these commands, one after the other, by the verdicts on expressions
-abbrev pub typed_run : List PlainJudged → Option (List ℕ) → List PlainLine → PlainRules → Typed
-typed_run verdicts before [] rules = record { rules = rules; shown = before }
-typed_run verdicts before (line ∷ lines) rules =
-    typed_run verdicts (answer_shown before (ran_line verdicts line rules).answer) lines
-    (ran_line verdicts line rules).rules
+abbrev pub typed_run : Instant → List PlainJudged → Option (List ℕ) → List PlainLine → PlainRules
+    → Typed
+typed_run time verdicts before [] rules = record { rules = rules; shown = before }
+typed_run time verdicts before (line ∷ lines) rules =
+    typed_run time verdicts (answer_shown before (ran_line time verdicts line rules).answer) lines
+    (ran_line time verdicts line rules).rules

@@ -1,21 +1,30 @@
 //! The commands of muttrc.
 
-ghost use Rattle.std.specs.Prelude.{◌≡◌, ◌≢◌, ◌∷◌, [], Err, IfOk, OnOk, map};
+ghost use Rattle.std.specs.Prelude.{◌≡◌, ◌≢◌, ◌∷◌, ◌++◌, [], Err, IfOk, OnOk, map};
 ghost use Rattle.keymap.specs.Bindings.{Replace, Run};
 ghost use Rattle.keymap.specs.Keymap.{IsSequence};
 ghost use Rattle.mail_base.specs.Series.{plain_texts};
 ghost use Rattle.session_state.specs.Commands.{alias_of as alias_in, bound_all, plain_obeyed};
-ghost use Rattle.session_state.specs.Lessons.{plain_lesson};
+ghost use Rattle.session_state.specs.Lessons.{Kept, Scored, plain_lesson};
+ghost use Rattle.session_state.specs.Scoring.{keeps_of, kept_texts};
+ghost use Rattle.patterns_match.specs.ScoreEntries.{held_entry};
+ghost use Rattle.rc_lang.specs.Settings.{plain_names};
 ghost use Rattle.rc_lang_words.specs.Faults.{no_memory, plain_error};
 
+use crate::instant::Instant;
 use crate::lesson::{self, Lesson};
 use crate::request::{BindRequest, MacroRequest, calls_of, key_text, word_at};
 use crate::rules::Rules;
+use crate::scoring;
 use keymap::{Keymap, Keys};
 use mail_base::{Bytes, Line, NoMemory, Words, append_utf8};
+use patterns_match::ScoreEntry;
 use people::{PeopleTable, Verdicts};
 use rc_lang::{Command, RcError, RcFault, RcWords};
 use std::alloc::Global;
+
+/// How many entries of scores there may be.
+const MOST_ENTRIES: usize = 4_096;
 
 /// What a command answers that is carried out.
 #[derive(Drop)]
@@ -42,48 +51,62 @@ impl Rules {
     ghost use Rattle.patterns.specs.Causes.{Keeps};
     ghost use Rattle.people.specs.Judged.{PlainJudged};
     ghost use Rattle.session_state.specs.Commands as spec;
+    ghost use Rattle.patterns_match.specs.ScoreEntries.{held_entry};
+    ghost use Rattle.session_state.specs.Instants.{IsInstant};
     ghost use Rattle.session_state.specs.Lessons.{IsLent, people_of, plain_lesson};
+    ghost use Rattle.session_state.specs.Scoring.{value_of};
 
     /// Runs a command by its words. The words of a `set` before a faulty one stay applied; else a
     /// command that is refused changes nothing.
-    pub fn run(&mut self, words: &RcWords, verdicts: &mut Verdicts) -> Result<Obeyed, NoMemory>
-        requires { IsLent verdicts.old.kept }
+    pub fn run(
+        &mut self,
+        time: Instant,
+        words: &RcWords,
+        verdicts: &mut Verdicts,
+    ) -> Result<Obeyed, NoMemory>
+        requires { IsInstant time }
         ensures keeps { Keeps verdicts.old.kept verdicts.new.kept }
         ensures ran { IfOk result (λ obeyed. (later : List PlainJudged)
             → Keeps verdicts.new.kept later → record {
               rules = self.new;
               answer = spec.plain_obeyed obeyed;
-            } ≡ spec.ran later (plain_words words.now) self.old) }
+            } ≡ spec.ran time later (plain_words words.now) self.old) }
     {
-        match self.obey(words, verdicts) {
+        match self.obey(time, words, verdicts) {
             Ok(answer) => Ok(Obeyed::Answered(answer)),
             Err(error) => refusal(error),
         }
     }
 
     #[tactic(auto, unfolding(crate::specs::Commands::ran))]
-    fn obey(&mut self, words: &RcWords, verdicts: &mut Verdicts) -> Result<Answer, RcError>
-        requires { IsLent verdicts.old.kept }
+    fn obey(
+        &mut self,
+        time: Instant,
+        words: &RcWords,
+        verdicts: &mut Verdicts,
+    ) -> Result<Answer, RcError>
+        requires { IsInstant time }
         ensures keeps { Keeps verdicts.old.kept verdicts.new.kept }
         ensures ran { (later : List PlainJudged) → Keeps verdicts.new.kept later
-            → spec.IsRan result self.new (spec.ran later (plain_words words.now) self.old) }
+            → spec.IsRan result self.new (spec.ran time later (plain_words words.now) self.old) }
     {
         let command = self.settings.read_command(self.alloc, words)?;
         let texts = self.settings.expand(self.alloc, words)?;
-        self.carry_out(command, &texts, verdicts)
+        self.carry_out(time, command, &texts, verdicts)
     }
 
     fn carry_out(
         &mut self,
+        time: Instant,
         command: Command,
         words: &Words,
         verdicts: &mut Verdicts,
     ) -> Result<Answer, RcError>
-        requires { IsLent verdicts.old.kept }
+        requires { IsInstant time }
         ensures keeps { Keeps verdicts.old.kept verdicts.new.kept }
         ensures ran { (later : List PlainJudged) → Keeps verdicts.new.kept later
             → spec.IsRan result self.new
-            (spec.obeyed later command (plain_texts words.now) self.old) }
+            (spec.obeyed time later command (plain_texts words.now) self.old) }
     {
         match command {
             Command::Set | Command::Unset | Command::Toggle | Command::Reset => self.set(words),
@@ -96,6 +119,8 @@ impl Rules {
             Command::Subscribe => self.add_people(PeopleTable::Subscribed, words, verdicts),
             Command::Alternates => self.add_people(PeopleTable::Mine, words, verdicts),
             Command::Alias => self.alias(words),
+            Command::Score => self.score(time, words, verdicts),
+            Command::Unscore => self.unscore(words),
             _ => Ok(Answer::Quiet),
         }
     }
@@ -215,6 +240,53 @@ impl Rules {
         }
     }
 
+    // Adds what the messages that satisfy a pattern score.
+    fn score(
+        &mut self,
+        time: Instant,
+        words: &Words,
+        verdicts: &mut Verdicts,
+    ) -> Result<Answer, RcError>
+        requires { IsInstant time }
+        ensures keeps { Keeps verdicts.old.kept verdicts.new.kept }
+        ensures ran { (later : List PlainJudged) → Keeps verdicts.new.kept later
+            → spec.IsRan result self.new (spec.scored_by time later
+            (spec.word_at (plain_texts words.now) 1) (spec.word_at (plain_texts words.now) 2)
+            (value_of (spec.word_at (plain_texts words.now) 2)) self.old) }
+    {
+        let word = word_at(words, 2);
+        match scoring::value_of(word) {
+            Some(value) if self.scores.len() < MOST_ENTRIES => {
+                let text = word_at(words, 1);
+                let entry = scoring::entry_of(self.alloc, time, text, value, verdicts)?;
+                self.add_entry(text, entry)
+            }
+            _ => Err(RcError::new(self.alloc, RcFault::BadValue, word)),
+        }
+    }
+
+    fn add_entry(&mut self, text: &[u8], entry: ScoreEntry) -> Result<Answer, RcError>
+        ensures { spec.IsRan result self.new
+            (spec.with_entry text.now (Ok (held_entry entry)) self.old) }
+    {
+        match push_entry(self.alloc, &mut self.scores, &mut self.lessons, text, entry) {
+            Ok(()) => Ok(Answer::Quiet),
+            Err(NoMemory) => Err(RcError::no_memory(self.alloc)),
+        }
+    }
+
+    // Takes away the entries of scores that the words name.
+    fn unscore(&mut self, words: &Words) -> Result<Answer, RcError>
+        ensures { spec.IsRan result self.new
+            (spec.unscored_by (drop 1 (plain_texts words.now)) self.old) }
+    {
+        let names = words.as_slice().get(1..).unwrap_or(&[]);
+        match keep_entries(self.alloc, &mut self.scores, &mut self.lessons, names) {
+            Ok(()) => Ok(Answer::Quiet),
+            Err(NoMemory) => Err(RcError::no_memory(self.alloc)),
+        }
+    }
+
     fn source(&mut self, words: &Words) -> Result<Answer, RcError>
         ensures { spec.IsRan result self.new
             (spec.sourcing (spec.word_at (plain_texts words.now) 1) self.old) }
@@ -237,6 +309,43 @@ fn alias_of(alloc: Global, words: &Words) -> Result<Vec<Lesson>, NoMemory>
     let mut lessons = Vec::new(alloc);
     lessons.push(Lesson::Named(name, value))?;
     Ok(lessons)
+}
+
+// Adds an entry of scores with its text, and tells the index.
+fn push_entry(
+    alloc: Global,
+    texts: &mut Vec<Bytes>,
+    lessons: &mut Vec<Lesson>,
+    text: &[u8],
+    entry: ScoreEntry,
+) -> Result<(), NoMemory>
+    ensures texts { OnOk result
+        (plain_names texts.new.items ≡ plain_names texts.old.items ++ text.now ∷ []) }
+    ensures lessons { OnOk result (map plain_lesson lessons.new.items
+        ≡ map plain_lesson lessons.old.items ++ Scored (held_entry entry) ∷ []) }
+{
+    texts.push(Bytes::copy_of(alloc, text)?)?;
+    lessons.push(Lesson::Scored(entry))?;
+    Ok(())
+}
+
+// Keeps the entries of scores that these words do not name, and tells the index.
+fn keep_entries(
+    alloc: Global,
+    texts: &mut Vec<Bytes>,
+    lessons: &mut Vec<Lesson>,
+    names: &[Bytes],
+) -> Result<(), NoMemory>
+    ensures texts { OnOk result (plain_names texts.new.items
+        ≡ kept_texts (plain_names names.now) (plain_names texts.old.items)) }
+    ensures lessons { OnOk result (map plain_lesson lessons.new.items
+        ≡ map plain_lesson lessons.old.items
+        ++ Kept (keeps_of (plain_names names.now) (plain_names texts.old.items)) ∷ []) }
+{
+    let keeps = scoring::keeps_of(alloc, names, texts)?;
+    lessons.push(Lesson::Kept(keeps))?;
+    *texts = scoring::kept_texts(alloc, names, texts)?;
+    Ok(())
 }
 
 // Binds the keys in all of the menus.

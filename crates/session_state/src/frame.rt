@@ -7,12 +7,14 @@ ghost use Rattle.mail_base.specs.Series.{plain_texts};
 ghost use Rattle.rc_lang_words.specs.Words.{plain_line};
 ghost use Rattle.session_state.specs.Commands.{plain_obeyed};
 ghost use Rattle.session_state.specs.Frames as spec;
-ghost use Rattle.session_state.specs.Lessons.{IsLent};
+ghost use Rattle.session_state.specs.Instants.{IsInstant};
 ghost use Rattle.session_state.specs.declared.frame.Origin.TheVariants.{Named};
 
 use crate::commands::{Answer, Obeyed, refusal};
+use crate::instant::Instant;
 use crate::note::add_note;
 use crate::rules::Rules;
+use disk_model::DiskError;
 use mail_base::{Bytes, Line, Lines, NoMemory};
 use people::Verdicts;
 use rc_lang::{RcError, RcFault, RcLine, RcLines, read_rc};
@@ -50,7 +52,7 @@ impl Frame {
     ghost use Rattle.mail_base.specs.Series.{plain_texts};
     ghost use Rattle.rc_lang.specs.Settings.{plain_shown};
     ghost use Rattle.session_state.specs.Frames as spec;
-    ghost use Rattle.session_state.specs.Lessons.{IsLent};
+    ghost use Rattle.session_state.specs.Instants.{IsInstant};
 
     /// A file that is still to be read.
     pub fn unread(alloc: Global, file: Line, origin: Origin, depth: u8) -> Frame
@@ -82,10 +84,11 @@ impl Frame {
         &mut self,
         alloc: Global,
         rules: &mut Rules,
+        time: Instant,
         verdicts: &mut Verdicts,
         notes: &mut Lines,
     ) -> Result<Option<Line>, NoMemory>
-        requires { IsLent verdicts.old.kept }
+        requires { IsInstant time }
         ensures keeps { Keeps verdicts.old.kept verdicts.new.kept }
         ensures half { IfOk result (λ source. (later : List PlainJudged)
             → Keeps verdicts.new.kept later → record {
@@ -93,7 +96,7 @@ impl Frame {
               notes = plain_texts notes.new;
               left = spec.commands_left self.new;
               source = plain_shown source;
-            } ≡ spec.file_run later (spec.place_of self.old) (spec.commands_left self.old)
+            } ≡ spec.file_run time later (spec.place_of self.old) (spec.commands_left self.old)
             rules.old (plain_texts notes.old)) }
         ensures place { spec.place_of self.new ≡ spec.place_of self.old }
         ensures read { self.new.is_read ≡ self.old.is_read }
@@ -102,7 +105,7 @@ impl Frame {
         while self.next < self.commands.len() {
             let line = &self.commands.as_slice()[self.next];
             self.next += 1;
-            let obeyed = run_line(alloc, rules, verdicts, line)?;
+            let obeyed = run_line(alloc, rules, time, verdicts, line)?;
             match judge(alloc, self.depth, obeyed)? {
                 Obeyed::Answered(answer) => match answer {
                     Answer::Source(path) => return Ok(Some(path)),
@@ -132,19 +135,20 @@ fn line_number(origin: Origin, line: u32) -> u32
 pub fn run_line(
     alloc: Global,
     rules: &mut Rules,
+    time: Instant,
     verdicts: &mut Verdicts,
     line: &RcLine,
 ) -> Result<Obeyed, NoMemory>
-    requires { IsLent verdicts.old.kept }
+    requires { IsInstant time }
     ensures keeps { Keeps verdicts.old.kept verdicts.new.kept }
     ensures ran { IfOk result (λ obeyed. (later : List PlainJudged)
         → Keeps verdicts.new.kept later → record {
           rules = rules.new;
           answer = plain_obeyed obeyed;
-        } ≡ spec.ran_line later (plain_line line.now) rules.old) }
+        } ≡ spec.ran_line time later (plain_line line.now) rules.old) }
 {
     match line.fault {
-        None => rules.run(&line.words, verdicts),
+        None => rules.run(time, &line.words, verdicts),
         Some(fault) => refusal(RcError::new(alloc, fault, b"")),
     }
 }
@@ -168,21 +172,22 @@ fn judge(alloc: Global, depth: u8, obeyed: Obeyed) -> Result<Obeyed, NoMemory>
 pub fn run_frames(
     alloc: Global,
     rules: &mut Rules,
+    time: Instant,
     verdicts: &mut Verdicts,
     frames: &mut Vec<Frame>,
     notes: &mut Lines,
 ) -> Result<(), NoMemory>
-    requires { IsLent verdicts.old.kept }
+    requires { IsInstant time }
     ensures keeps { Keeps verdicts.old.kept verdicts.new.kept }
     ensures ran { OnOk result ((later : List PlainJudged) → Keeps verdicts.new.kept later
-        → spec.script_of rules.new frames.new notes.new ≡ spec.frames_run later
+        → spec.script_of rules.new frames.new notes.new ≡ spec.frames_run time later
         (spec.plain_frames frames.old) rules.old (plain_texts notes.old)) }
 {
     while let Some(mut frame) = take_first(frames) {
         if !frame.is_read {
             return put_first(frames, frame);
         }
-        match frame.run(alloc, rules, verdicts, notes)? {
+        match frame.run(alloc, rules, time, verdicts, notes)? {
             Some(path) => return put_inner(alloc, frames, frame, path),
             None => {}
         }
@@ -194,15 +199,16 @@ pub fn run_frames(
 pub fn read_first(
     alloc: Global,
     rules: &mut Rules,
+    time: Instant,
     verdicts: &mut Verdicts,
     frames: &mut Vec<Frame>,
     notes: &mut Lines,
     text: &[u8],
 ) -> Result<(), NoMemory>
-    requires { IsLent verdicts.old.kept }
+    requires { IsInstant time }
     ensures keeps { Keeps verdicts.old.kept verdicts.new.kept }
     ensures read { OnOk result ((later : List PlainJudged) → Keeps verdicts.new.kept later
-        → spec.script_of rules.new frames.new notes.new ≡ spec.read_script later text.now
+        → spec.script_of rules.new frames.new notes.new ≡ spec.read_script time later text.now
         (spec.plain_frames frames.old) rules.old (plain_texts notes.old)) }
 {
     let Some(mut frame) = take_first(frames) else {
@@ -210,7 +216,7 @@ pub fn read_first(
     };
     frame.read(alloc, text)?;
     put_first(frames, frame)?;
-    run_frames(alloc, rules, verdicts, frames, notes)
+    run_frames(alloc, rules, time, verdicts, frames, notes)
 }
 
 /// Leaves the first file, which was not read, and runs the commands up to a file that is still to
@@ -218,29 +224,44 @@ pub fn read_first(
 pub fn skip_first(
     alloc: Global,
     rules: &mut Rules,
+    time: Instant,
     verdicts: &mut Verdicts,
     frames: &mut Vec<Frame>,
     notes: &mut Lines,
-    is_missing: bool,
-    fault: RcFault,
+    why: DiskError,
 ) -> Result<(), NoMemory>
-    requires { IsLent verdicts.old.kept }
+    requires { IsInstant time }
     ensures keeps { Keeps verdicts.old.kept verdicts.new.kept }
     ensures skipped { OnOk result ((later : List PlainJudged) → Keeps verdicts.new.kept later
-        → spec.script_of rules.new frames.new notes.new ≡ spec.skip_script later is_missing fault
+        → spec.script_of rules.new frames.new notes.new ≡ spec.skip_script time later why
         (spec.plain_frames frames.old) rules.old (plain_texts notes.old)) }
 {
     let Some(frame) = take_first(frames) else {
         return Ok(());
     };
-    if !is_quiet(frame.origin, is_missing) {
+    if !is_quiet(frame.origin, is_missing(why)) {
         let error = RcError {
-            fault,
+            fault: read_fault(why),
             word: Bytes::new(alloc),
         };
         add_note(alloc, notes, &frame.file, 0, &error)?;
     }
-    run_frames(alloc, rules, verdicts, frames, notes)
+    run_frames(alloc, rules, time, verdicts, frames, notes)
+}
+
+fn is_missing(why: DiskError) -> bool
+    ensures { result ≡ spec.is_missing why }
+{
+    matches!(why, DiskError::Missing)
+}
+
+fn read_fault(why: DiskError) -> RcFault
+    ensures { result ≡ spec.read_fault why }
+{
+    match why {
+        DiskError::NoMemory => RcFault::NoMemory,
+        _ => RcFault::NotRead,
+    }
 }
 
 fn is_quiet(origin: Origin, is_missing: bool) -> bool

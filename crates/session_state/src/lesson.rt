@@ -7,6 +7,7 @@ ghost use Rattle.rc_lang.specs.Settings.{Answers, plain_names};
 ghost use Rattle.session_state.specs.Lessons as spec;
 
 use mail_base::{Bytes, NoMemory};
+use patterns_match::ScoreEntry;
 use people::{Expr, ExprError, PeopleTable, Verdicts};
 use rc_lang::{RcError, RcFault};
 use std::alloc::Global;
@@ -18,6 +19,10 @@ pub enum Lesson {
     Person(PeopleTable, Expr),
     /// A name stands for a value.
     Named(Bytes, Bytes),
+    /// There is one more entry of scores.
+    Scored(ScoreEntry),
+    /// Of the entries of scores these are kept.
+    Kept(Vec<bool>),
 }
 
 // A word that is an expression, for a table.

@@ -5,10 +5,9 @@ ghost use Rattle.index_view.specs.Limit.{plain_limit};
 ghost use Rattle.patterns.specs.Causes.{Keeps};
 ghost use Rattle.people.specs.Judged.{PlainJudged};
 ghost use Rattle.session_state.specs.Days as spec;
-ghost use Rattle.session_state.specs.Window.{IsMoment, IsWindow};
+ghost use Rattle.session_state.specs.Instants.{IsInstant};
 
-use crate::moment::Moment;
-use crate::window::Window;
+use crate::instant::Instant;
 use index_rows::clocks_say_their_parts;
 use mail_base::{Line, NoMemory};
 use patterns::{PatternError, read_pattern};
@@ -27,19 +26,17 @@ fn is_memory(error: PatternError) -> bool
 pub fn read_at(
     alloc: Global,
     text: &Line,
-    window: Window,
-    moment: Moment,
+    time: Instant,
     verdicts: &mut Verdicts,
 ) -> Result<Option<Pattern>, NoMemory>
-    requires window { IsWindow window }
-    requires moment { IsMoment moment.0 }
+    requires { IsInstant time }
     ensures keeps { Keeps verdicts.old.kept verdicts.new.kept }
     ensures read { IfOk result (λ pattern. (later : List PlainJudged)
         → Keeps verdicts.new.kept later
-        → option_map plain_limit pattern ≡ spec.reading_of later window moment.0 text.now.items) }
+        → option_map plain_limit pattern ≡ spec.reading_of later time text.now.items) }
 {
     clocks_say_their_parts();
-    match read_pattern(alloc, text.as_slice(), moment.0, window.offset, verdicts) {
+    match read_pattern(alloc, text.as_slice(), time.seconds, time.offset, verdicts) {
         Ok(pattern) => Ok(Some(pattern)),
         Err(error) if is_memory(error) => Err(NoMemory),
         Err(_) => Ok(None),

@@ -7,27 +7,34 @@ use rc_lang::Settings;
 use std::alloc::Global;
 use std::marker::Model;
 
-/// The variables, the bindings, the keys that commands have put, of each command apart, and what
-/// they tell the index.
+/// The variables, the bindings, the texts of the patterns that score, the keys that commands have
+/// put, of each command apart, and what they tell the index.
 #[derive(Drop)]
 pub struct Rules {
     pub(crate) alloc: Global,
     pub(crate) settings: Settings,
     pub(crate) keymap: Keymap,
+    pub(crate) scores: Vec<Bytes>,
     pub(crate) put: Vec<Keys>,
     pub(crate) lessons: Vec<Lesson>,
 }
 
 impl Model for Rules {
     ghost use Rattle.std.specs.Prelude.{map};
+    ghost use Rattle.rc_lang.specs.Settings.{plain_names};
+    ghost use Rattle.session_state.specs.Codes.{tree_code};
     ghost use Rattle.session_state.specs.Lessons.{plain_lesson};
     ghost use Rattle.session_state.specs.Rules.{PlainRules};
+    ghost use Rattle.std.specs.Coded.{codes};
 
     ghost Value = { PlainRules };
+
+    ghost coded = { Prim.hlevel (codes, tree_code (Prim.hlevel codes)) };
 
     ghost view = { λ r. record {
       settings = r.settings;
       keymap = r.keymap;
+      scores = plain_names r.scores.items;
       put = map (λ keys. keys.items) r.put.items;
       lessons = map plain_lesson r.lessons.items;
     } };
@@ -53,6 +60,7 @@ impl Rules {
             alloc,
             settings,
             keymap: Keymap::new(alloc)?,
+            scores: Vec::new(alloc),
             put: Vec::new(alloc),
             lessons: Vec::new(alloc),
         })

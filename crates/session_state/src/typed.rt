@@ -8,6 +8,7 @@ ghost use Rattle.session_state.specs.Typed as spec;
 
 use crate::commands::{Answer, Obeyed};
 use crate::frame::run_line;
+use crate::instant::Instant;
 use crate::rules::Rules;
 use mail_base::{Bytes, Line, NoMemory, append_utf8};
 use people::Verdicts;
@@ -47,30 +48,31 @@ impl Rules {
     ghost use Rattle.people.specs.Judged.{PlainJudged};
     ghost use Rattle.rc_lang.specs.Settings.{plain_shown};
     ghost use Rattle.rc_lang_words.specs.Words.{lines_of};
-    ghost use Rattle.session_state.specs.Lessons.{IsLent};
+    ghost use Rattle.session_state.specs.Instants.{IsInstant};
     ghost use Rattle.session_state.specs.Typed as spec;
 
     /// Runs the commands of a line that was typed, and gives what is shown of them: the line that
     /// the last `set` answers, or the last fault, whichever comes later.
     pub fn run_typed(
         &mut self,
+        time: Instant,
         verdicts: &mut Verdicts,
         text: &[u8],
     ) -> Result<Option<Line>, NoMemory>
-        requires { IsLent verdicts.old.kept }
+        requires { IsInstant time }
         ensures keeps { Keeps verdicts.old.kept verdicts.new.kept }
         ensures ran { IfOk result (λ shown. (later : List PlainJudged)
             → Keeps verdicts.new.kept later → record {
               rules = self.new;
               shown = plain_shown shown;
-            } ≡ spec.typed_run later None (lines_of text.now) self.old) }
+            } ≡ spec.typed_run time later None (lines_of text.now) self.old) }
     {
         let alloc = self.alloc;
         let lines = read_rc(alloc, text)?;
         let mut shown = None;
         let mut left = lines.as_slice();
         while let Some((line, rest)) = left.split_first() {
-            let obeyed = run_line(alloc, self, verdicts, line)?;
+            let obeyed = run_line(alloc, self, time, verdicts, line)?;
             shown = shown_of(alloc, shown, obeyed)?;
             left = rest;
         }

@@ -18,11 +18,11 @@ returns-then-options-clause-faults g c =
 
 pub returns-then-are_asked-clause-reads : goal.returns-then-are_asked-clause-reads
 returns-then-are_asked-clause-reads g c =
-    reads_driven _ c.answer.ensures.files
+    reads_driven _ c.answer.ensures.files (reads_chosen (simp (to_z-of_z c.ranges.moment)) refl
     ((rw (to_z-of_z (offset_fits c.args.options.offset c.requires.usable.offset))
     at c.answer.ensures.reads) (plain_options c.args.options) (setup_is c.args.options)
     (task_tells c.args.options c.if-options.false
-    (λ none. c.are_asked.ensures.some c.if-are_asked.true (c.as_slice.ensures ∙ none))) _ _ _)
+    (λ none. c.are_asked.ensures.some c.if-are_asked.true (c.as_slice.ensures ∙ none))) _ _))
 
 pub returns-then-are_asked-clause-faults : goal.returns-then-are_asked-clause-faults
 returns-then-are_asked-clause-faults g c = c.answer.ensures.faults _ _

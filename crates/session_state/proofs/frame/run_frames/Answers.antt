@@ -31,12 +31,12 @@ returns-in-Some-2-clause-ran g c =
       notes = half.notes;
     } in s) (put ∙ (λ i. unread c.in-Some-2.path.items Named
     ((c.in_ok-path.ensures.place i).depth + 1) ∷ is i ∷ rest))
-    ∙ frames_step later (plain_frame frame) (commands_left frame) rest c.loop-frame.rules
+    ∙ frames_step c.args.time later (plain_frame frame) (commands_left frame) rest c.loop-frame.rules
     (plain_texts c.loop-frame.notes) half
     (ap (λ (s : Option (List ℕ)). let h : Half = record half { source = s } in h)
     (sym (ap plain_shown c.in-Some-2.is)) ∙ c.in_ok-path.ensures.half later keeps)
     (ap (λ b. left_of b (commands_left frame)) c.if-not-frame.false)
-    ∙ sym (ap (λ (frames : List Frame). frames_run later (map plain_frame frames)
+    ∙ sym (ap (λ (frames : List Frame). frames_run c.args.time later (map plain_frame frames)
     c.loop-frame.rules (plain_texts c.loop-frame.notes)) c.in-Some.ensures)
     ∙ c.loop-frame.invariant.went later (keeps_on _ _ _ c.run.ensures.keeps keeps))
     c.put_inner.ensures
@@ -53,12 +53,12 @@ loop-frame-preserved g c =
     } in record {
       keeps = keeps_on _ _ _ c.loop-frame.invariant.keeps c.run.ensures.keeps;
       went = λ later keeps.
-          frames_step later (plain_frame frame) (commands_left frame) rest c.loop-frame.rules
+          frames_step c.args.time later (plain_frame frame) (commands_left frame) rest c.loop-frame.rules
           (plain_texts c.loop-frame.notes) half
           (ap (λ (s : Option (List ℕ)). let h : Half = record half { source = s } in h)
           (sym (ap plain_shown c.in-None.is)) ∙ c.in_ok-path.ensures.half later keeps)
           (ap (λ b. left_of b (commands_left frame)) c.if-not-frame.false)
-          ∙ sym (ap (λ (frames : List Frame). frames_run later (map plain_frame frames)
+          ∙ sym (ap (λ (frames : List Frame). frames_run c.args.time later (map plain_frame frames)
           c.loop-frame.rules (plain_texts c.loop-frame.notes)) c.in-Some.ensures)
           ∙ c.loop-frame.invariant.went later (keeps_on _ _ _ c.run.ensures.keeps keeps);
     }

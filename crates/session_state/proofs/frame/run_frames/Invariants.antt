@@ -9,8 +9,8 @@ abbrev pub invariant-loop-frame : goal.invariant-loop-frame
 invariant-loop-frame g l = record {
   keeps : Keeps l.initial.verdicts.kept l.verdicts.kept;
   went : (later : List PlainJudged) → Keeps l.verdicts.kept later
-      → frames_run later (plain_frames l.frames) l.rules (plain_texts l.notes)
-      ≡ frames_run later (plain_frames l.initial.frames) l.initial.rules
+      → frames_run l.time later (plain_frames l.frames) l.rules (plain_texts l.notes)
+      ≡ frames_run l.time later (plain_frames l.initial.frames) l.initial.rules
       (plain_texts l.initial.notes);
 }
 

@@ -11,10 +11,12 @@ use Rattle.session_state.proofs.reading.read_at.Goals as goal
 
 pub returns-in-Ok-clause-read : goal.returns-in-Ok-clause-read
 returns-in-Ok-clause-read g c = λ later keeps.
-    let west = c.requires.window.west in
-    let east = c.requires.window.east in
-    let moment : FitsSigned w64 c.args.moment.0 = omega (arith, signed_arith) in
-    let offset : FitsSigned w32 c.args.window.offset = omega (arith, signed_arith) in
+    let west = c.requires.west in
+    let east = c.requires.east in
+    let low = c.requires.moment.low in
+    let high = c.requires.moment.high in
+    let moment : FitsSigned w64 c.args.time.seconds = omega (arith, signed_arith) in
+    let offset : FitsSigned w32 c.args.time.offset = omega (arith, signed_arith) in
     let same = simp to_z-of_z at c.in-Ok.ensures.offset in
     let read = simp to_z-of_z at c.in-Ok.ensures.reads in
     ap (λ (offset : ℤ). let limit : PlainLimit = record {
@@ -23,9 +25,9 @@ returns-in-Ok-clause-read g c = λ later keeps.
     } in Some limit) same
     ∙ sym (ap (option_map (λ (tree : Tree). let limit : PlainLimit = record {
       tree = tree;
-      offset = c.args.window.offset;
+      offset = c.args.time.offset;
     } in limit))
-    (ap (λ (text : List ℕ). reading later c.args.moment.0 c.args.window.offset text)
+    (ap (λ (text : List ℕ). reading later c.args.time.seconds c.args.time.offset text)
     (sym c.as_slice.ensures.bytes)
     ∙ reads_as _ _ _ _ _ _ _ _ read later keeps))
 
@@ -34,16 +36,18 @@ returns-in-Err g c = record { keeps = c.in-Err.ensures.reads.read.judges.keeps; 
 
 pub returns-in-Err-2-clause-read : goal.returns-in-Err-2-clause-read
 returns-in-Err-2-clause-read g c = λ later keeps.
-    let west = c.requires.window.west in
-    let east = c.requires.window.east in
-    let moment : FitsSigned w64 c.args.moment.0 = omega (arith, signed_arith) in
-    let offset : FitsSigned w32 c.args.window.offset = omega (arith, signed_arith) in
+    let west = c.requires.west in
+    let east = c.requires.east in
+    let low = c.requires.moment.low in
+    let high = c.requires.moment.high in
+    let moment : FitsSigned w64 c.args.time.seconds = omega (arith, signed_arith) in
+    let offset : FitsSigned w32 c.args.time.offset = omega (arith, signed_arith) in
     let read = simp to_z-of_z at c.in-Err.ensures.reads in
     sym (ap (option_map (λ (tree : Tree). let limit : PlainLimit = record {
       tree = tree;
-      offset = c.args.window.offset;
+      offset = c.args.time.offset;
     } in limit))
-    (ap (λ (text : List ℕ). reading later c.args.moment.0 c.args.window.offset text)
+    (ap (λ (text : List ℕ). reading later c.args.time.seconds c.args.time.offset text)
     (sym c.as_slice.ensures.bytes)
     ∙ no_reading _ c.in-Err.error (reads_as _ _ _ _ _ _ _ _ read later keeps)
     (sym c.is_memory.ensures ∙ c.if-is_memory.false)))

@@ -1,8 +1,12 @@
-use Rattle.std.proofs.Common.{◌∙◌, ap, map, subst, sym}
+use Rattle.std.proofs.Common.{◌∙◌, None, ap, map, subst, sym}
 use Rattle.std.proofs.lemmas.Result.{on_ok_weaker}
 use Rattle.folder_core.specs.Letters.{plain_letter}
 use Rattle.index_view.specs.View.{IsOf}
-use Rattle.session.specs.Answers.{learnt, tuned}
+use Rattle.rc_lang_words.specs.Words.{lines_of}
+use Rattle.session_state.specs.Typed.{typed_run}
+use Rattle.session_state.specs.declared.instant.Instant.{Instant}
+use Rattle.session.specs.Answers.{learnt, told, tuned}
+use Rattle.session.specs.Core.{plain_core}
 use Rattle.session.proofs.CoreLemmas.{stands_as}
 use Rattle.session.proofs.core_state.Core.command.Goals as goal
 
@@ -16,6 +20,10 @@ tune-requires g c = c.in_ok-learn.ensures.is_of
 pub returns-clause-core : goal.returns-clause-core
 returns-clause-core g c =
     let mails = map plain_letter c.args.archive.now.items in
+    let core = plain_core c.args.self.now in
+    let lines = lines_of c.args.text.now.items in
     on_ok_weaker c.tune.result (λ stands later keeps. stands_as mails _ _ _
     (ap (tuned mails) (c.in_ok-learn.ensures.same
-    ∙ ap (learnt mails) (c.in_ok-run_typed.ensures.core later keeps))) stands) c.tune.ensures
+    ∙ ap (learnt mails) (c.in_ok-run_typed.ensures.core later keeps
+    ∙ ap (λ (time : Instant). told (typed_run time later None lines core.rules) core)
+    c.instant.ensures.value))) stands) c.tune.ensures

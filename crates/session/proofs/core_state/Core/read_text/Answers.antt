@@ -4,6 +4,8 @@ use Rattle.std.specs.Prelude.{option_map}
 use Rattle.folder_core.specs.Letters.{plain_letter}
 use Rattle.index_view.specs.Limit.{PlainLimit, plain_limit}
 use Rattle.index_view.specs.View.{IsOf}
+use Rattle.session_state.specs.Days.{reading_of}
+use Rattle.session_state.specs.declared.instant.Instant.{Instant}
 use Rattle.session.specs.Answers.{pattern_answered}
 use Rattle.session.specs.Core.{plain_core}
 use Rattle.session.proofs.core_state.Core.read_text.Goals as goal
@@ -16,5 +18,7 @@ returns-in-None-clause-core g c =
       same = is ∙ ap (λ (o : Option PlainLimit). pattern_answered mails c.args.asking
           c.args.text.items o (plain_core c.args.self.now))
           (ap (option_map plain_limit) (sym c.in-None.is)
-          ∙ c.in_ok-pattern.ensures.read later keeps);
+          ∙ c.in_ok-pattern.ensures.read later keeps
+          ∙ ap (λ (time : Instant). reading_of later time c.args.text.items)
+          c.instant-time.ensures.value);
     }) c.refuse_pattern.ensures.core

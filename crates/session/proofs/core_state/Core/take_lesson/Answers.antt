@@ -1,6 +1,9 @@
-use Rattle.std.proofs.Common.{◌∙◌, ap, map, subst, sym}
+use Rattle.std.proofs.Common.{◌∙◌, Bool, List, ap, map, subst, sym}
 use Rattle.std.proofs.lemmas.Result.{on_ok_weaker}
 use Rattle.folder_core.specs.Letters.{plain_letter}
+use Rattle.index_items.specs.Kept.{kept}
+use Rattle.index_view.specs.View.{Turned, facts_of}
+use Rattle.patterns_match.specs.ScoreEntries.{held_entries}
 use Rattle.people.specs.People.{with_alias}
 use Rattle.session_index.specs.Index.{Shows, index_of}
 use Rattle.session_index.proofs.IndexLemmas.{turned_shows}
@@ -17,6 +20,18 @@ returns-in-Person-clause-index c =
     Shows mails (with_lesson mails (plain_lesson l) (index_of view)) c.add_person.new.self)
     (sym c.in-Person.is) (turned_shows mails view c.add_person.new.self _ c.requires turned))
     c.add_person.ensures.ok
+
+pub returns-in-Kept-clause-index : goal.returns-in-Kept-clause-index
+returns-in-Kept-clause-index c =
+    let mails = map plain_letter c.args.archive.now.items in
+    let view = c.args.self.now.desk.view in
+    on_ok_weaker c.keep_scores.result (λ turned. subst (λ (l : Lesson).
+    Shows mails (with_lesson mails (plain_lesson l) (index_of view)) c.keep_scores.new.self)
+    (sym c.in-Kept.is) (turned_shows mails view c.keep_scores.new.self _ c.requires
+    (subst (λ (marks : List Bool). Turned mails view c.keep_scores.new.self (record (facts_of view) {
+      scores = kept marks (held_entries view.scores);
+    })) c.as_slice-in-Kept.ensures.value turned)))
+    c.keep_scores.ensures
 
 pub returns-in-Named-clause-index : goal.returns-in-Named-clause-index
 returns-in-Named-clause-index c =

@@ -4,7 +4,7 @@ use Rattle.folder_core.specs.Letters.{plain_letter}
 use Rattle.index_order.specs.declared.view_options.ViewOptions.{ViewOptions}
 use Rattle.session_index.specs.Desk.{plain_desk}
 use Rattle.session_index.specs.Opening.{tuned}
-use Rattle.session_state.specs.Tuning.{options_of}
+use Rattle.session_screen.specs.Tuning.{options_of}
 use Rattle.session.specs.Core.{plain_core, with_desk}
 use Rattle.session.proofs.CoreLemmas.{stands_as, stands_by}
 use Rattle.session.proofs.core_state.Core.tune.Goals as goal

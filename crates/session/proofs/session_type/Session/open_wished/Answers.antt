@@ -42,15 +42,15 @@ returns-in-None-clause-ok g c first before sources given is =
     c.requires.read
     (rw (to_z-of_z c.ranges.moment, sym c.happen.ensures.archive) at c.in_ok-event.ensures.ok)
     sources (plain_session c.happen.new.self c.happen.new.trace.notes)
-    (sym c.refusal_of-refusal.ensures ∙ c.in-None.is) (c.in_ok-happen.ensures.arrived given is)
+    (sym c.refusal-refusal.ensures ∙ c.in-None.is) (c.in_ok-happen.ensures.arrived given is)
 
 pub returns-in-Some-clause-err : goal.returns-in-Some-clause-err
 returns-in-Some-clause-err g c first before sources given is =
-    rw c.start_error.ensures
+    rw c.of.ensures
     (fails _ given _ is.mails_are (keeps_then c.happen.ensures.kept is.keeps) first
     (plain_session c.args.self.now c.args.trace.now.notes) _ _ _ _ _ before _ _
     (ap plain_events c.in_ok-reserve.ensures.items) c.happen.ensures.events c.requires.unopened
     c.requires.read
     (rw (to_z-of_z c.ranges.moment, sym c.happen.ensures.archive) at c.in_ok-event.ensures.ok)
     sources (plain_session c.happen.new.self c.happen.new.trace.notes) c.in-Some.why
-    (sym c.refusal_of-refusal.ensures ∙ c.in-Some.is) (c.in_ok-happen.ensures.arrived given is))
+    (sym c.refusal-refusal.ensures ∙ c.in-Some.is) (c.in_ok-happen.ensures.arrived given is))

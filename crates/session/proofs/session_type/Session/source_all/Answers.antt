@@ -1,5 +1,4 @@
-use Rattle.std.proofs.Common.{refl, subst, sym, ◌∙◌}
-use Rattle.session_state.specs.Window.{IsWindow}
+use Rattle.std.proofs.Common.{refl, ◌∙◌}
 use Rattle.session.specs.Runs.{plain_session}
 use Rattle.session.proofs.GivenLemmas.{keeps_then}
 use Rattle.session.proofs.StepsLemmas.{sources_off}
@@ -14,6 +13,7 @@ loop-turn-preserved g c = record {
   unopened = c.in_ok-source_next.ensures.unopened;
   view = c.in_ok-source_next.ensures.view ∙ c.loop-turn.invariant.view;
   window = c.source_next.ensures.window ∙ c.loop-turn.invariant.window;
+  fits = c.in_ok-source_next.ensures.fits;
   archive = c.source_next.ensures.archive ∙ c.loop-turn.invariant.archive;
   kept = keeps_then c.loop-turn.invariant.kept c.source_next.ensures.kept;
   sources = λ first before sources.
@@ -35,9 +35,8 @@ returns-clause-off g c first before sources =
     sources_off first (plain_session c.loop-turn.self c.loop-turn.trace.notes) _ _ before _ _ refl
     refl (c.loop-turn.invariant.sources first before sources)
 
-pub source_next-requires-clause-window : goal.source_next-requires-clause-window
-source_next-requires-clause-window g c =
-    subst IsWindow (sym c.loop-turn.invariant.window) c.requires.window
+pub source_next-requires-clause-fits : goal.source_next-requires-clause-fits
+source_next-requires-clause-fits g c = c.loop-turn.invariant.fits
 
 pub returns-in_err-source_next-clause-window : goal.returns-in_err-source_next-clause-window
 returns-in_err-source_next-clause-window g c =

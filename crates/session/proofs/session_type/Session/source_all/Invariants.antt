@@ -2,6 +2,7 @@ use Rattle.std.proofs.Common.{◌≡◌}
 use Rattle.disk_model.specs.Seen.{Seen}
 use Rattle.patterns.specs.Causes.{Keeps}
 use Rattle.session_events.specs.Events.{plain_events}
+use Rattle.session.specs.Fitting.{CanRead}
 use Rattle.session.specs.Runs.{State, plain_session}
 use Rattle.session.specs.Steps.{Sources}
 use Rattle.session_state.specs.declared.stage.Stage.TheVariants.{Unopened}
@@ -12,6 +13,7 @@ invariant-loop-turn g l = record {
   unopened : l.self.stage ≡ Unopened;
   view : l.self.core.desk.view ≡ l.fn.self.core.desk.view;
   window : l.self.window ≡ l.fn.self.window;
+  fits : CanRead l.self;
   archive : l.trace.archive ≡ l.fn.trace.archive;
   kept : Keeps l.fn.trace.verdicts.kept l.trace.verdicts.kept;
   sources : (first : State) → (before : Seen)

@@ -2,7 +2,8 @@ use Rattle.std.proofs.Common.{[], ap, map, refl, subst, sym, ◌∙◌}
 use Rattle.std.proofs.Math.Facts.{to_z-of_z}
 use Rattle.folder_core.specs.Letters.{plain_letter}
 use Rattle.session_events.specs.Events.{plain_events}
-use Rattle.session_state.specs.Window.{IsWindow}
+use Rattle.session_screen.specs.Window.{IsWindow}
+use Rattle.session_state.specs.Instants.{IsMoment}
 use Rattle.session.specs.Runs.{State, plain_session}
 use Rattle.session.specs.Starting.{first_state, plain_setup}
 use Rattle.session.proofs.BeginningLemmas.{fails_early, if_error, no_answer, no_memory}
@@ -12,19 +13,22 @@ use Rattle.session.proofs.session_type.Session.start.Goals as goal
 pub returns-in_err-session-clause-err : goal.returns-in_err-session-clause-err
 returns-in_err-session-clause-err g c =
     no_memory _ _ c.from_residual.ensures.1 (λ given is.
-    fails_early _ given (first_state (plain_setup c.args.setup)) _ _ _ _ _
+    fails_early _ given (first_state (plain_setup c.args.setup) c.args.moment) _ _ _ _ _
     (is.mails_are ∙ ap (map plain_letter) c.requires.archive) is.keeps
-    (sources_off (first_state (plain_setup c.args.setup)) (first_state (plain_setup c.args.setup))
-    _ _ _ _ _ refl refl (sources_begun _ (first_state (plain_setup c.args.setup))
-    (first_state (plain_setup c.args.setup)) _ _ refl (ap plain_events c.requires.events))))
+    (sources_off (first_state (plain_setup c.args.setup) c.args.moment) (first_state (plain_setup c.args.setup) c.args.moment)
+    _ _ _ _ _ refl refl (sources_begun _ (first_state (plain_setup c.args.setup) c.args.moment)
+    (first_state (plain_setup c.args.setup) c.args.moment) _ _ refl (ap plain_events c.requires.events))))
 
 pub begin-requires : goal.begin-requires
 begin-requires g c =
-    let is = c.in_ok-session.ensures.state (record { items = []; room = 0 }) refl in
+    let is = (rw (to_z-of_z c.ranges.moment) at c.in_ok-session.ensures.state) (record { items = []; room = 0 }) refl in
     record {
       unopened = ap (λ (s : State). s.turn.stage) is;
       archive = c.requires.archive;
-      window = subst IsWindow (sym (ap (λ (s : State). s.window) is)) c.requires.window;
+      fits = record {
+        window = subst IsWindow (sym (ap (λ (s : State). s.window) is)) c.requires.window;
+        checked = subst IsMoment (sym (ap (λ (s : State). s.checked) is)) c.requires.moment;
+      };
       moment = rw (to_z-of_z c.ranges.moment) c.requires.moment;
       empty = c.in_ok-session.ensures.empty;
     }
@@ -33,19 +37,19 @@ pub returns-in_err-begin-clause-err : goal.returns-in_err-begin-clause-err
 returns-in_err-begin-clause-err g c =
     if_error _ c.in_err-begin.field-0.0 _ c.from_residual-in_err-begin.ensures.1
     ((rw (to_z-of_z c.ranges.moment) at c.in_err-begin.ensures.err)
-    (first_state (plain_setup c.args.setup)) _
-    (sources_begun _ (first_state (plain_setup c.args.setup))
+    (first_state (plain_setup c.args.setup) c.args.moment) _
+    (sources_begun _ (first_state (plain_setup c.args.setup) c.args.moment)
     (plain_session c.in_ok-session.session c.args.trace.now.notes) _ _
-    (c.in_ok-session.ensures.state c.args.trace.now.notes c.requires.notes)
+    ((rw (to_z-of_z c.ranges.moment) at c.in_ok-session.ensures.state) c.args.trace.now.notes c.requires.notes)
     (ap plain_events c.requires.events)))
 
 pub returns-clause-ok : goal.returns-clause-ok
 returns-clause-ok g c =
     (rw (to_z-of_z c.ranges.moment) at c.in_ok-begin.ensures.ok)
-    (first_state (plain_setup c.args.setup)) _
-    (sources_begun _ (first_state (plain_setup c.args.setup))
+    (first_state (plain_setup c.args.setup) c.args.moment) _
+    (sources_begun _ (first_state (plain_setup c.args.setup) c.args.moment)
     (plain_session c.in_ok-session.session c.args.trace.now.notes) _ _
-    (c.in_ok-session.ensures.state c.args.trace.now.notes c.requires.notes)
+    ((rw (to_z-of_z c.ranges.moment) at c.in_ok-session.ensures.state) c.args.trace.now.notes c.requires.notes)
     (ap plain_events c.requires.events))
 
 pub returns-in_err-begin-clause-fits : goal.returns-in_err-begin-clause-fits

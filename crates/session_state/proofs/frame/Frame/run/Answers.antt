@@ -24,13 +24,13 @@ returns-in-Source-clause-half g c = λ later keeps.
     (x ∷ drop (c.loop-self.self.next + 1) c.loop-self.self.commands.items))
     (sym (c.index-as_slice-self.is ∙ ap (λ (xs : List RcLine). get_or xs c.loop-self.self.next
     c.index-as_slice-self.result) c.as_slice.ensures)) in
-    file_step later (plain_line c.index-as_slice-self.result) lines c.loop-self.rules
+    file_step c.args.time later (plain_line c.index-as_slice-self.result) lines c.loop-self.rules
     c.run_line.new.rules (plain_obeyed c.in_ok-obeyed.obeyed)
     (c.in_ok-obeyed.ensures.ran later keeps) (place_of c.loop-self.self)
     (plain_texts c.loop-self.notes) (Ok (ToRead c.in-Source.path.items))
     (sym (ap plain_obeyed (c.in-Answered.is ∙ ap Answered c.in-Source.is))
     ∙ c.in_ok-answer.ensures.value)
-    ∙ ap (λ (ls : List PlainLine). file_run later (place_of c.loop-self.self) ls c.loop-self.rules
+    ∙ ap (λ (ls : List PlainLine). file_run c.args.time later (place_of c.loop-self.self) ls c.loop-self.rules
     (plain_texts c.loop-self.notes)) (sym left)
     ∙ c.loop-self.invariant.went later (keeps_on _ _ _ c.run_line.ensures.keeps keeps)
 
@@ -48,13 +48,13 @@ loop-self-preserved-in-Quiet g c = record {
       (x ∷ drop (c.loop-self.self.next + 1) c.loop-self.self.commands.items))
       (sym (c.index-as_slice-self.is ∙ ap (λ (xs : List RcLine). get_or xs c.loop-self.self.next
       c.index-as_slice-self.result) c.as_slice.ensures)) in
-      file_step later (plain_line c.index-as_slice-self.result) lines c.loop-self.rules
+      file_step c.args.time later (plain_line c.index-as_slice-self.result) lines c.loop-self.rules
       c.run_line.new.rules (plain_obeyed c.in_ok-obeyed.obeyed)
       (c.in_ok-obeyed.ensures.ran later keeps) (place_of c.loop-self.self)
       (plain_texts c.loop-self.notes) (Ok Quiet)
       (sym (ap plain_obeyed (c.in-Answered.is ∙ ap Answered c.in-Quiet.is))
       ∙ c.in_ok-answer.ensures.value)
-      ∙ ap (λ (ls : List PlainLine). file_run later (place_of c.loop-self.self) ls
+      ∙ ap (λ (ls : List PlainLine). file_run c.args.time later (place_of c.loop-self.self) ls
       c.loop-self.rules (plain_texts c.loop-self.notes)) (sym left)
       ∙ c.loop-self.invariant.went later (keeps_on _ _ _ c.run_line.ensures.keeps keeps);
   file = c.loop-self.invariant.file;
@@ -78,13 +78,13 @@ loop-self-preserved-in-Show g c = record {
       (x ∷ drop (c.loop-self.self.next + 1) c.loop-self.self.commands.items))
       (sym (c.index-as_slice-self.is ∙ ap (λ (xs : List RcLine). get_or xs c.loop-self.self.next
       c.index-as_slice-self.result) c.as_slice.ensures)) in
-      file_step later (plain_line c.index-as_slice-self.result) lines c.loop-self.rules
+      file_step c.args.time later (plain_line c.index-as_slice-self.result) lines c.loop-self.rules
       c.run_line.new.rules (plain_obeyed c.in_ok-obeyed.obeyed)
       (c.in_ok-obeyed.ensures.ran later keeps) (place_of c.loop-self.self)
       (plain_texts c.loop-self.notes) (Ok (ToShow c.in-Show._line.items))
       (sym (ap plain_obeyed (c.in-Answered.is ∙ ap Answered c.in-Show.is))
       ∙ c.in_ok-answer.ensures.value)
-      ∙ ap (λ (ls : List PlainLine). file_run later (place_of c.loop-self.self) ls
+      ∙ ap (λ (ls : List PlainLine). file_run c.args.time later (place_of c.loop-self.self) ls
       c.loop-self.rules (plain_texts c.loop-self.notes)) (sym left)
       ∙ c.loop-self.invariant.went later (keeps_on _ _ _ c.run_line.ensures.keeps keeps);
   file = c.loop-self.invariant.file;
@@ -108,18 +108,18 @@ loop-self-preserved g c = record {
       (x ∷ drop (c.loop-self.self.next + 1) c.loop-self.self.commands.items))
       (sym (c.index-as_slice-self.is ∙ ap (λ (xs : List RcLine). get_or xs c.loop-self.self.next
       c.index-as_slice-self.result) c.as_slice.ensures)) in
-      ap (λ (notes : List (List ℕ)). file_run later (place_of c.loop-self.self) lines
+      ap (λ (notes : List (List ℕ)). file_run c.args.time later (place_of c.loop-self.self) lines
       c.run_line.new.rules notes) (c.in_ok-add_note-in-Refused.ensures
       ∙ ap (λ (n : ℕ). plain_texts c.loop-self.notes
       ++ note_of c.loop-self.self.file.items n (plain_error c.in-Refused.error) ∷ [])
       c.line_number-number.ensures)
-      ∙ file_step later (plain_line c.index-as_slice-self.result) lines c.loop-self.rules
+      ∙ file_step c.args.time later (plain_line c.index-as_slice-self.result) lines c.loop-self.rules
       c.run_line.new.rules (plain_obeyed c.in_ok-obeyed.obeyed)
       (c.in_ok-obeyed.ensures.ran later keeps) (place_of c.loop-self.self)
       (plain_texts c.loop-self.notes) (Err (plain_error c.in-Refused.error))
       (sym (ap plain_obeyed c.in-Refused.is)
       ∙ c.in_ok-answer.ensures.value)
-      ∙ ap (λ (ls : List PlainLine). file_run later (place_of c.loop-self.self) ls
+      ∙ ap (λ (ls : List PlainLine). file_run c.args.time later (place_of c.loop-self.self) ls
       c.loop-self.rules (plain_texts c.loop-self.notes)) (sym left)
       ∙ c.loop-self.invariant.went later (keeps_on _ _ _ c.run_line.ensures.keeps keeps);
   file = c.loop-self.invariant.file;

@@ -9,8 +9,8 @@ abbrev pub invariant-loop-self : goal.invariant-loop-self
 invariant-loop-self g l = record {
   keeps : Keeps l.initial.verdicts.kept l.verdicts.kept;
   went : (later : List PlainJudged) → Keeps l.verdicts.kept later
-      → file_run later (place_of l.self) (commands_left l.self) l.rules (plain_texts l.notes)
-      ≡ file_run later (place_of l.initial.self) (commands_left l.initial.self) l.initial.rules
+      → file_run l.time later (place_of l.self) (commands_left l.self) l.rules (plain_texts l.notes)
+      ≡ file_run l.time later (place_of l.initial.self) (commands_left l.initial.self) l.initial.rules
       (plain_texts l.initial.notes);
   file : l.self.file ≡ l.initial.self.file;
   origin : l.self.origin ≡ l.initial.self.origin;

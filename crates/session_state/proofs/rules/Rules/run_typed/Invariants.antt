@@ -10,8 +10,8 @@ abbrev pub invariant-loop-line : goal.invariant-loop-line
 invariant-loop-line g l = record {
   keeps : Keeps l.initial.verdicts.kept l.verdicts.kept;
   went : (later : List PlainJudged) → Keeps l.verdicts.kept later
-      → typed_run later (plain_shown l.shown) (map plain_line l.left) l.self
-      ≡ typed_run later None (lines_of l.text) l.initial.self;
+      → typed_run l.time later (plain_shown l.shown) (map plain_line l.left) l.self
+      ≡ typed_run l.time later None (lines_of l.text) l.initial.self;
 }
 
 abbrev pub decreases-loop-line : goal.decreases-loop-line

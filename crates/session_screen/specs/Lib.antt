@@ -1,0 +1,9 @@
+pub mod Window
+pub mod Places
+pub mod Tuning
+pub mod Sorting
+pub mod Formats
+pub mod Columns
+pub mod Counting
+pub mod Status
+pub mod Screen
