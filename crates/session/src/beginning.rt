@@ -87,8 +87,8 @@ impl Session {
             → AnswersNames given (first_state (plain_setup setup) moment)
             (plain_events trace.new.events.items) (plain_texts names.now) (plain_texts lines)
             (plain_texts trace.new.notes)) }
-        ensures sources { SourcesOff trace.new.verdicts.kept (first_state (plain_setup setup) moment)
-            (plain_events trace.new.events.items)
+        ensures sources { SourcesOff trace.new.verdicts.kept
+            (first_state (plain_setup setup) moment) (plain_events trace.new.events.items)
             (seen (dev.old.disk.vtable, dev.old.disk.value))
             (seen (dev.new.disk.vtable, dev.new.disk.value)) }
         ensures archive { trace.new.archive ≡ trace.old.archive }

@@ -1,5 +1,5 @@
-//! What happens in a run: the reading of a file of commands, the opening of a folder, and keys, each
-//! an event with what it says of the disk; the trace of them all; and what a session starts from.
+//! What happens in a run: the reading of a file of commands, the opening of a folder, and keys,
+//! each with what it says of the disk; the trace of it all; and what a session starts from.
 #![tactic(auto)]
 
 mod event;
