@@ -1,9 +1,8 @@
 pub mod CandidatesLemmas
 pub mod CharsetLemmas
 pub mod DecodeLemmas
-pub mod FieldsSoFarLemmas
+pub mod FoldedFieldLemmas
 pub mod IdsLemmas
 pub mod PeopleLemmas
 pub mod ReferencesLemmas
 pub mod SubjectLemmas
-pub mod ValuesLemmas

@@ -5,11 +5,11 @@ use Rattle.std.specs.List.{flat_map}
 use Rattle.std.specs.Prelude.{if◌then◌else◌}
 use Rattle.std.proofs.lemmas.List.{reverse-append, length-reverse, append-nil, take-take, take-append-le, take_all}
 use Rattle.mail_base.specs.Lines.{PlainField}
-use Rattle.headers.specs.Field.{plain_field}
+use Rattle.headers.specs.FoldedField.{plain_folded}
 use Rattle.headers.specs.Ids.{ids}
 use Rattle.headers.specs.References.{last_ids}
 use Rattle.headers.specs.Values.{is_named, references}
-use Rattle.headers.specs.declared.field.Field.{Field}
+use Rattle.headers.specs.declared.folded_field.FoldedField.{FoldedField}
 
 -- one more comes first
 last_ids-push : (ids : List (List ℕ)) (id : List ℕ) → last_ids (ids ++ id ∷ []) ≡ id ∷ take 63 (last_ids ids)
@@ -57,24 +57,24 @@ references-cons f fields = by_name (is_named (codes "references") f)
     by_name false = refl
 
 -- the ids of the first field are read
-pub last_ids_rest : (left : List Field) (d : Field) (done after all : List (List ℕ)) → 1 ≤ length left
-    → last_ids after ≡ last_ids (done ++ references (plain_field (get_or left 0 d) ∷ []))
-    → last_ids (done ++ references (map plain_field left)) ≡ last_ids all
-    → last_ids (after ++ references (map plain_field (take (length left - 1) (drop 1 left)))) ≡ last_ids all
+pub last_ids_rest : (left : List FoldedField) (d : FoldedField) (done after all : List (List ℕ)) → 1 ≤ length left
+    → last_ids after ≡ last_ids (done ++ references (plain_folded (get_or left 0 d) ∷ []))
+    → last_ids (done ++ references (map plain_folded left)) ≡ last_ids all
+    → last_ids (after ++ references (map plain_folded (take (length left - 1) (drop 1 left)))) ≡ last_ids all
 last_ids_rest [] d done after all some read same = absurd (omega arith)
 last_ids_rest (f ∷ left) d done after all some read same =
     let whole : take (length (f ∷ left) - 1) left ≡ left = take_all (length (f ∷ left) - 1) left (omega arith) in
-    let first = references (plain_field f ∷ []) in
-    let rest = references (map plain_field left) in
-    ap (λ l. last_ids (after ++ references (map plain_field l))) whole
+    let first = references (plain_folded f ∷ []) in
+    let rest = references (map plain_folded left) in
+    ap (λ l. last_ids (after ++ references (map plain_folded l))) whole
     ∙ last_ids-append after (done ++ first) rest read
     ∙ ap last_ids (append_assoc done first rest)
-    ∙ ap (λ l. last_ids (done ++ l)) (sym (references-cons (plain_field f) (map plain_field left)))
+    ∙ ap (λ l. last_ids (done ++ l)) (sym (references-cons (plain_folded f) (map plain_folded left)))
     ∙ same
 
 -- behind the last field the ids that are kept are the last
-pub last_ids_kept : (names all : List (List ℕ)) (left : List Field) → length left < 1 → length names ≤ 64
-    → last_ids (names ++ references (map plain_field left)) ≡ last_ids all → reverse names ≡ last_ids all
+pub last_ids_kept : (names all : List (List ℕ)) (left : List FoldedField) → length left < 1 → length names ≤ 64
+    → last_ids (names ++ references (map plain_folded left)) ≡ last_ids all → reverse names ≡ last_ids all
 last_ids_kept names all (f ∷ left) none few same = absurd (omega arith)
 last_ids_kept names all [] none few same =
     let room : length (reverse names) ≤ 64 = omega (arith, length-reverse names) in

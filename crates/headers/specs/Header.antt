@@ -1,19 +1,17 @@
 -- What a message's header says (RFC 5322, section 3.6).
 use Rattle.std.specs.Prelude.{ℕ, Bool, List, Option, option_map, codes}
-use Rattle.mail_base.specs.Lines.{PlainField, body_at, message_fields}
+use Rattle.mail_base.specs.Lines.{body_at, message_fields}
 use Rattle.mail_base.specs.Series.{plain_texts}
 use Rattle.headers.specs.BodyLines.{body_lines}
 use Rattle.headers.specs.Candidates.{candidates}
-use Rattle.headers.specs.Field.{plain_fields}
 use Rattle.headers.specs.Person.{PlainPerson, plain_persons}
 use Rattle.headers.specs.Subject.{base_of, has_prefix}
 use Rattle.headers.specs.Values.{id_in, persons, sent, subject}
 use Rattle.headers.specs.declared.header.Header.{Header}
 use Rattle.headers.specs.declared.sent_date.SentDate.{SentDate}
 
--- a header, without the rooms of its lists
+-- what a header says, but for the list of its fields, and without the rooms of its lists
 pub record PlainHeader : Type 0 where
-  pub fields : List PlainField
   pub subject : List ℕ
   pub base_subject : List ℕ
   pub reply_prefix : Bool
@@ -32,7 +30,6 @@ pub record PlainHeader : Type 0 where
 abbrev pub header : List ℕ → PlainHeader
 header text =
     let fields = message_fields text in record {
-      fields = fields;
       subject = subject fields;
       base_subject = base_of (subject fields);
       reply_prefix = has_prefix (subject fields);
@@ -50,7 +47,6 @@ header text =
 
 abbrev pub plain_header : Header → PlainHeader
 plain_header h = record {
-  fields = plain_fields h.fields;
   subject = h.subject.items;
   base_subject = h.base_subject.items;
   reply_prefix = h.reply_prefix;

@@ -7,7 +7,7 @@ pub mod Decode
 pub mod EncodedWord
 pub mod Encoding
 pub mod Field
-pub mod FieldsSoFar
+pub mod FoldedField
 pub mod Header
 pub mod Ids
 pub mod People

@@ -6,9 +6,9 @@ ghost use Rattle.std.specs.Str.{bytes_eq};
 ghost use Rattle.mail_base.specs.Series.{plain_texts};
 ghost use Rattle.headers.specs.Candidates as spec;
 ghost use Rattle.headers.specs.Candidates.{texts};
-ghost use Rattle.headers.specs.Field.{plain_field};
+ghost use Rattle.headers.specs.FoldedField.{plain_folded};
 
-use crate::field::Field;
+use crate::folded_field::FoldedField;
 use crate::references::last_references;
 use crate::values::id_in;
 use mail_base::{Bytes, Names, NoMemory};
@@ -59,8 +59,8 @@ fn add_backwards(alloc: Global, names: &mut Vec<Bytes>, ids: &[Bytes]) -> Result
 
 /// The ids of the messages that this one may answer, the most likely first: the first id of
 /// In-Reply-To, then the last 64 of References (RFC 5322, section 3.6.4).
-pub fn candidates_of(alloc: Global, fields: &[Field]) -> Result<Names, NoMemory>
-    ensures { IfOk result (λ n. plain_texts n ≡ spec.candidates (map plain_field fields.now)) }
+pub fn candidates_of(alloc: Global, fields: &[FoldedField<'_>]) -> Result<Names, NoMemory>
+    ensures { IfOk result (λ n. plain_texts n ≡ spec.candidates (map plain_folded fields.now)) }
 {
     let references = last_references(alloc, fields)?;
     let replied = id_in(alloc, fields, b"in-reply-to")?;

@@ -1,24 +1,27 @@
 //! What a message's header says (RFC 5322, section 3.6).
 
-ghost use Rattle.std.specs.Prelude.{◌≡◌, ◌≤◌, length, IfOk};
+ghost use Rattle.std.specs.Prelude.{◌≡◌, ◌≤◌, length, map, IfOk};
 ghost use Rattle.mail_base.specs.Lines as lines;
+ghost use Rattle.headers.specs.Field.{plain_fields};
+ghost use Rattle.headers.specs.FoldedField.{plain_folded};
 ghost use Rattle.headers.specs.Header as spec;
-ghost use Rattle.headers.specs.Values as values;
 
 use crate::body_lines::body_lines;
 use crate::candidates::candidates_of;
 use crate::field::Fields;
-use crate::fields_so_far::{read_block, read_fields};
+use crate::fields::{copies_of, folded_fields};
+use crate::folded_field::FoldedField;
 use crate::person::Persons;
 use crate::sent_date::SentDate;
 use crate::subject::{base_of, has_prefix};
 use crate::values::{id_in, people_of, sent_in, subject_of};
-use mail_base::{Bytes, Line, Names, NoMemory};
+use mail_base::{Bytes, Line, Names, NoMemory, body_at};
 use std::alloc::Global;
 
 /// What the header block of a message says (RFC 5322, section 3.6).
 #[derive(Drop)]
 pub struct Header {
+    /// Its fields in their order. They are left out where the text is at hand.
     pub fields: Fields,
     /// The first Subject with its encoded words decoded, or nothing.
     pub subject: Line,
@@ -43,46 +46,52 @@ pub struct Header {
     pub body_lines: u64,
 }
 
-/// The header of a message; none is refused.
-pub fn read_header(alloc: Global, raw: &[u8]) -> Result<Header, NoMemory>
+// What a header with these fields says, but for the list of them.
+fn values_of(alloc: Global, raw: &[u8], fields: &[FoldedField<'_>]) -> Result<Header, NoMemory>
+    requires { map plain_folded fields.now ≡ lines.message_fields raw.now }
     ensures header { IfOk result (λ h. spec.plain_header h ≡ spec.header raw.now) }
     ensures within { IfOk result (λ h. h.body_at ≤ length raw.now) }
 {
-    let (fields, body_at) = read_block(alloc, raw)?;
-    let list = fields.as_slice();
-    let subject = subject_of(alloc, list)?;
+    let subject = subject_of(alloc, fields)?;
     let base_subject = base_of(alloc, &subject)?;
     let reply_prefix = has_prefix(subject.as_slice());
-    let authors = people_of(alloc, list, b"from")?;
-    let senders = people_of(alloc, list, b"sender")?;
-    let to = people_of(alloc, list, b"to")?;
-    let cc = people_of(alloc, list, b"cc")?;
-    let reply_to = people_of(alloc, list, b"reply-to")?;
-    let message_id = id_in(alloc, list, b"message-id")?;
-    let candidates = candidates_of(alloc, list)?;
-    let sent = sent_in(list);
+    let body_at = body_at(raw);
     Ok(Header {
-        fields,
+        fields: Fields::new(alloc),
         subject,
         base_subject,
         reply_prefix,
-        authors,
-        senders,
-        to,
-        cc,
-        reply_to,
-        message_id,
-        candidates,
-        sent,
+        authors: people_of(alloc, fields, b"from")?,
+        senders: people_of(alloc, fields, b"sender")?,
+        to: people_of(alloc, fields, b"to")?,
+        cc: people_of(alloc, fields, b"cc")?,
+        reply_to: people_of(alloc, fields, b"reply-to")?,
+        message_id: id_in(alloc, fields, b"message-id")?,
+        candidates: candidates_of(alloc, fields)?,
+        sent: sent_in(alloc, fields)?,
         body_at,
         body_lines: body_lines(raw, body_at),
     })
 }
 
-/// The subject of a message as it is shown, without what else its header says.
-pub fn read_subject(alloc: Global, raw: &[u8]) -> Result<Line, NoMemory>
-    ensures { IfOk result (λ l. l.items ≡ values.subject (lines.message_fields raw.now)) }
+/// The header of a message; none is refused.
+pub fn read_header(alloc: Global, raw: &[u8]) -> Result<Header, NoMemory>
+    ensures header { IfOk result (λ h. spec.plain_header h ≡ spec.header raw.now) }
+    ensures fields { IfOk result (λ h. plain_fields h.fields ≡ lines.message_fields raw.now) }
+    ensures within { IfOk result (λ h. h.body_at ≤ length raw.now) }
 {
-    let fields = read_fields(alloc, raw)?;
-    subject_of(alloc, fields.as_slice())
+    let fields = folded_fields(alloc, raw)?;
+    let mut header = values_of(alloc, raw, fields.as_slice())?;
+    header.fields = copies_of(alloc, fields.as_slice())?;
+    Ok(header)
+}
+
+/// The same with an empty list of fields, for those who keep a header of each message beside its
+/// text; `FoldedField` finds a field in the text without memory.
+pub fn read_brief_header(alloc: Global, raw: &[u8]) -> Result<Header, NoMemory>
+    ensures header { IfOk result (λ h. spec.plain_header h ≡ spec.header raw.now) }
+    ensures within { IfOk result (λ h. h.body_at ≤ length raw.now) }
+{
+    let fields = folded_fields(alloc, raw)?;
+    values_of(alloc, raw, fields.as_slice())
 }

@@ -2,12 +2,12 @@
 
 ghost use Rattle.std.specs.Prelude.{◌≡◌, map, option_map, IfOk};
 ghost use Rattle.std.specs.List.{find};
-ghost use Rattle.headers.specs.Field.{plain_field};
+ghost use Rattle.headers.specs.FoldedField.{plain_folded};
 ghost use Rattle.headers.specs.Person.{plain_persons};
 ghost use Rattle.headers.specs.Values as spec;
 
 use crate::decode::decode_words;
-use crate::field::Field;
+use crate::folded_field::FoldedField;
 use crate::ids::{FoundId, bracketed};
 use crate::people::{add_people, persons_of};
 use crate::person::Persons;
@@ -15,36 +15,36 @@ use crate::sent_date::SentDate;
 use mail_base::{Bytes, Line, NoMemory, is_same_name};
 use std::alloc::Global;
 
-fn first_named<'a>(fields: &'a [Field], name: &[u8]) -> Option<&'a Field>
-    ensures { option_map (λ f. f.now) result
-        ≡ find (λ f. spec.is_named name.now (plain_field f)) fields.now }
+// The first field of the name.
+fn first_named<'a>(fields: &[FoldedField<'a>], name: &[u8]) -> Option<FoldedField<'a>>
+    ensures { option_map plain_folded result
+        ≡ find (spec.is_named name.now) (map plain_folded fields.now) }
 {
-    fields
-        .iter()
-        .find(|f| is_same_name(f.name.as_slice(), name))
-}
-
-/// The value of the first field of the name.
-pub fn first_value<'a>(fields: &'a [Field], name: &[u8]) -> Option<&'a [u8]>
-    ensures { option_map (λ r. r.now) result
-        ≡ spec.first_value name.now (map plain_field fields.now) }
-{
-    match first_named(fields, name) {
-        Some(field) => Some(field.value.as_slice()),
-        None => None,
+    let mut left = fields;
+    while let [first, rest @ ..] = left {
+        if is_same_name(first.name, name) {
+            return Some(*first);
+        }
+        left = rest;
     }
+    None
 }
 
 /// The persons of all fields of the name.
-pub fn people_of(alloc: Global, fields: &[Field], name: &[u8]) -> Result<Persons, NoMemory>
+pub fn people_of(
+    alloc: Global,
+    fields: &[FoldedField<'_>],
+    name: &[u8],
+) -> Result<Persons, NoMemory>
     ensures { IfOk result
-        (λ p. plain_persons p ≡ spec.persons name.now (map plain_field fields.now)) }
+        (λ p. plain_persons p ≡ spec.persons name.now (map plain_folded fields.now)) }
 {
     let mut persons = Vec::new(alloc);
     let mut left = fields;
     while let [first, rest @ ..] = left {
-        if is_same_name(first.name.as_slice(), name) {
-            add_people(alloc, &mut persons, first.value.as_slice())?;
+        if is_same_name(first.name, name) {
+            let value = first.unfold(alloc)?;
+            add_people(alloc, &mut persons, value.as_slice())?;
         }
         left = rest;
     }
@@ -52,32 +52,39 @@ pub fn people_of(alloc: Global, fields: &[Field], name: &[u8]) -> Result<Persons
 }
 
 /// The first id of the first field of the name.
-pub fn id_in(alloc: Global, fields: &[Field], name: &[u8]) -> Result<Option<Bytes>, NoMemory>
+pub fn id_in(
+    alloc: Global,
+    fields: &[FoldedField<'_>],
+    name: &[u8],
+) -> Result<Option<Bytes>, NoMemory>
     ensures { IfOk result
-        (λ o. option_map (λ id. id.items) o ≡ spec.id_in name.now (map plain_field fields.now)) }
+        (λ o. option_map (λ id. id.items) o ≡ spec.id_in name.now (map plain_folded fields.now)) }
 {
-    let Some(value) = first_value(fields, name) else {
+    let Some(field) = first_named(fields, name) else {
         return Ok(None);
     };
-    match FoundId::find(value) {
+    match FoundId::find(field.unfold(alloc)?.as_slice()) {
         Some(found) => Ok(Some(bracketed(alloc, found.inside)?)),
         None => Ok(None),
     }
 }
 
 /// The subject as it is shown; a message without one has an empty subject.
-pub fn subject_of(alloc: Global, fields: &[Field]) -> Result<Line, NoMemory>
-    ensures { IfOk result (λ l. l.items ≡ spec.subject (map plain_field fields.now)) }
+pub fn subject_of(alloc: Global, fields: &[FoldedField<'_>]) -> Result<Line, NoMemory>
+    ensures { IfOk result (λ l. l.items ≡ spec.subject (map plain_folded fields.now)) }
 {
-    match first_value(fields, b"subject") {
-        Some(value) => decode_words(alloc, value),
+    match first_named(fields, b"subject") {
+        Some(field) => decode_words(alloc, field.unfold(alloc)?.as_slice()),
         None => decode_words(alloc, &[]),
     }
 }
 
 /// The date of the first Date field.
-pub fn sent_in(fields: &[Field]) -> Option<SentDate>
-    ensures { result ≡ spec.sent (map plain_field fields.now) }
+pub fn sent_in(alloc: Global, fields: &[FoldedField<'_>]) -> Result<Option<SentDate>, NoMemory>
+    ensures { IfOk result (λ sent. sent ≡ spec.sent (map plain_folded fields.now)) }
 {
-    SentDate::read(first_value(fields, b"date")?)
+    match first_named(fields, b"date") {
+        Some(field) => Ok(SentDate::read(field.unfold(alloc)?.as_slice())),
+        None => Ok(None),
+    }
 }

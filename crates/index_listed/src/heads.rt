@@ -6,16 +6,16 @@ ghost use Rattle.headers.specs.Header.{plain_header};
 ghost use Rattle.index_listed.specs.Heads.{AreHeads};
 ghost use Rattle.index_listed.specs.Listed.{header_of};
 
+use crate::listed::text_of;
 use folder_core::Letter;
-use headers::{Header, read_header};
+use headers::{Header, read_brief_header};
 use mail_base::NoMemory;
 use std::alloc::Global;
 
 fn header_of(alloc: Global, letter: &Letter) -> Result<Header, NoMemory>
     ensures { IfOk result (λ h. plain_header h ≡ header_of (plain_letter letter.now)) }
 {
-    let (_, text) = letter.core.as_slice().split_at(letter.text_at);
-    read_header(alloc, text)
+    read_brief_header(alloc, text_of(letter))
 }
 
 /// Reads the headers of the letters behind those whose headers are kept. A refusal leaves some of

@@ -24,7 +24,7 @@ pub use cursor::{moved, moved_by_shutting};
 pub use entry::Above;
 pub use heads::read_heads;
 pub use links::Links;
-pub use listed::{Listed, all_listed};
+pub use listed::{Listed, all_listed, text_of};
 pub use mark::Mark;
 pub use places::{Places, places_of};
 pub use sight::Sight;

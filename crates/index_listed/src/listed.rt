@@ -20,6 +20,14 @@ pub struct Listed<'a> {
     pub header: &'a Header,
 }
 
+/// The text of a letter.
+pub fn text_of(letter: &Letter) -> &[u8]
+    ensures { result.now ≡ spec.text_of (plain_letter letter.now) }
+{
+    let (_, text) = letter.core.as_slice().split_at(letter.text_at);
+    text
+}
+
 impl<'a> Listed<'a> {
     ghost use Rattle.std.specs.Prelude.{◌≡◌, length};
     ghost use Rattle.index_listed.specs.Listed.{plain_listed, text_of};
@@ -28,8 +36,7 @@ impl<'a> Listed<'a> {
     pub fn text(&self) -> &'a [u8]
         ensures { result.now ≡ text_of (plain_listed self.now).mail }
     {
-        let (_, text) = self.letter.core.as_slice().split_at(self.letter.text_at);
-        text
+        text_of(self.letter)
     }
 }
 

@@ -17,6 +17,7 @@ pub record PlainEntry : Type 0 where
   pub shut : Option Shut
   pub ties : PlainTies
   pub header : PlainHeader
+  pub raw : List ℕ
   pub size : ℕ
   pub score : ℕ
   pub tree : List ℕ
@@ -35,6 +36,7 @@ plain_entry e = record {
   shut = e.shut;
   ties = plain_ties e.ties.now;
   header = plain_header e.header.now;
+  raw = e.raw.now;
   size = e.size;
   score = e.score;
   tree = e.tree.now.items;

@@ -3,6 +3,7 @@ use Rattle.std.specs.Prelude.{◌==◌, ◌++◌, ℕ, Bool, List, [], ◌∷◌
 use Rattle.std.specs.Prelude.{codes, slice_get, unwrap_or, if◌then◌else◌}
 use Rattle.std.specs.Fmt.{decimal}
 use Rattle.std.specs.Str.{byte}
+use Rattle.mail_base.specs.Lines.{message_fields}
 use Rattle.mail_base.specs.Shown.{utf8_text}
 use Rattle.mail_base.specs.declared.flags.Flags.{Flags}
 use Rattle.expando.specs.Drawing.{line}
@@ -112,7 +113,7 @@ reader_date e format = date_text format (sent_date e).seconds e.offset
 
 -- the X-Label as it stands, or nothing
 abbrev pub label_text : PlainEntry → List ℕ
-label_text e = utf8_text (unwrap_or (first_value (codes "x-label") e.header.fields) [])
+label_text e = utf8_text (unwrap_or (first_value (codes "x-label") (message_fields e.raw)) [])
 
 -- the text of a letter; `format` is that of a date
 unfoldable pub index_text : PlainEntry → ℕ → List ℕ → List ℕ

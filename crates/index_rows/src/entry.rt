@@ -19,7 +19,10 @@ pub struct Entry<'a> {
     /// The shut thread whose other messages it hides.
     pub shut: Option<Shut>,
     pub ties: &'a Ties,
+    /// Its header, whose list of fields is not looked at.
     pub header: &'a Header,
+    /// Its text.
+    pub raw: &'a [u8],
     /// The bytes of its text.
     pub size: u64,
     pub score: u64,

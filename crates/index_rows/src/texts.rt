@@ -10,7 +10,7 @@ use crate::entry::Entry;
 use crate::persons::{address_text, author_text, list_text, other_text, recipient_text};
 use crate::status_chars::{first_status, status_text};
 use crate::text::{number_text, shown};
-use headers::{SentDate, first_value};
+use headers::{FoldedField, SentDate};
 use mail_base::{Line, NoMemory};
 use std::alloc::Global;
 
@@ -28,8 +28,8 @@ fn id_text(alloc: Global, entry: &Entry<'_>) -> Result<Line, NoMemory>
 fn label_text(alloc: Global, entry: &Entry<'_>) -> Result<Line, NoMemory>
     ensures { IfOk result (λ line. line.items ≡ spec.label_text (plain_entry entry.now)) }
 {
-    match first_value(entry.header.fields.as_slice(), b"x-label") {
-        Some(label) => shown(alloc, label),
+    match FoldedField::named(entry.raw, b"x-label") {
+        Some(field) => shown(alloc, field.join(alloc)?.as_slice()),
         None => shown(alloc, b""),
     }
 }

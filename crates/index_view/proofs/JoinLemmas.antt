@@ -50,7 +50,7 @@ came_within n (l ∷ came) below = (
 )
 
 -- there are at most as many headers as letters
-heads_short : (hs : List PlainHeader) (mails : List Mail) → AreHeads hs mails
+pub heads_short : (hs : List PlainHeader) (mails : List Mail) → AreHeads hs mails
     → length hs ≤ length mails
 heads_short hs mails are =
     let long = ap length are.same ∙ length-map (take (length hs) mails) header_of

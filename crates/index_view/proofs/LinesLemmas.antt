@@ -8,19 +8,21 @@ use Rattle.std.proofs.lemmas.List.Elements.{All-from_recursion}
 use Rattle.std.proofs.lemmas.List.Quantifiers.{position-Some}
 use Rattle.std.specs.List.{list_any, position_or_len}
 use Rattle.std.specs.Prelude.{is_some, position}
-use Rattle.folder_core.specs.Letters.{Mail}
+use Rattle.folder_core.specs.Letters.{Mail, plain_letter}
+use Rattle.folder_core.specs.declared.letter.Letter.{Letter}
 use Rattle.headers.specs.Header.{PlainHeader}
 use Rattle.mail_base.specs.declared.kind.Id.{Id}
 use Rattle.patterns_match.specs.declared.row.Row.{Row}
 use Rattle.index_items.specs.Items.{numbers}
 use Rattle.index_listed.specs.Heads.{AreHeads}
-use Rattle.index_listed.specs.Listed.{header_of, mail_at, no_mail}
+use Rattle.index_listed.specs.Listed.{header_of, mail_at, no_mail, text_of}
 use Rattle.index_listed.proofs.PlaceLemmas.{found_reads}
 use Rattle.index_view.specs.Answers.{PlainAnswers, place_of}
 use Rattle.index_view.specs.Lines.{head_at}
 use Rattle.index_view.specs.Listing.{all_listed}
 use Rattle.index_view.specs.View.{IsOf, PlainView, facts_of, is_listed}
 use Rattle.index_view.proofs.AnswersLemmas.{row_numbers}
+use Rattle.index_view.proofs.JoinLemmas.{heads_short}
 use Rattle.index_view.proofs.ViewLemmas.{listed_ids}
 
 -- the numbers of the rows are those of the messages
@@ -83,3 +85,16 @@ head_of_letter heads mails id are low =
     ap (λ l. slice_index_or l n (header_of no_mail)) are.same
     ∙ get_or-map header_of (take (length heads) mails) n no_mail (header_of no_mail) within
     ∙ ap header_of (get_or-take (length heads) mails n no_mail low)
+
+-- the letter of a listed id stands in the archive
+pub listed_letter : (mails : List Mail) (v : PlainView) (id : Id) (p : ℕ) → IsOf mails v
+    → place_of v.answers id ≡ Some p → id.0 < length mails
+listed_letter mails v id p of is =
+    omega (arith, listed_within mails v id p of is, heads_short v.heads mails of.heads)
+
+-- and its text is what is shown of it
+pub text_of_letter : (letters : List Letter) (id : Id) (d : Letter) → id.0 < length letters
+    → text_of (plain_letter (slice_index_or letters id.0 d))
+    ≡ text_of (mail_at (map plain_letter letters) id)
+text_of_letter letters id d low =
+    ap text_of (sym (get_or-map plain_letter letters id.0 d no_mail low))

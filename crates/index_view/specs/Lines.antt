@@ -9,7 +9,7 @@ use Rattle.expando.specs.Formats.{PlainPiece}
 use Rattle.folder_core.specs.Letters.{Mail}
 use Rattle.headers.specs.Header.{PlainHeader}
 use Rattle.patterns_match.specs.declared.row.Row.{Row}
-use Rattle.index_listed.specs.Listed.{header_of, mail_at, no_mail}
+use Rattle.index_listed.specs.Listed.{header_of, mail_at, no_mail, text_of}
 use Rattle.index_listed.specs.Page.{cursor_place as place_of_cursor, page as page_of}
 use Rattle.index_listed.specs.Page.{page_start as start_of_page}
 use Rattle.index_listed.specs.Places.{place_in}
@@ -36,10 +36,10 @@ abbrev pub no_ties : PlainTies
 no_ties = record { place = 0; from_reader = false; list = None }
 
 -- what a row shows, by the row of a message, how many are listed, the thread that it hides, what
--- the tables of people tell of it, its header, and what stands before its subject
-abbrev pub entry_of : Row → ℕ → Option Shut → PlainTies → PlainHeader → List ℕ → PlainStyle
-    → PlainEntry
-entry_of row count hidden ties header tree style = record {
+-- the tables of people tell of it, its header and text, and what stands before its subject
+abbrev pub entry_of : Row → ℕ → Option Shut → PlainTies → PlainHeader → List ℕ → List ℕ
+    → PlainStyle → PlainEntry
+entry_of row count hidden ties header raw tree style = record {
   number = row.number;
   count = count;
   flags = row.flags;
@@ -48,6 +48,7 @@ entry_of row count hidden ties header tree style = record {
   shut = hidden;
   ties = ties;
   header = header;
+  raw = raw;
   size = row.size;
   score = row.score;
   tree = tree;
@@ -70,15 +71,16 @@ abbrev pub hidden_by : PlainSight → Id → Option Shut
 hidden_by s id = option_and_then (shut_at s) (place_in s.order id)
 
 -- what a row shows of the message with an id, which stands at a place of the listing, given its
--- header and what stands before its subject
-abbrev pub entry_with : PlainHeader → List ℕ → PlainView → PlainStyle → Id → ℕ → PlainEntry
-entry_with header tree v style id place = entry_of (row_at v.answers.rows place)
+-- header and text, and what stands before its subject
+abbrev pub entry_with : PlainHeader → List ℕ → List ℕ → PlainView → PlainStyle → Id → ℕ
+    → PlainEntry
+entry_with header raw tree v style id place = entry_of (row_at v.answers.rows place)
     (length v.answers.rows) (hidden_by v.answers.sight id)
-    (slice_index_or v.answers.ties place no_ties) header tree style
+    (slice_index_or v.answers.ties place no_ties) header raw tree style
 
 abbrev pub entry : List Mail → PlainView → PlainStyle → Id → ℕ → PlainEntry
 entry mails v style id place = entry_with (header_of (mail_at mails id))
-    (tree_line v.answers.sight id) v style id place
+    (text_of (mail_at mails id)) (tree_line v.answers.sight id) v style id place
 
 -- the row of a message in so many columns, where it is listed
 abbrev pub line : List Mail → PlainView → PlainStyle → ℕ → Id → Option (List ℕ)

@@ -1,19 +1,15 @@
 //! The lines of the index.
 
 ghost use Rattle.std.specs.Prelude.{◌≡◌, ◌++◌, [], replicate, OnOk};
-ghost use Rattle.headers.specs.Header.{plain_header};
-ghost use Rattle.index_rows.specs.Entry.{plain_entry};
-ghost use Rattle.index_rows.specs.Ties.{plain_ties};
 ghost use Rattle.index_view.specs.Lines as spec;
 ghost use Rattle.mail_base.specs.Series.{plain_texts};
 
 use crate::view::View;
 use expando::Format;
 use folder_core::Archive;
-use headers::Header;
-use index_rows::{Entry, Shut, Ties, index_row};
+use index_listed::text_of;
+use index_rows::{Entry, index_row};
 use mail_base::{Id, Line, Lines, NoMemory};
-use patterns_match::Row;
 use std::alloc::Global;
 
 /// By what rows are made.
@@ -31,37 +27,6 @@ fn mark(cursor: Option<Id>, id: Id) -> &'static str
     if cursor == Some(id) { "->" } else { "  " }
 }
 
-// What a row shows of a message.
-fn entry_of<'a>(
-    row: Row,
-    count: u64,
-    hidden: Option<Shut>,
-    ties: &'a Ties,
-    header: &'a Header,
-    tree: &'a Line,
-    style: Style<'a>,
-) -> Entry<'a>
-    ensures { plain_entry result ≡ spec.entry_of row count hidden (plain_ties ties.now)
-        (plain_header header.now) tree.now.items (spec.plain_style style.entry) }
-{
-    Entry {
-        number: row.number,
-        count,
-        flags: row.flags,
-        deleted: row.deleted,
-        tagged: row.tagged,
-        shut: hidden,
-        ties,
-        header,
-        size: row.size,
-        score: row.score,
-        tree,
-        received: row.received,
-        to_chars: style.to_chars,
-        offset: style.offset,
-    }
-}
-
 impl View {
     ghost use Rattle.std.specs.Prelude.{◌≡◌, ◌≤◌, ◌<◌, ◌++◌, is_some, length, map, option_map};
     ghost use Rattle.std.specs.Prelude.{IfOk, OnOk};
@@ -72,21 +37,37 @@ impl View {
     ghost use Rattle.mail_base.specs.Series.{plain_texts};
 
     // What a row shows of a message.
-    fn entry<'a>(&'a self, style: Style<'a>, tree: &'a Line, id: Id, place: usize) -> Entry<'a>
+    fn entry<'a>(
+        &'a self,
+        style: Style<'a>,
+        tree: &'a Line,
+        raw: &'a [u8],
+        id: Id,
+        place: usize,
+    ) -> Entry<'a>
         requires listed { place < length self.now.answers.rows }
         requires head { id.0 < length self.now.heads }
-        ensures { plain_entry result ≡ spec.entry_with (spec.head_at self.now.heads id)
+        ensures { plain_entry result ≡ spec.entry_with (spec.head_at self.now.heads id) raw.now
             tree.now.items self.now (spec.plain_style style.entry) id place }
     {
-        entry_of(
-            self.answers.rows()[place],
-            self.answers.rows().len() as u64,
-            self.answers.shut_of(id),
-            self.answers.ties_at(place),
-            &self.heads[id.0 as usize],
+        let row = self.answers.rows()[place];
+        Entry {
+            number: row.number,
+            count: self.answers.rows().len() as u64,
+            flags: row.flags,
+            deleted: row.deleted,
+            tagged: row.tagged,
+            shut: self.answers.shut_of(id),
+            ties: self.answers.ties_at(place),
+            header: &self.heads[id.0 as usize],
+            raw,
+            size: row.size,
+            score: row.score,
             tree,
-            style,
-        )
+            received: row.received,
+            to_chars: style.to_chars,
+            offset: style.offset,
+        }
     }
 
     // The row of a message in so many columns, where it is listed.
@@ -107,7 +88,8 @@ impl View {
             return Ok(None);
         };
         let tree = self.answers.sight().tree_line(alloc, id)?;
-        let entry = self.entry(style, &tree, id, place);
+        let raw = text_of(&archive.as_slice()[id.0 as usize]);
+        let entry = self.entry(style, &tree, raw, id, place);
         Ok(Some(index_row(alloc, style.format, &entry, cols)?))
     }
 

@@ -3,13 +3,14 @@ use Rattle.std.specs.Prelude.{◌==◌, ◌&&◌, ◌||◌, ◌++◌, ℕ, Bool,
 use Rattle.std.specs.Prelude.{if◌then◌else◌}
 use Rattle.std.specs.Char.{to_ascii_lowercase}
 use Rattle.std.specs.List.{flat_map}
+use Rattle.headers.specs.FoldedField.{continued}
 use Rattle.people.specs.Expr.{is_folded}
 use Rattle.patterns_match.specs.declared.joined.Case.{Case}
 use Rattle.patterns_match.specs.declared.joined.Case.TheVariants.{Regarded, Folded}
 use Rattle.patterns_match.specs.declared.joined.Joined.{Joined}
 
 abbrev pub joined : Joined → List ℕ
-joined j = j.first.now ++ flat_map (λ piece. piece.now) j.rest.now
+joined j = j.first.now ++ flat_map (λ piece. piece.now) j.rest.now ++ continued j.lines.now
 
 abbrev pub are_equal : Case → ℕ → ℕ → Bool
 are_equal Regarded b c = b == c

@@ -3,7 +3,7 @@ use Rattle.std.specs.Prelude.{◌++◌, ◌∷◌, ℕ, Bool, List, [], Option, 
 use Rattle.std.specs.Prelude.{nat_eq, unwrap_or, if◌then◌else◌}
 use Rattle.std.specs.List.{flat_map, slice_range, starts_with}
 use Rattle.bstr.specs.Text.{lines_of, without_terminator}
-use Rattle.mail_base.specs.Lines.{PlainField, behind_line}
+use Rattle.mail_base.specs.Lines.{PlainField, behind_line, message_fields}
 use Rattle.headers.specs.Header.{PlainHeader}
 use Rattle.headers.specs.Person.{PlainPerson}
 use Rattle.headers.specs.Values.{first_value}
@@ -56,7 +56,7 @@ abbrev pub body_texts : Message → List (List ℕ)
 body_texts m = body_lines m.raw m.header.body_at (parts_of m.raw)
 
 abbrev pub header_texts : Message → List (List ℕ)
-header_texts m = map field_text m.header.fields
+header_texts m = map field_text (message_fields m.raw)
 
 -- the parts of a message, where they do not nest too deep
 abbrev pub parts_in : Message → List PlainPart
@@ -77,5 +77,5 @@ texts_of field.Anyone m =
 texts_of field.Id m = all_of m.header.message_id
 texts_of field.Subject m = m.header.subject ∷ []
 texts_of field.References m = m.header.candidates
-texts_of field.Label m = all_of (first_value (codes "x-label") m.header.fields)
+texts_of field.Label m = all_of (first_value (codes "x-label") (message_fields m.raw))
 texts_of field.ContentType m = map (λ p. p.content) (parts_in m)

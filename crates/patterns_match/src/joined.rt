@@ -7,14 +7,17 @@ ghost use Rattle.std.specs.List.{list_any};
 ghost use Rattle.std.specs.Char.{is_ascii_uppercase};
 ghost use Rattle.patterns_match.specs.Joined as spec;
 
+use headers::next_continuation;
 use mail_base::{Bytes, NoMemory};
 use std::alloc::Global;
 
-/// A text that begins with a piece, which others follow.
+/// A text that begins with a piece, which others follow, and then the lines of a message that
+/// continue a field.
 #[derive(Clone, Copy)]
 pub struct Joined<'a> {
     pub first: &'a [u8],
     pub rest: &'a [&'a [u8]],
+    pub lines: &'a [u8],
 }
 
 // Which bytes are equal in a search.
@@ -64,25 +67,23 @@ impl<'a> Joined<'a> {
         ensures some { IfSome result (λ p. spec.joined self.entry ≡ p.0 ∷ spec.joined p.1) }
         ensures none { IfNone result (spec.joined self.entry ≡ []) }
     {
-        let mut first = self.first;
-        let mut left = self.rest;
-        while let [next, rest @ ..] = left {
+        let Joined {
+            mut first,
+            mut rest,
+            lines,
+        } = self;
+        while let [next, behind @ ..] = rest {
             if !first.is_empty() {
                 break;
             }
             first = next;
-            left = rest;
+            rest = behind;
         }
-        match first {
-            [byte, behind @ ..] => Some((
-                *byte,
-                Joined {
-                    first: behind,
-                    rest: left,
-                },
-            )),
-            [] => None,
+        if let [byte, first @ ..] = first {
+            return Some((*byte, Joined { first, rest, lines }));
         }
+        let (first, lines) = next_continuation(lines)?;
+        Some((b' ', Joined { first, rest, lines }))
     }
 
     // Whether the literal stands at the front.
@@ -130,6 +131,12 @@ impl<'a> Joined<'a> {
         while let [next, rest @ ..] = left {
             text.append(next)?;
             left = rest;
+        }
+        let mut lines = self.lines;
+        while let Some((more, rest)) = next_continuation(lines) {
+            text.push(b' ')?;
+            text.append(more)?;
+            lines = rest;
         }
         Ok(text)
     }

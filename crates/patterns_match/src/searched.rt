@@ -1,9 +1,11 @@
 //! What a pattern searches for, in the texts of a message.
 
-ghost use Rattle.std.specs.Prelude.{◌≡◌, ◌++◌, true, map, option_map, IfOk, IsOk};
+ghost use Rattle.std.specs.Prelude.{◌≡◌, ◌++◌, true, codes, map, option_map, IfOk, IsOk};
 ghost use Rattle.std.specs.List.{list_any};
-ghost use Rattle.headers.specs.Field.{plain_field};
+ghost use Rattle.mail_base.specs.Lines.{message_fields};
+ghost use Rattle.headers.specs.FoldedField.{plain_folded};
 ghost use Rattle.headers.specs.Person.{plain_person, plain_persons};
+ghost use Rattle.headers.specs.Values.{first_value};
 ghost use Rattle.patterns_match.specs.Asked.{plain_search};
 ghost use Rattle.patterns_match.specs.Entries.{plain_entry};
 ghost use Rattle.patterns_match.specs.Kept.{IsKept};
@@ -17,7 +19,7 @@ use crate::entry::Entry;
 use crate::joined::Joined;
 use crate::kept::Kept;
 use crate::letter::Field;
-use headers::{Header, Person, first_value};
+use headers::{FoldedField, Header, Person};
 use mail_base::{Bytes, NoMemory};
 use std::alloc::Global;
 
@@ -45,17 +47,20 @@ fn person_found(alloc: Global, sought: &Sought, person: &Person) -> Result<bool,
     let text = Joined {
         first: person.name.as_slice(),
         rest: &[b" <", person.address.as_slice(), b">"],
+        lines: &[],
     };
     sought.is_found_in(alloc, text)
 }
 
-// The id of a message.
-fn id_of(header: &Header) -> Option<&[u8]>
-    ensures { option_map (λ r. r.now) result ≡ option_map (λ id. id.items) header.now.message_id }
+// Whether it is found in the id of a message.
+fn id_found(sought: &Sought, header: &Header) -> Result<bool, NoMemory>
+    ensures value { IfOk result (λ found. found ≡ list_any (sought_found sought.now)
+        (spec.all_of (option_map (λ id. id.items) header.now.message_id))) }
+    ensures memory { is_sought_literal sought.now ≡ true → IsOk result }
 {
     match &header.message_id {
-        Some(id) => Some(id.as_slice()),
-        None => None,
+        Some(id) => sought.is_found(id.as_slice()),
+        None => Ok(false),
     }
 }
 
@@ -75,27 +80,28 @@ fn any_person(alloc: Global, sought: &Sought, persons: &[Person]) -> Result<bool
     Ok(false)
 }
 
-fn line_found(alloc: Global, sought: &Sought, field: &headers::Field) -> Result<bool, NoMemory>
+fn line_found(alloc: Global, sought: &Sought, field: FoldedField<'_>) -> Result<bool, NoMemory>
     ensures value { IfOk result (λ found. found
-        ≡ sought_found sought.now (spec.field_text (plain_field field.now))) }
+        ≡ sought_found sought.now (spec.field_text (plain_folded field.entry))) }
     ensures memory { is_sought_literal sought.now ≡ true → IsOk result }
 {
     let text = Joined {
-        first: field.name.as_slice(),
-        rest: &[b": ", field.value.as_slice()],
+        first: field.name,
+        rest: &[b": ", field.value],
+        lines: field.lines,
     };
     sought.is_found_in(alloc, text)
 }
 
-// Whether it is found in one of the header lines.
-fn any_line(alloc: Global, sought: &Sought, fields: &[headers::Field]) -> Result<bool, NoMemory>
+// Whether it is found in one of the header lines of a message.
+fn any_line(alloc: Global, sought: &Sought, raw: &[u8]) -> Result<bool, NoMemory>
     ensures value { IfOk result (λ found. found
-        ≡ list_any (sought_found sought.now) (map spec.field_text (map plain_field fields.now))) }
+        ≡ list_any (sought_found sought.now) (map spec.field_text (message_fields raw.now))) }
     ensures memory { is_sought_literal sought.now ≡ true → IsOk result }
 {
-    let mut left = fields;
-    while let [first, rest @ ..] = left {
-        if line_found(alloc, sought, first)? {
+    let mut left = raw;
+    while let Some((field, rest)) = FoldedField::next(left) {
+        if line_found(alloc, sought, field)? {
             return Ok(true);
         }
         left = rest;
@@ -103,15 +109,21 @@ fn any_line(alloc: Global, sought: &Sought, fields: &[headers::Field]) -> Result
     Ok(false)
 }
 
-fn maybe_found(sought: &Sought, text: Option<&[u8]>) -> Result<bool, NoMemory>
+// Whether it is found in the X-Label of a message.
+fn label_found(alloc: Global, sought: &Sought, raw: &[u8]) -> Result<bool, NoMemory>
     ensures value { IfOk result (λ found. found ≡ list_any (sought_found sought.now)
-        (spec.all_of (option_map (λ t. t.now) text.entry))) }
+        (spec.all_of (first_value (codes "x-label") (message_fields raw.now)))) }
     ensures memory { is_sought_literal sought.now ≡ true → IsOk result }
 {
-    match text {
-        Some(text) => sought.is_found(text),
-        None => Ok(false),
-    }
+    let Some(field) = FoldedField::named(raw, b"x-label") else {
+        return Ok(false);
+    };
+    let text = Joined {
+        first: field.value,
+        rest: &[],
+        lines: field.lines,
+    };
+    sought.is_found_in(alloc, text)
 }
 
 // Whether it is found in one of the persons of either list.
@@ -155,7 +167,7 @@ fn whole_found(kept: &mut Kept, sought: &Sought, entry: &Entry<'_>) -> Result<bo
         (spec.header_texts (plain_entry entry.now) ++ spec.body_texts (plain_entry entry.now))) }
     ensures kept { IfOk result (λ _. IsKept (plain_entry entry.now).raw kept.new) }
 {
-    if any_line(kept.alloc, sought, entry.header.fields.as_slice())? {
+    if any_line(kept.alloc, sought, entry.raw)? {
         return Ok(true);
     }
     body_found(kept, sought, entry.raw, entry.header.body_at)
@@ -179,7 +191,7 @@ pub fn is_searched(
     match field {
         Field::Body => body_found(kept, sought, entry.raw, header.body_at),
         Field::Whole => whole_found(kept, sought, entry),
-        Field::Header => any_line(alloc, sought, header.fields.as_slice()),
+        Field::Header => any_line(alloc, sought, entry.raw),
         Field::Cc => any_person(alloc, sought, header.cc.as_slice()),
         Field::Recipients => {
             any_of_both(alloc, sought, header.to.as_slice(), header.cc.as_slice())
@@ -188,10 +200,10 @@ pub fn is_searched(
         Field::From => any_person(alloc, sought, header.authors.as_slice()),
         Field::Sender => any_person(alloc, sought, header.senders.as_slice()),
         Field::Anyone => anyone_found(alloc, sought, header),
-        Field::Id => maybe_found(sought, id_of(header)),
+        Field::Id => id_found(sought, header),
         Field::Subject => sought.is_found(header.subject.as_slice()),
         Field::References => any_found(sought, header.candidates.as_slice()),
-        Field::Label => maybe_found(sought, first_value(header.fields.as_slice(), b"x-label")),
+        Field::Label => label_found(alloc, sought, entry.raw),
         Field::ContentType => kind_found(kept, sought, entry.raw),
     }
 }

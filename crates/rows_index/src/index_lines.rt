@@ -95,7 +95,7 @@ fn entry_of<'a>(
     ties: &'a Ties,
     tree: &'a Line,
 ) -> Result<Entry<'a>, CaseFault> {
-    let size = case.need(b"message")?.len() as u64;
+    let raw = case.need(b"message")?;
     let received = i64::try_from(case.number(b"received")?.unwrap_or(0));
     Ok(Entry {
         number: case.number(b"number")?.unwrap_or(1),
@@ -106,7 +106,8 @@ fn entry_of<'a>(
         shut: shut_of(case),
         ties,
         header,
-        size,
+        raw,
+        size: raw.len() as u64,
         score: case.number(b"score")?.unwrap_or(0),
         tree,
         received: received.unwrap_or(0),

@@ -1,10 +1,12 @@
 use Rattle.std.proofs.Common.{◌≡◌, ◌++◌, length}
 use Rattle.std.specs.List.{flat_map}
+use Rattle.headers.specs.FoldedField.{continued}
 use Rattle.patterns_match.specs.Joined.{joined}
 use Rattle.patterns_match.proofs.joined.Joined.split.Given as goal
 
-abbrev pub invariant-loop-left : goal.invariant-loop-left
-invariant-loop-left l = l.first ++ flat_map (λ piece. piece.now) l.left ≡ joined l.fn.self
+abbrev pub invariant-loop-rest : goal.invariant-loop-rest
+invariant-loop-rest l =
+    l.first ++ flat_map (λ piece. piece.now) l.rest ++ continued l.lines ≡ joined l.fn.self
 
-abbrev pub decreases-loop-left : goal.decreases-loop-left
-decreases-loop-left l = length l.left
+abbrev pub decreases-loop-rest : goal.decreases-loop-rest
+decreases-loop-rest l = length l.rest
