@@ -71,7 +71,8 @@ EndsAs given o start Done events old new = EndsDone given (task_of o) o start ev
 EndsAs given o start (Usage word) events old new = events ≡ []
 EndsAs given o start (NotOpened why) events old new =
     (task_of o ≡ ReadFolder) × IsStated why × IsRefused why events
-EndsAs given o start DiskFault events old new = (task_of o ≡ ReadFolder) × IsRefused (Folder Fault) events
+EndsAs given o start DiskFault events old new =
+    (task_of o ≡ ReadFolder) × IsRefused (Folder Fault) events
 EndsAs given o start KeysFault events old new =
     (task_of o ≡ ReadFolder) × EndsShown given o start KeysFault events old new
 EndsAs given o start OutFault events old new = Unit {0}

@@ -12,6 +12,7 @@ use Rattle.session_events.specs.Events.{Happening}
 use Rattle.session.specs.Given.{Given}
 use Rattle.session.specs.Runs.{IsRunFrom}
 use Rattle.session.specs.Telling.{Witnessed}
+use Rattle.session_state.specs.Instants.{IsMoment}
 use Rattle.session_state.specs.declared.stage.Stage.TheVariants.{Over}
 use Rattle.mutt_run.specs.Choice.{acted_on, first_by, state_by}
 use Rattle.mutt_run.specs.Complete.{IsPlainEnd, NamesReadable}
@@ -81,7 +82,8 @@ pub record RunsFrom (choice : Result PlainOptions (List ℕ)) (start : ℤ) (Has
   -- The events are a run, and it ends as the status says.
   pub run : IsRunFrom given (first_by choice start) events
   pub ends : EndsAs given (acted_on choice) start status events old.left new.left
-  -- The clock gave the moment of the start and then those of the keys.
+  -- The clock gave the moment of the start, which the calendar has, and then those of the keys.
+  pub moment : IsMoment start
   pub opened : IsStart start events
   pub clocked : Gives old.moments new.moments (start ∷ pressed_moments events)
   -- What is printed and told.

@@ -1,10 +1,12 @@
 //! A whole run, from the words of a command line to its end.
 
 ghost use Rattle.std.specs.Prelude.{◌≡◌, ◌⊎◌, ℤ, true, false, [], Ok, Any, IfErr, map};
+ghost use Rattle.std.specs.List.{All};
 ghost use Rattle.mail_base.specs.Faults.{Rose};
 ghost use Rattle.mail_base.specs.Series.{plain_texts};
 ghost use Rattle.disk_model.specs.Looking.{LooksOnly};
 ghost use Rattle.folder_core.specs.Letters.{plain_letter};
+ghost use Rattle.people.specs.Judged.{IsCaused};
 ghost use Rattle.mutt_words.specs.Options.{IsUsable, plain_options};
 ghost use Rattle.mutt_words.specs.Words.{options_of};
 ghost use Rattle.session_events.specs.Events.{plain_events};
@@ -77,6 +79,10 @@ pub fn run<K: Source, O: Sink, E: Sink, C: Clock>(
         (plain_events trace.new.events.items) }
     ensures drivers { drivers.new.list.items ≡ drivers.old.list.items }
 
+    // Each verdict on an expression has its cause: one of size came where the builder's refusals
+    // rose.
+    ensures verdicts { All IsCaused trace.new.verdicts.kept }
+
     // A fault is answered only where its count rose.
     ensures disk_cause { result ≡ DiskFault → Rose
         (seen (dev.old.disk.vtable, dev.old.disk.value)).faults
@@ -90,6 +96,7 @@ pub fn run<K: Source, O: Sink, E: Sink, C: Clock>(
     let status = obey_words(
         alloc, words, moment, keys, out, errs, dev, drivers, clock, trace,
     );
+    trace.verdicts.causes();
     tell_end(alloc, errs, looked_for(trace), status)
 }
 

@@ -5,8 +5,10 @@ use Rattle.std.proofs.Common.{drop, get_or, Option, Some, None, Result, Ok, Err,
 use Rattle.std.proofs.Common.{option_map, refl, sym, ap}
 use Rattle.std.proofs.Common.{add-one, drop-cons, is_some, ⊎_elim, inr, subst, not, nat_lt}
 use Rattle.std.proofs.Common.{◌==◌, ◌⊎◌}
+use Rattle.std.specs.List.{All}
 use Rattle.std.specs.Prelude.{IfOk, IsErrOf, OnErr, OnOk, if◌then◌else◌}
 use Rattle.std.proofs.lemmas.List.{map-append}
+use Rattle.std.proofs.lemmas.List.Elements.{All-cons, All-nil}
 use Rattle.std.specs.Str.{bytes_eq}
 use Rattle.std.proofs.lemmas.Bool.{cases_Bool, eq-eqb, lt-ltb, false_from_ne_true, false≢true}
 use Rattle.std.proofs.lemmas.Slice.Eq.{bytes_eq-Decides}
@@ -17,7 +19,7 @@ use Rattle.regex.specs.declared.string.regex.Regex.{Regex}
 use Rattle.people.specs.Answer.{Tells}
 use Rattle.people.specs.Cause.{has_risen, is_caused, is_readable}
 use Rattle.people.specs.Expr.{IsBuilt, is_folded, is_literal}
-use Rattle.people.specs.Judged.{AreDistinct, PlainJudged, Reads, is_answered, is_refused, judged_of}
+use Rattle.people.specs.Judged.{AreDistinct, IsCaused, PlainJudged, Reads, is_answered, is_refused, judged_of}
 use Rattle.people.specs.Judged.{plain_judged, verdict_of, verdict_on, with_verdict}
 use Rattle.people.specs.declared.answer.Answer.{Answer}
 use Rattle.people.specs.declared.error.ExprError.{ExprError}
@@ -26,6 +28,11 @@ use Rattle.people.specs.declared.judged.Judged.{Judged}
 use Rattle.people.specs.declared.judged.Verdict.{Verdict}
 use Rattle.people.specs.declared.judged.Verdict.TheVariants.{Good, Syntax, Size}
 use Rattle.people.proofs.PatternLemmas.{built_pattern}
+
+-- each verdict of a list has its cause
+pub all_caused : (list : List Judged) → All IsCaused (map plain_judged list)
+all_caused [] = All-nil IsCaused
+all_caused (j ∷ list) = All-cons IsCaused (plain_judged j) (map plain_judged list) j.cause (all_caused list)
 
 -- what is judged from a place on
 abbrev pub judged_from : List Judged → ℕ → List ℕ → Option PlainJudged

@@ -70,6 +70,11 @@ is_answered list text = is_literal text || is_refused (verdict_on list text)
 abbrev pub HasCause : List ℕ → Verdict → Type 0
 HasCause text verdict = (before : ℕ) × (after : ℕ) × (is_caused verdict text before after ≡ true)
 
+-- a verdict that was kept has its cause in its text, or in its counts: one of size was given where
+-- refusals rose
+abbrev pub IsCaused : PlainJudged → Type 0
+IsCaused j = is_caused j.verdict j.text j.before j.after ≡ true
+
 -- What a reading of a text answers and leaves, by the verdicts before it and the counts of
 -- refusals round it.
 pub record Reads {T : Type 0} (text : List ℕ) (result : Result T ExprError)

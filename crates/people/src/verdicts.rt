@@ -5,7 +5,9 @@ ghost use Rattle.std.specs.Prelude.{◌≤◌, false, IfOk, IfErr, IfSome, OnOk,
 ghost use Rattle.people.specs.Answer.{Tells};
 ghost use Rattle.people.specs.Expr.{IsBuilt};
 ghost use Rattle.people.specs.Expr as spec;
-ghost use Rattle.people.specs.Judged.{AreDistinct, HasCause, Reads, judged_of, plain_judged};
+ghost use Rattle.std.specs.List.{All};
+ghost use Rattle.people.specs.Judged.{AreDistinct, HasCause, IsCaused, Reads, judged_of};
+ghost use Rattle.people.specs.Judged.{plain_judged};
 
 use crate::answer::{Answer, ask, verdict_in};
 use crate::judged::{Judged, Verdict};
@@ -54,6 +56,13 @@ impl Kept {
         ensures distinct { AreDistinct self.now }
     {
         self.list.get(place)
+    }
+
+    // Each verdict that is kept has its cause.
+    fn causes(&self)
+        ensures { All IsCaused self.now }
+    {
+        let _ = &self.list;
     }
 
     // The verdict on a text, if it was judged, with its cause.
@@ -109,6 +118,13 @@ impl Verdicts {
         ensures distinct { AreDistinct self.now.kept }
     {
         self.kept.get(place)
+    }
+
+    /// Does nothing: it stands for the law that each verdict that is kept has its cause.
+    pub fn causes(&self)
+        ensures { All IsCaused self.now.kept }
+    {
+        self.kept.causes()
     }
 
     /// What searches for an expression that is no literal. Its first verdict stays: where the

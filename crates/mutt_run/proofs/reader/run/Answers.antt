@@ -1,6 +1,7 @@
 use Rattle.std.proofs.Common.{arith, FitsSigned, w64}
 use Rattle.std.proofs.lemmas.Int.{ints as signed_arith}
-use Rattle.std.proofs.lemmas.Int.{to_z-of_z}
+use Rattle.std.proofs.Math.Facts.{to_z-of_z}
+use Rattle.session_state.specs.Instants.{IsMoment}
 use Rattle.mutt_run.proofs.CompleteLemmas.{completes}
 use Rattle.mutt_run.proofs.EndLemmas.{chosen_told, clocked, disk_told, ends_told, keys_told, looked}
 use Rattle.mutt_run.proofs.EndLemmas.{notes_told, out_told, prints_told}
@@ -13,15 +14,19 @@ returns-clause-words g c =
 pub returns-clause-runs : goal.returns-clause-runs
 returns-clause-runs g c =
     let reads = c.obey_words-status.ensures.reads in
-    let cause = c.tell_end.ensures.cause in (
+    let cause = c.tell_end.ensures.cause in
+    let fits : FitsSigned w64 c.now-moment.result =
+    omega (arith, signed_arith, c.now-moment.ensures.range) in
+    let is : IsMoment c.now-moment.result =
+    record { low = c.now-moment.ensures.range.0; high = c.now-moment.ensures.range.1 } in (
       _,
       record {
         run = reads.run;
         ends = ends_told reads cause;
+        moment = rw (to_z-of_z fits) is;
         opened = reads.start_is;
         clocked = clocked reads _ _ c.now-moment.ensures.gives
-            (let fits : FitsSigned w64 c.now-moment.result =
-            omega (arith, signed_arith, c.now-moment.ensures.range) in simp to_z-of_z);
+            (to_z-of_z fits);
         out = prints_told cause reads.printed reads.but;
         errs = notes_told _ _ _ _ _ _ _ c.obey_words-status.ensures.faults.later
             c.tell_end.ensures.later c.looked_for.result.now c.obey_words-status.result
