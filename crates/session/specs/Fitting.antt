@@ -17,7 +17,8 @@ pub record Fits (mails : List Mail) (session : Session) : Type 0 where
   pub window : IsWindow session.window
   pub checked : IsMoment session.checked.0
 
--- commands can be read: the screen has room for a page, and the calendar has the moment of the start
+-- commands can be read: the screen has room for a page, and the calendar has the moment of the
+-- start
 pub record CanRead (session : Session) : Type 0 where
   pub window : IsWindow session.window
   pub checked : IsMoment session.checked.0

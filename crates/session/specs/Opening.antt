@@ -21,8 +21,8 @@ begun_in mails c = with_desk (begun mails c.desk) c
 abbrev pub found_in : List Mail → List Listed → CoreState → CoreState
 found_in mails came c = with_desk (taken_in mails (first_found came) c.desk) c
 
--- a folder with these messages is open: the index has learnt what commands told it and stands by the
--- variables, and the cursor on the
--- first new message, else on the first unread one, else on the last
+-- a folder with these messages is open: the index has learnt what commands told it and stands by
+-- the variables, and the cursor on the first new message, else on the first unread one, else on the
+-- last
 unfoldable pub opened : List Mail → List Listed → CoreState → CoreState
 opened mails came c = begun_in mails (found_in mails came (tuned mails (learnt mails c)))

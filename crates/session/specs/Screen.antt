@@ -1,5 +1,6 @@
 -- The screen: the page of the index that holds the cursor, the status line and the last line,
--- computed from scratch from the letters and the state (Mutt's manual, "index_format", "status_format").
+-- computed from scratch from the letters and the state (Mutt's manual, "index_format",
+-- "status_format").
 use Rattle.std.specs.Prelude.{◌∷◌, ◌++◌, ℕ, List, [], Option, Some, None}
 use Rattle.folder_core.specs.Letters.{Mail}
 use Rattle.index_view.specs.View.{PlainView}

@@ -2,9 +2,6 @@
 
 ghost use Rattle.std.specs.Prelude.{◌≡◌};
 ghost use Rattle.session.specs.Answers as spec;
-ghost use Rattle.session.specs.Core.{instant_of};
-ghost use Rattle.session_screen.specs.Window.{IsWindow};
-ghost use Rattle.session_state.specs.Instants.{IsInstant, IsMoment};
 
 use crate::core_state::Core;
 use folder_core::Archive;
@@ -22,19 +19,6 @@ fn is_no_limit(text: &[u8]) -> bool
     ensures { result ≡ spec.is_no_limit text.now }
 {
     text.is_empty() || text == b"all".as_slice()
-}
-
-// A moment, with the reader's offset from UTC.
-fn instant(window: Window, moment: Moment) -> Instant
-    requires window { IsWindow window }
-    requires moment { IsMoment moment.0 }
-    ensures value { result ≡ instant_of window moment.0 }
-    ensures is { IsInstant result }
-{
-    Instant {
-        seconds: moment.0,
-        offset: window.offset,
-    }
 }
 
 impl Core {
@@ -113,7 +97,7 @@ impl Core {
             (ground_of (map plain_letter archive.now.items) later window moment.0)
             asking text.items (plain_core self.old)) self.new) }
     {
-        let time = instant(window, moment);
+        let time = moment.with_offset(window.offset);
         match read_at(self.desk.alloc, &text, time, verdicts)? {
             Some(pattern) => self.take_pattern(archive, asking, text, pattern),
             None => self.refuse_pattern(&text),
@@ -199,7 +183,7 @@ impl Core {
             (ground_of (map plain_letter archive.now.items) later window moment.0) text.now.items
             (plain_core self.old)) self.new) }
     {
-        self.run_typed(instant(window, moment), verdicts, text)?;
+        self.run_typed(moment.with_offset(window.offset), verdicts, text)?;
         self.learn(archive)?;
         self.tune(archive)
     }

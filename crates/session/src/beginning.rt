@@ -64,7 +64,8 @@ impl Session {
             (seen (dev.new.disk.vtable, dev.new.disk.value))) }
     {
         let mut session = Session::first(alloc, setup, Moment(moment))?;
-        session.begin(dev, drivers, moment, trace)?;
+        session.source_all(dev, trace)?;
+        session.open_wished(dev, drivers, moment, trace)?;
         Ok(session)
     }
 
@@ -94,75 +95,8 @@ impl Session {
         ensures archive { trace.new.archive ≡ trace.old.archive }
     {
         let mut session = Session::first(alloc, setup, Moment(moment))?;
-        session.answer(names, dev, trace)
-    }
-
-    // Reads the files of commands, and then opens the folder.
-    fn begin(
-        &mut self,
-        dev: &mut Device,
-        drivers: &Drivers,
-        moment: i64,
-        trace: &mut Trace,
-    ) -> Result<(), StartError>
-        requires unopened { self.old.stage ≡ Unopened }
-        requires archive { trace.old.archive.items ≡ [] }
-        requires fits { CanRead self.old }
-        requires moment { IsMoment moment }
-        requires empty { IsEmpty self.old.core.desk.view }
-        ensures fits { OnOk result (Fits (map plain_letter trace.new.archive.items) self.new) }
-        ensures ok { OnOk result ((first : State) → (before : Seen)
-            → Sources trace.old.verdicts.kept first (plain_events trace.old.events.items)
-            (plain_session self.old trace.old.notes) before
-            (seen (dev.old.disk.vtable, dev.old.disk.value))
-            → (given : Given)
-            → IsGiven (map plain_letter trace.new.archive.items) trace.new.verdicts.kept given
-            → Starts (λ kind. Any (λ d. sort (d.vtable, d.value) ≡ kind) drivers.now.list.items)
-            given first moment
-            (plain_events trace.new.events.items) (plain_session self.new trace.new.notes) before
-            (seen (dev.new.disk.vtable, dev.new.disk.value))) }
-        ensures err { IfErr result (λ why. (first : State) → (before : Seen)
-            → Sources trace.old.verdicts.kept first (plain_events trace.old.events.items)
-            (plain_session self.old trace.old.notes) before
-            (seen (dev.old.disk.vtable, dev.old.disk.value))
-            → (given : Given)
-            → IsGiven (map plain_letter trace.new.archive.items) trace.new.verdicts.kept given
-            → Fails (λ kind. Any (λ d. sort (d.vtable, d.value) ≡ kind) drivers.now.list.items)
-            given first moment why
-            (plain_texts trace.new.notes) (plain_events trace.new.events.items) before
-            (seen (dev.new.disk.vtable, dev.new.disk.value))) }
-    {
-        self.source_all(dev, trace)?;
-        self.open_wished(dev, drivers, moment, trace)
-    }
-
-    // Reads the files of commands, and gives a line for each of these names.
-    fn answer(
-        &mut self,
-        names: &Words,
-        dev: &mut Device,
-        trace: &mut Trace,
-    ) -> Result<Lines, NoMemory>
-        requires unopened { self.old.stage ≡ Unopened }
-        requires fits { CanRead self.old }
-        ensures ok { IfOk result (λ lines. (first : State) → (before : Seen)
-            → Sources trace.old.verdicts.kept first (plain_events trace.old.events.items)
-            (plain_session self.old trace.old.notes) before
-            (seen (dev.old.disk.vtable, dev.old.disk.value))
-            → (given : Given) → Keeps trace.new.verdicts.kept given.verdicts
-            → AnswersNames given first
-            (plain_events trace.new.events.items) (plain_texts names.now)
-            (plain_texts lines) (plain_texts trace.new.notes)) }
-        ensures sources { (first : State) → (before : Seen)
-            → Sources trace.old.verdicts.kept first (plain_events trace.old.events.items)
-            (plain_session self.old trace.old.notes) before
-            (seen (dev.old.disk.vtable, dev.old.disk.value))
-            → SourcesOff trace.new.verdicts.kept first (plain_events trace.new.events.items) before
-            (seen (dev.new.disk.vtable, dev.new.disk.value)) }
-        ensures archive { trace.new.archive ≡ trace.old.archive }
-    {
-        self.source_all(dev, trace)?;
-        self.core.rules.answers(self.alloc, names.as_slice())
+        session.source_all(dev, trace)?;
+        session.core.rules.answers(alloc, names.as_slice())
     }
 
     // Opens the folder that is wished.

@@ -10,7 +10,7 @@ use people::Verdicts;
 use session_events::{Event, Trace};
 use session_index::Message;
 use session_screen::Window;
-use session_state::{Frame, Instant, Moment, Stage, read_first, skip_first};
+use session_state::{Frame, Moment, Stage, read_first, skip_first};
 use std::alloc::Global;
 
 /// What a run stands on between its events.
@@ -31,18 +31,17 @@ pub struct Session {
 }
 
 impl Session {
-    ghost use Rattle.std.specs.Prelude.{◌≡◌, ◌<◌, ◌++◌, ◌∷◌, [], ℕ, ℤ, List, OnOk, MatchOption};
+    ghost use Rattle.std.specs.Prelude.{◌≡◌, ◌<◌, ◌++◌, ◌∷◌, [], ℕ, List, OnOk, MatchOption};
     ghost use Rattle.std.specs.Prelude.{map};
     ghost use Rattle.mail_base.specs.Series.{Held};
     ghost use Rattle.folder_core.specs.Letters.{plain_letter};
     ghost use Rattle.index_view.specs.View.{IsOf};
     ghost use Rattle.patterns.specs.Causes.{Keeps};
     ghost use Rattle.people.specs.Judged.{PlainJudged};
-    ghost use Rattle.session_state.specs.Instants.{IsInstant};
     ghost use Rattle.session_events.specs.Events.{plain_event, plain_events};
     ghost use Rattle.session_events.specs.Happened.{IsFresh};
     ghost use Rattle.session_events.specs.Wishes as wish;
-    ghost use Rattle.session.specs.Core.{IsEmpty, instant_of};
+    ghost use Rattle.session.specs.Core.{IsEmpty};
     ghost use Rattle.session_screen.specs.Window.{IsWindow};
     ghost use Rattle.session_state.specs.Instants.{IsMoment};
     ghost use Rattle.session.specs.Fitting.{CanRead, CanTake, IsLeft};
@@ -145,7 +144,7 @@ impl Session {
         ensures window { self.new.window ≡ self.old.window }
         ensures checked { self.new.checked ≡ self.old.checked }
     {
-        let start = self.reading_time();
+        let start = self.checked.with_offset(self.window.offset);
         let rules = &mut self.core.rules;
         read_first(
             self.alloc,
@@ -156,18 +155,6 @@ impl Session {
             notes,
             text,
         )
-    }
-
-    // The moment at which files of commands are read.
-    fn reading_time(&self) -> Instant
-        requires { CanRead self.now }
-        ensures time { result ≡ instant_of self.now.window self.now.checked.0 }
-        ensures is { IsInstant result }
-    {
-        Instant {
-            seconds: self.checked.0,
-            offset: self.window.offset,
-        }
     }
 
     fn skip(
@@ -185,7 +172,7 @@ impl Session {
         ensures window { self.new.window ≡ self.old.window }
         ensures checked { self.new.checked ≡ self.old.checked }
     {
-        let start = self.reading_time();
+        let start = self.checked.with_offset(self.window.offset);
         let rules = &mut self.core.rules;
         skip_first(
             self.alloc,

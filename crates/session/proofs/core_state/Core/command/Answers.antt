@@ -1,4 +1,6 @@
-use Rattle.std.proofs.Common.{◌∙◌, None, ap, map, subst, sym}
+use Rattle.std.proofs.Common.{◌∙◌, FitsSigned, None, ap, arith, map, subst, sym, w32}
+use Rattle.std.proofs.lemmas.Int.{ints as signed_arith}
+use Rattle.std.proofs.Math.Facts.{to_z-of_z}
 use Rattle.std.proofs.lemmas.Result.{on_ok_weaker}
 use Rattle.folder_core.specs.Letters.{plain_letter}
 use Rattle.index_view.specs.View.{IsOf}
@@ -20,10 +22,12 @@ tune-requires g c = c.in_ok-learn.ensures.is_of
 pub returns-clause-core : goal.returns-clause-core
 returns-clause-core g c =
     let mails = map plain_letter c.args.archive.now.items in
+    let offset : FitsSigned w32 c.args.window.offset =
+    omega (arith, signed_arith, c.requires.window.west, c.requires.window.east) in
     let core = plain_core c.args.self.now in
     let lines = lines_of c.args.text.now.items in
     on_ok_weaker c.tune.result (λ stands later keeps. stands_as mails _ _ _
     (ap (tuned mails) (c.in_ok-learn.ensures.same
     ∙ ap (learnt mails) (c.in_ok-run_typed.ensures.core later keeps
     ∙ ap (λ (time : Instant). told (typed_run time later None lines core.rules) core)
-    c.instant.ensures.value))) stands) c.tune.ensures
+    (rw (to_z-of_z offset) at c.with_offset.ensures.value)))) stands) c.tune.ensures
