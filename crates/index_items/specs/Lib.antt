@@ -1,3 +1,4 @@
+pub mod Acts
 pub mod Pending
 pub mod Items
 pub mod Changes

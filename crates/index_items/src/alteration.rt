@@ -18,7 +18,8 @@ pub enum Alteration {
     Shut(bool),
 }
 
-fn altered_item(alteration: Alteration, item: Item) -> Item
+/// The message with a change.
+pub(crate) fn altered_item(alteration: Alteration, item: Item) -> Item
     ensures { plain_item result ≡ spec.altered_by alteration (plain_item item) }
 {
     match alteration {

@@ -4,6 +4,7 @@
 //! of the list.
 #![tactic(auto)]
 
+mod act;
 mod alteration;
 mod by_id;
 mod change;
@@ -12,6 +13,7 @@ mod item;
 mod kept;
 mod pending;
 
+pub use act::{Act, Mark};
 pub use alteration::{Alteration, altered};
 pub use by_id::ById;
 pub use change::{changes, settled};

@@ -1,7 +1,14 @@
 -- The page of what is seen that holds the cursor.
-use Rattle.std.specs.Prelude.{◌*◌, ◌/◌, ℕ, List, Option, drop, option_and_then, take, unwrap_or}
+use Rattle.std.specs.Prelude.{◌*◌, ◌/◌, ◌==◌, ℕ, false, List, Option, codes, drop, option_and_then}
+use Rattle.std.specs.Prelude.{take, unwrap_or, if◌then◌else◌}
+use Rattle.std.specs.Option.{option_map_or}
 use Rattle.mail_base.specs.declared.kind.Id.{Id}
 use Rattle.index_listed.specs.Places.{place_in}
+
+-- the mark of the cursor's message, and of all others
+abbrev pub mark : Option Id → Id → List ℕ
+mark cursor id =
+    if option_map_or (λ c. c.0 == id.0) cursor false then codes "->" else codes "  "
 
 -- where a cursor stands among what is seen; at its front where it stands nowhere
 abbrev pub cursor_place : List Id → Option Id → ℕ

@@ -26,6 +26,7 @@ pub use heads::read_heads;
 pub use links::Links;
 pub use listed::{Listed, all_listed, text_of};
 pub use mark::Mark;
+pub use page::{cursor_mark, put_blanks};
 pub use places::{Places, places_of};
 pub use sight::Sight;
 pub use stance::{Stance, stances};

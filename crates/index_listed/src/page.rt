@@ -1,7 +1,29 @@
 //! The page of what is seen that holds the cursor.
 
+ghost use Rattle.std.specs.Prelude.{◌≡◌, ◌++◌, [], replicate, OnOk};
+ghost use Rattle.mail_base.specs.Series.{plain_texts};
+ghost use Rattle.index_listed.specs.Page as spec;
+
 use crate::sight::Sight;
-use mail_base::Id;
+use mail_base::{Id, Line, Lines, NoMemory};
+use std::alloc::Global;
+
+/// What stands before the line of a message: the mark of the cursor, or blanks.
+pub fn cursor_mark(cursor: Option<Id>, id: Id) -> &'static str
+    ensures { result.now ≡ spec.mark cursor id }
+{
+    if cursor == Some(id) { "->" } else { "  " }
+}
+
+/// Adds the empty lines behind the messages of a page.
+pub fn put_blanks(alloc: Global, lines: &mut Lines, count: usize) -> Result<(), NoMemory>
+    ensures { OnOk result (plain_texts lines.new ≡ plain_texts lines.old ++ replicate count []) }
+{
+    for _turn in 0..count {
+        lines.push(Line::new(alloc))?;
+    }
+    Ok(())
+}
 
 impl Sight {
     ghost use Rattle.std.specs.Prelude.{◌≡◌, ◌≤◌, ◌<◌, length};

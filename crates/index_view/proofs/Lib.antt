@@ -1,6 +1,8 @@
+pub mod ActingLemmas
 pub mod ItemLemmas
 pub mod OrderLemmas
 pub mod AnswersLemmas
+pub mod StillLemmas
 pub mod ViewLemmas
 pub mod JoinLemmas
 pub mod LinesLemmas

@@ -26,7 +26,7 @@ use Rattle.index_view.proofs.JoinLemmas.{heads_short}
 use Rattle.index_view.proofs.ViewLemmas.{listed_ids}
 
 -- the numbers of the rows are those of the messages
-rows_are : (mails : List Mail) (v : PlainView) → IsOf mails v
+pub rows_are : (mails : List Mail) (v : PlainView) → IsOf mails v
     → map (λ (r : Row). r.id.0) v.answers.rows ≡ numbers v.items
 rows_are mails v of =
     ap (λ (a : PlainAnswers). map (λ (r : Row). r.id.0) a.rows) of.answered
@@ -36,7 +36,7 @@ less_more : (a b : ℕ) → nat_lt (1 + a) (suc b) ≡ nat_lt a b
 less_more a b = grind (arith, nat_tests)
 
 -- something is found exactly where there is something
-found_any : (p : ℕ → Bool) (xs : List ℕ)
+pub found_any : (p : ℕ → Bool) (xs : List ℕ)
     → nat_lt (position_or_len p xs) (length xs) ≡ list_any p xs
 found_any p [] = refl
 found_any p (x ∷ xs) = by_test (p x) (found_any p xs)
@@ -47,7 +47,7 @@ found_any p (x ∷ xs) = by_test (p x) (found_any p xs)
     by_test true rest = lt-ltb 0 (suc (length xs)) (omega arith)
     by_test false rest = less_more (position_or_len p xs) (length xs) ∙ rest
 
-some_where : (b : Bool) (p : ℕ) → is_some (cond b (Some p) None) ≡ b
+pub some_where : (b : Bool) (p : ℕ) → is_some (cond b (Some p) None) ≡ b
 some_where true p = refl
 some_where false p = refl
 

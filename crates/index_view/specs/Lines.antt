@@ -1,16 +1,15 @@
 -- The lines of the index: the page that holds the cursor, each message with its mark.
-use Rattle.std.specs.Prelude.{◌==◌, ◌-◌, ◌++◌, ℕ, ℤ, false, List, [], codes}
+use Rattle.std.specs.Prelude.{◌-◌, ◌++◌, ℕ, ℤ, false, List, []}
 use Rattle.std.specs.Prelude.{length, map, replicate, slice_index_or}
 use Rattle.std.specs.Prelude.{Option, Some, None, option_and_then, option_map, unwrap_or}
 use Rattle.std.specs.Prelude.{if◌then◌else◌}
-use Rattle.std.specs.Option.{option_map_or}
 use Rattle.mail_base.specs.declared.kind.Id.{Id}
 use Rattle.expando.specs.Formats.{PlainPiece}
 use Rattle.folder_core.specs.Letters.{Mail}
 use Rattle.headers.specs.Header.{PlainHeader}
 use Rattle.patterns_match.specs.declared.row.Row.{Row}
 use Rattle.index_listed.specs.Listed.{header_of, mail_at, no_mail, text_of}
-use Rattle.index_listed.specs.Page.{cursor_place as place_of_cursor, page as page_of}
+use Rattle.index_listed.specs.Page.{cursor_place as place_of_cursor, mark, page as page_of}
 use Rattle.index_listed.specs.Page.{page_start as start_of_page}
 use Rattle.index_listed.specs.Places.{place_in}
 use Rattle.index_listed.specs.Seen.{PlainSight, thread_has, tree_line}
@@ -99,11 +98,6 @@ page_start rows v = start_of_page rows (visible_of v) v.cursor
 -- the messages of that page
 abbrev pub page : ℕ → PlainView → List Id
 page rows v = page_of rows (visible_of v) v.cursor
-
--- the mark of the cursor's message, and of all others
-abbrev pub mark : Option Id → Id → List ℕ
-mark cursor id =
-    if option_map_or (λ c. c.0 == id.0) cursor false then codes "->" else codes "  "
 
 -- a message of the page with its mark
 abbrev pub marked_line : List Mail → PlainView → PlainStyle → ℕ → Id → List ℕ

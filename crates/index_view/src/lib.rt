@@ -3,6 +3,7 @@
 //! and ask for its ids, rows and lines.
 #![tactic(auto)]
 
+mod acting;
 mod answers;
 mod asked;
 mod asking;

@@ -1,13 +1,9 @@
 //! The lines of the index.
 
-ghost use Rattle.std.specs.Prelude.{◌≡◌, ◌++◌, [], replicate, OnOk};
-ghost use Rattle.index_view.specs.Lines as spec;
-ghost use Rattle.mail_base.specs.Series.{plain_texts};
-
 use crate::view::View;
 use expando::Format;
 use folder_core::Archive;
-use index_listed::text_of;
+use index_listed::{cursor_mark, put_blanks, text_of};
 use index_rows::{Entry, index_row};
 use mail_base::{Id, Line, Lines, NoMemory};
 use std::alloc::Global;
@@ -19,12 +15,6 @@ pub struct Style<'a> {
     pub to_chars: &'a [u8],
     /// The reader's offset from UTC in seconds.
     pub offset: i32,
-}
-
-fn mark(cursor: Option<Id>, id: Id) -> &'static str
-    ensures { result.now ≡ spec.mark cursor id }
-{
-    if cursor == Some(id) { "->" } else { "  " }
 }
 
 impl View {
@@ -135,7 +125,7 @@ impl View {
             (spec.plain_style style.entry) cols id) }
     {
         let mut line = Line::new(alloc);
-        line.append(mark(self.cursor, id))?;
+        line.append(cursor_mark(self.cursor, id))?;
         if let Some(row) = self.styled(alloc, archive, style, cols - 2, id)? {
             line.append_bytes(row.as_slice())?;
         }
@@ -206,14 +196,4 @@ impl View {
         }
         Ok(())
     }
-}
-
-// Adds so many empty lines.
-fn put_blanks(alloc: Global, lines: &mut Lines, count: usize) -> Result<(), NoMemory>
-    ensures { OnOk result (plain_texts lines.new ≡ plain_texts lines.old ++ replicate count []) }
-{
-    for _turn in 0..count {
-        lines.push(Line::new(alloc))?;
-    }
-    Ok(())
 }

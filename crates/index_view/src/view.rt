@@ -159,8 +159,8 @@ impl View {
         self.answers = answers;
     }
 
-    // Puts in other messages, with the same headers.
-    fn put(&mut self, archive: &Archive, items: Vec<Item>) -> Result<(), NoMemory>
+    /// Puts in other messages, with the same headers.
+    pub(crate) fn put(&mut self, archive: &Archive, items: Vec<Item>) -> Result<(), NoMemory>
         requires heads { AreHeads self.old.heads (map plain_letter archive.now.items) }
         requires within { AreWithin (length self.old.heads) (numbers (plain_items items.items)) }
         requires apart { spec.AreApart (plain_items items.items) }
@@ -172,24 +172,6 @@ impl View {
         self.items = items;
         self.turn(answers);
         Ok(())
-    }
-
-    // Changes a message.
-    fn put_altered(
-        &mut self,
-        archive: &Archive,
-        id: Id,
-        alteration: Alteration,
-    ) -> Result<(), NoMemory>
-        requires { spec.IsOf (map plain_letter archive.now.items) self.old }
-        ensures ok { OnOk result (spec.Turned (map plain_letter archive.now.items) self.old self.new
-            (record (spec.facts_of self.old) {
-              items = it.alter_at id (it.altered_by alteration) self.old.items;
-            })) }
-        ensures err { OnErr result (self.new ≡ self.old) }
-    {
-        let items = altered(self.alloc, &self.items, id, alteration)?;
-        self.put(archive, items)
     }
 
     /// Other options.
@@ -273,7 +255,9 @@ impl View {
             })) }
         ensures err { OnErr result (self.new ≡ self.old) }
     {
-        self.put_altered(archive, id, Alteration::Pending(delta, deleted))
+        let change = Alteration::Pending(delta, deleted);
+        let items = altered(self.alloc, &self.items, id, change)?;
+        self.put(archive, items)
     }
 
     /// Tags a message, or takes its tag away.
@@ -285,7 +269,8 @@ impl View {
             })) }
         ensures err { OnErr result (self.new ≡ self.old) }
     {
-        self.put_altered(archive, id, Alteration::Tag(tagged))
+        let items = altered(self.alloc, &self.items, id, Alteration::Tag(tagged))?;
+        self.put(archive, items)
     }
 
     /// Shuts or opens the thread of a root.

@@ -1,3 +1,4 @@
+pub mod ActsLemmas
 pub mod IndexLemmas
 pub mod SearchLemmas
 pub mod DeskLemmas

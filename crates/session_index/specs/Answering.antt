@@ -8,10 +8,10 @@ use Rattle.index_view.specs.View.{messages_over}
 use Rattle.session_index.specs.Desk.{PlainDesk}
 use Rattle.session_index.specs.Effects.{done_to, run_effects, search_way, went, with_index}
 use Rattle.session_index.specs.Index.{PlainIndex, answers_of, given}
-use Rattle.session_index.specs.declared.act.Act.{Act}
-use Rattle.session_index.specs.declared.act.Act.TheVariants.{Set, Clear}
-use Rattle.session_index.specs.declared.act.Mark.{Mark}
-use Rattle.session_index.specs.declared.act.Mark.TheVariants as mark
+use Rattle.index_items.specs.declared.act.Act.{Act}
+use Rattle.index_items.specs.declared.act.Act.TheVariants.{Set, Clear}
+use Rattle.index_items.specs.declared.act.Mark.{Mark}
+use Rattle.index_items.specs.declared.act.Mark.TheVariants as mark
 use Rattle.prompts.specs.declared.asking.Asking.{Asking}
 use Rattle.prompts.specs.declared.asking.Asking.TheVariants as asking
 use Rattle.session_index.specs.declared.effect.Effect.{Effect}

@@ -19,9 +19,9 @@ use Rattle.session_index.specs.Motions.{way}
 use Rattle.session_index.specs.Notices.{notice_text}
 use Rattle.session_index.specs.Searching.{place_of, way_found}
 use Rattle.session_index.specs.Shown.{shows}
-use Rattle.session_index.specs.declared.act.Act.{Act}
-use Rattle.session_index.specs.declared.act.Act.TheVariants.{Set, Clear}
-use Rattle.session_index.specs.declared.act.Mark.TheVariants.{Tagged}
+use Rattle.index_items.specs.declared.act.Act.{Act}
+use Rattle.index_items.specs.declared.act.Act.TheVariants.{Set, Clear}
+use Rattle.index_items.specs.declared.act.Mark.TheVariants.{Tagged}
 use Rattle.prompts.specs.declared.asking.Asking.{Asking}
 use Rattle.prompts.specs.declared.asking.Asking.TheVariants.{Search}
 use Rattle.session_index.specs.declared.effect.Effect.{Effect}

@@ -2,9 +2,9 @@
 use Rattle.std.specs.Prelude.{List, [], ◌∷◌, Bool, true, false}
 use Rattle.keymap.specs.declared.function.Function.{Function}
 use Rattle.keymap.specs.declared.function.Function.TheVariants as f
-use Rattle.session_index.specs.declared.act.Act.TheVariants.{Set, Clear, TurnFlagged, TurnNew}
-use Rattle.session_index.specs.declared.act.Act.TheVariants.{TurnTag}
-use Rattle.session_index.specs.declared.act.Mark.TheVariants.{Deleted}
+use Rattle.index_items.specs.declared.act.Act.TheVariants.{Set, Clear, TurnFlagged, TurnNew}
+use Rattle.index_items.specs.declared.act.Act.TheVariants.{TurnTag}
+use Rattle.index_items.specs.declared.act.Mark.TheVariants.{Deleted}
 use Rattle.prompts.specs.declared.asking.Asking.TheVariants as asking
 use Rattle.session_index.specs.declared.effect.Effect.{Effect}
 use Rattle.session_index.specs.declared.effect.Effect.TheVariants.{Move, Do, TagThread, Fold}

@@ -6,49 +6,35 @@ ghost use Rattle.index_view.specs.View.{IsOf};
 ghost use Rattle.session_index.specs.Acts as spec;
 ghost use Rattle.session_index.specs.Index.{Shows, index_of};
 
-use crate::act::{Act, alteration};
 use folder_core::Archive;
-use index_items::Alteration;
+use index_items::Act;
 use index_view::View;
 use mail_base::{Id, NoMemory};
 
-// Changes a message.
-fn alter(view: &mut View, archive: &Archive, id: Id, alteration: Alteration) -> Result<(), NoMemory>
-    requires { IsOf (map plain_letter archive.now.items) view.old }
-    ensures { OnOk result (Shows (map plain_letter archive.now.items)
-        (spec.altered (map plain_letter archive.now.items)
-        (spec.plain_alteration alteration) id (index_of view.old))
-        view.new) }
-{
-    match alteration {
-        Alteration::Pending(delta, deleted) => view.alter(archive, id, delta, deleted),
-        Alteration::Tag(tagged) => view.tag(archive, id, tagged),
-        Alteration::Shut(shut) => view.collapse(archive, id, shut),
-    }
-}
-
-// Does this to the message with an id, if it is listed.
-fn act_on_one(view: &mut View, archive: &Archive, act: Act, id: Id) -> Result<(), NoMemory>
-    requires { IsOf (map plain_letter archive.now.items) view.old }
-    ensures { OnOk result (Shows (map plain_letter archive.now.items)
-        (spec.acted (map plain_letter archive.now.items) act id (index_of view.old)) view.new) }
-{
-    match view.row(id) {
-        Some(row) => alter(view, archive, id, alteration(act, row)),
-        None => Ok(()),
-    }
-}
-
-/// Does this to messages, one after the other; the cursor goes behind each where it has to.
+/// Does this to messages, one after the other; the cursor goes behind each where it has to. Where
+/// no act can change what is seen, that is worked out once.
 pub fn act_on(view: &mut View, archive: &Archive, act: Act, ids: &[Id]) -> Result<(), NoMemory>
     requires { IsOf (map plain_letter archive.now.items) view.old }
     ensures { OnOk result (Shows (map plain_letter archive.now.items)
         (spec.acted_all (map plain_letter archive.now.items) act ids.now (index_of view.old))
         view.new) }
 {
+    if view.is_still() {
+        return view.act_on(archive, act, ids);
+    }
+    act_on_each(view, archive, act, ids)
+}
+
+// Does this to messages, and works out behind each what is seen.
+fn act_on_each(view: &mut View, archive: &Archive, act: Act, ids: &[Id]) -> Result<(), NoMemory>
+    requires { IsOf (map plain_letter archive.now.items) view.old }
+    ensures { OnOk result (Shows (map plain_letter archive.now.items)
+        (spec.acted_all (map plain_letter archive.now.items) act ids.now (index_of view.old))
+        view.new) }
+{
     let mut left = ids;
-    while let [first, rest @ ..] = left {
-        act_on_one(view, archive, act, *first)?;
+    while let Some((first, rest)) = left.split_first() {
+        view.act_on(archive, act, &[*first])?;
         left = rest;
     }
     Ok(())

@@ -3,13 +3,13 @@
 ghost use Rattle.std.specs.Prelude.{◌≡◌};
 ghost use Rattle.session_index.specs.Answering as spec;
 
-use crate::act::{Act, Mark};
 use crate::acting::act_on;
 use crate::desk::Desk;
 use crate::effect::{Effect, Scope};
 use crate::rule::Rule;
 use crate::searching::search;
 use folder_core::Archive;
+use index_items::{Act, Mark};
 use mail_base::NoMemory;
 use patterns_match::Pattern;
 use prompts::Asking;

@@ -1,8 +1,8 @@
 //! Basic effects of functions.
 
-use crate::act::Act;
 use crate::motion::Motion;
 use crate::notice::Notice;
+use index_items::Act;
 use prompts::Asking;
 
 /// Which messages an effect means.

@@ -3,10 +3,10 @@
 ghost use Rattle.std.specs.Prelude.{◌≡◌};
 ghost use Rattle.session_index.specs.Functions as spec;
 
-use crate::act::{Act, Mark};
 use crate::effect::{Effect, Scope};
 use crate::motion::Motion;
 use crate::notice::Notice;
+use index_items::{Act, Mark};
 use keymap::Function;
 use prompts::Asking;
 

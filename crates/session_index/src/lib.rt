@@ -2,7 +2,6 @@
 //! which messages, searches, and answers to prompts.
 #![tactic(auto)]
 
-mod act;
 mod acting;
 mod answering;
 mod desk;
@@ -25,7 +24,6 @@ mod wanted;
 mod way;
 mod ways;
 
-pub use act::{Act, Mark};
 pub use desk::Desk;
 pub use effect::{Effect, Scope};
 pub use message::Message;

@@ -1,6 +1,5 @@
 //! How functions act on a desk.
 
-use crate::act::{Act, Mark};
 use crate::acting::act_on;
 use crate::desk::Desk;
 use crate::effect::{Effect, Scope};
@@ -16,6 +15,7 @@ use crate::sought::{Sought, shows};
 use crate::wanted::Wanted;
 use crate::ways::go;
 use folder_core::Archive;
+use index_items::{Act, Mark};
 use keymap::Function;
 use mail_base::{Ids, NoMemory};
 use prompts::{Asking, Prompt};

@@ -1,6 +1,6 @@
 use Rattle.std.proofs.Common.{◌≡◌, ◌++◌, [], replicate}
 use Rattle.mail_base.specs.Series.{plain_texts}
-use Rattle.index_view.proofs.lines.put_blanks.Given as goal
+use Rattle.index_listed.proofs.page.put_blanks.Given as goal
 
 abbrev pub invariant-loop-turn : goal.invariant-loop-turn
 invariant-loop-turn l =

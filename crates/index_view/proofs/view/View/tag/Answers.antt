@@ -2,14 +2,16 @@ use Rattle.std.proofs.Common.{◌≡◌, ◌∙◌, ap, length, subst, sym}
 use Rattle.std.proofs.Common.{List}
 use Rattle.index_items.specs.Alteration.{alter_at, altered_by}
 use Rattle.index_items.specs.Items.{PlainItem, numbers, plain_items}
+use Rattle.index_items.specs.declared.alteration.Alteration.{Alteration}
+use Rattle.index_items.specs.declared.alteration.Alteration.TheVariants.{Pending, Tag}
 use Rattle.index_listed.specs.Heads.{AreWithin}
 use Rattle.index_view.specs.View.{AreApart, PlainView}
 use Rattle.index_view.proofs.ViewLemmas.{altered_apart, altered_within}
-use Rattle.index_view.proofs.view.View.put_altered.Goals as goal
+use Rattle.index_view.proofs.view.View.tag.Goals as goal
 
 pub put-requires-clause-within : goal.put-requires-clause-within
 put-requires-clause-within c =
-    let alteration = c.args.alteration in
+    let alteration : Alteration = Tag c.args.tagged in
     let items : plain_items c.in_ok-items.items.items
     ≡ alter_at c.args.id (altered_by alteration) c.args.self.now.items = c.in_ok-items.ensures
     ∙ ap (alter_at c.args.id (altered_by alteration))
@@ -20,7 +22,7 @@ put-requires-clause-within c =
 
 pub put-requires-clause-apart : goal.put-requires-clause-apart
 put-requires-clause-apart c =
-    let alteration = c.args.alteration in
+    let alteration : Alteration = Tag c.args.tagged in
     let items : plain_items c.in_ok-items.items.items
     ≡ alter_at c.args.id (altered_by alteration) c.args.self.now.items = c.in_ok-items.ensures
     ∙ ap (alter_at c.args.id (altered_by alteration))

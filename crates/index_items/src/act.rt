@@ -1,13 +1,13 @@
-//! What is done to messages.
+//! What is done to a message.
 
 ghost use Rattle.std.specs.Prelude.{◌≡◌, false};
-ghost use Rattle.index_items.specs.Pending.{no_flags};
 ghost use Rattle.mail_base.specs.Flags.{overlap};
-ghost use Rattle.session_index.specs.Acts as spec;
+ghost use Rattle.index_items.specs.Acts as spec;
+ghost use Rattle.index_items.specs.Pending.{no_flags};
 
-use index_items::Alteration;
+use crate::alteration::{Alteration, altered_item};
+use crate::item::Item;
 use mail_base::{Delta, Flags};
-use patterns_match::Row;
 
 /// A mark that is set or cleared (Mutt's manual, "set-flag").
 #[derive(Clone, Copy, Debug, PartialEq, Eq)]
@@ -116,13 +116,13 @@ fn setting(mark: Mark) -> Alteration
     }
 }
 
-fn clearing(mark: Mark, row: Row) -> Alteration
-    ensures { spec.plain_alteration result ≡ spec.clearing mark row }
+fn clearing(mark: Mark, shown: Flags) -> Alteration
+    ensures { spec.plain_alteration result ≡ spec.clearing mark shown }
 {
     match mark {
         Mark::Deleted => deletion(false),
         Mark::New => flags(seen(), none()),
-        Mark::Old if row.flags.seen => flags(none(), none()),
+        Mark::Old if shown.seen => flags(none(), none()),
         Mark::Old => flags(none(), aged()),
         Mark::Replied => flags(none(), replied()),
         Mark::Tagged => Alteration::Tag(false),
@@ -130,17 +130,30 @@ fn clearing(mark: Mark, row: Row) -> Alteration
     }
 }
 
-/// What is done to a message, by what is shown of it.
-pub fn alteration(act: Act, row: Row) -> Alteration
-    ensures { spec.plain_alteration result ≡ spec.alteration act row }
+// What is done to a message, by its flags as they are shown and its tag.
+fn alteration(act: Act, shown: Flags, tagged: bool) -> Alteration
+    ensures { spec.plain_alteration result ≡ spec.alteration act shown tagged }
 {
     match act {
         Act::Set(mark) => setting(mark),
-        Act::Clear(mark) => clearing(mark, row),
-        Act::TurnFlagged if row.flags.flagged => clearing(Mark::Flagged, row),
+        Act::Clear(mark) => clearing(mark, shown),
+        Act::TurnFlagged if shown.flagged => clearing(Mark::Flagged, shown),
         Act::TurnFlagged => setting(Mark::Flagged),
-        Act::TurnNew if row.flags.seen || row.flags.aged => setting(Mark::New),
-        Act::TurnNew => clearing(Mark::New, row),
-        Act::TurnTag => Alteration::Tag(!row.tagged),
+        Act::TurnNew if shown.seen || shown.aged => setting(Mark::New),
+        Act::TurnNew => clearing(Mark::New, shown),
+        Act::TurnTag => Alteration::Tag(!tagged),
+    }
+}
+
+impl Item {
+    ghost use Rattle.std.specs.Prelude.{◌≡◌};
+    ghost use Rattle.index_items.specs.Acts.{acted};
+    ghost use Rattle.index_items.specs.Items.{plain_item};
+
+    /// The message to which this is done.
+    pub fn acted(self, act: Act) -> Item
+        ensures { plain_item result ≡ acted act (plain_item self) }
+    {
+        altered_item(alteration(act, self.shown(), self.tagged), self)
     }
 }
