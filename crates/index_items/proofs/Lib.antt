@@ -3,3 +3,4 @@ pub mod ByIdLemmas
 pub mod ChangeLemmas
 pub mod FoundLemmas
 pub mod KeptLemmas
+pub mod TallyLemmas

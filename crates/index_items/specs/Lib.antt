@@ -6,3 +6,4 @@ pub mod ById
 pub mod Found
 pub mod Alteration
 pub mod Kept
+pub mod Tally

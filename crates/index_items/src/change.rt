@@ -10,8 +10,8 @@ use folder_core::{Change, Changed1, Changes};
 use mail_base::{Kind, NoMemory};
 use std::alloc::Global;
 
-// What a sync is to do with a message.
-fn change_of(kind: Kind, purge: bool, item: Item) -> Option<Change>
+/// What a sync is to do with a message.
+pub(crate) fn change_of(kind: Kind, purge: bool, item: Item) -> Option<Change>
     ensures { option_map spec.plain_change result ≡ spec.change_of kind purge (plain_item item) }
 {
     if item.pending.deleted && purge {

@@ -1,12 +1,13 @@
 -- What is done to many messages.
-use Rattle.std.proofs.Common.{◌≡◌, ◌∙◌, ◌<◌, ℕ, zero, suc, Bool, true, false, List, [], ◌∷◌, ap, arith, length}
-use Rattle.std.proofs.Common.{◌||◌, None, Some, map, nat_eq, nat_lt, refl, slice_index_or, slice_set, subst, sym}
-use Rattle.std.proofs.lemmas.Bool.{eqb-false, eqb-true, false≢true, true≢false}
+use Rattle.std.proofs.Common.{◌≡◌, ◌∙◌, ◌<◌, ℕ, zero, suc, Bool, true, false, List, [], ◌∷◌, ap}
+use Rattle.std.proofs.Common.{arith, length, ◌||◌, None, Some, nat_eq, nat_lt, refl, slice_index_or}
+use Rattle.std.proofs.Common.{slice_set, subst, sym}
+use Rattle.std.proofs.lemmas.Bool.{eqb-false, eqb-true, false≢true}
 use Rattle.std.proofs.lemmas.List.{get_or-map, length-map, map-set}
 use Rattle.std.proofs.lemmas.List.Quantifiers.{position-Some}
 use Rattle.std.proofs.lemmas.List.Elements.{All-from_recursion}
 use Rattle.std.specs.List.{AllByRecursion, IsDistinct, list_any, position_or_len}
-use Rattle.std.specs.Prelude.{is_some, position, if◌then◌else◌}
+use Rattle.std.specs.Prelude.{is_some, position}
 use Rattle.mail_base.specs.declared.kind.Id.{Id}
 use Rattle.index_items.specs.Alteration.{alter_at, altered_where}
 use Rattle.index_items.specs.Acts.{Changes, PlainAlteration, Shuts, Tags, acted, acted_all, alteration}

@@ -1,6 +1,6 @@
--- Where nothing is limited and nothing scores, what is seen hangs on no flag and no tag.
-use Rattle.std.proofs.Common.{◌≡◌, ◌∙◌, ℕ, zero, suc, Bool, true, false, List, [], ◌∷◌, None, Option, ap, length, map, refl}
-use Rattle.std.proofs.Common.{◌||◌, nat_eq, slice_index_or, sym}
+-- Where neither the limit nor scores look at flags and tags, what is seen hangs on none of them.
+use Rattle.std.proofs.Common.{◌≡◌, ◌∙◌, ◌||◌, ℕ, zero, suc, Bool, true, false, List, [], ◌∷◌, Option}
+use Rattle.std.proofs.Common.{ap, length, map, nat_eq, refl, slice_index_or, sym}
 use Rattle.std.specs.Prelude.{if◌then◌else◌}
 use Rattle.std.proofs.lemmas.List.{length-map}
 use Rattle.std.proofs.lemmas.List.FromFn.{length-range_with_len}
@@ -16,6 +16,7 @@ use Rattle.patterns_match.specs.declared.row.Row.{Row}
 use Rattle.index_items.specs.Acts.{PlainAlteration, acted, alteration, changed_by, clearing, setting}
 use Rattle.index_items.specs.Alteration.{alter_at, altered_where}
 use Rattle.index_items.specs.Items.{PlainItem, ids_of, shown_flags}
+use Rattle.index_items.specs.Pending.{no_flags}
 use Rattle.index_items.specs.declared.act.Act.{Act}
 use Rattle.index_items.specs.declared.act.Act.TheVariants.{Set, Clear, TurnFlagged, TurnNew}
 use Rattle.index_items.specs.declared.act.Act.TheVariants.{TurnTag}
@@ -23,26 +24,23 @@ use Rattle.index_items.specs.declared.act.Mark.{Mark as ActMark}
 use Rattle.index_items.specs.declared.act.Mark.TheVariants.{Deleted, New, Old, Replied, Tagged}
 use Rattle.index_items.specs.declared.act.Mark.TheVariants.{Flagged}
 use Rattle.index_listed.specs.Listed.{PlainListed, all_listed as with_letters, at, ids as ids_in}
-use Rattle.index_listed.specs.Marks.{mark_at, no_mark}
-use Rattle.index_listed.specs.Seen.{PlainSight, visible_ids}
+use Rattle.index_listed.specs.Marks.{mark_at}
+use Rattle.index_listed.specs.Seen.{visible_ids}
 use Rattle.index_listed.specs.Sight.{entries, entry_of, stances, visible}
 use Rattle.index_listed.specs.Threading.{at as links_at}
-use Rattle.index_listed.specs.declared.entry.Entry.{Entry}
 use Rattle.index_listed.specs.declared.links.Links.{Links}
 use Rattle.index_listed.specs.declared.mark.Mark.{Mark}
 use Rattle.index_listed.specs.declared.stance.Stance.{Stance}
-use Rattle.index_listed.proofs.PlaceLemmas.{map_at}
-use Rattle.index_order.specs.Keys.{PlainKeys}
 use Rattle.index_order.specs.Options.{sort_options}
 use Rattle.index_order.specs.Order.{is_threads, order}
-use Rattle.index_view.specs.Answers.{Facts, answers, links_of, messages_of, ordered, rows_of, scored}
+use Rattle.index_view.specs.Answers.{Facts, links_of, messages_of, ordered, rows_of, scored}
 use Rattle.index_view.specs.Answers.{sight_of, stances_of, threads_of, within_of}
-use Rattle.index_view.specs.Limit.{PlainLimit, all_within, is_within}
+use Rattle.index_view.specs.Limit.{PlainLimit, all_within}
 use Rattle.index_view.specs.Listing.{all_listed}
 use Rattle.index_view.specs.Marks.{mark_of, marks_of}
-use Rattle.index_view.specs.Ordering.{key_at, key_of, keys, numbered, with_number}
-use Rattle.index_view.specs.Tables.{first_row_at, first_rows, in_shut, message_at, no_item, no_row}
-use Rattle.index_view.specs.Tables.{row_at, scored_at, scored_rows, table}
+use Rattle.index_view.specs.Ordering.{key_at, key_of, numbered, with_number}
+use Rattle.index_view.specs.Tables.{first_row, first_row_at, first_rows, in_shut, message, message_at}
+use Rattle.index_view.specs.Tables.{no_item, no_row, row_at, scored_at, table, with_score}
 use Rattle.index_view.specs.View.{answers_over}
 use Rattle.index_view.proofs.ActingLemmas.{acted_keeps_id}
 use Rattle.index_view.proofs.AnswersLemmas.{rows_long}
@@ -61,105 +59,120 @@ each_same f g (x ∷ xs) same = λ k. same x k ∷ each_same f g xs same k
 abbrev shut_of : PlainItem → Bool
 shut_of i = i.shut
 
-abbrev collapsed_of : Row → Bool
-collapsed_of r = r.collapsed
+-- Rows and messages without flags, marks of deletion and tags.
 
--- Shut threads.
+abbrev pub bare_row : Row → Row
+bare_row r = record r { flags = no_flags; deleted = false; tagged = false }
 
-module _ (ls : List PlainListed) (links : List Links) where
-  abbrev places : List ℕ
-  places = range_with_len 0 (length ls)
+abbrev pub bare : Message → Message
+bare m = record m { row = bare_row m.row }
 
-  first_collapsed : (items : List PlainItem)
-      → map collapsed_of (first_rows ls items links) ≡ map (in_shut items links) places
-  first_collapsed items = map-map collapsed_of (first_row_at ls items links) places
+-- a limit tells the same of messages that differ in these alone
+abbrev pub IsBlind : Option PlainLimit → Type 0
+IsBlind limit = (people : PlainPeople) → (ms : List Message) → (ns : List Message)
+    → map bare ms ≡ map bare ns → all_within people limit ms ≡ all_within people limit ns
 
-  same_shut : (old new : List PlainItem) → map shut_of new ≡ map shut_of old
-      → (p : ℕ) → in_shut new links p ≡ in_shut old links p
-  same_shut old new same p =
-      let root = (links_at links p).root in
-      sym (read_map shut_of no_item new root) ∙ ap (λ l. slice_index_or l root no_item.shut) same
-      ∙ read_map shut_of no_item old root
+-- and so do entries of scores
+abbrev pub AreBlind : List PlainEntry → Type 0
+AreBlind entries = (people : PlainPeople) → (ms : List Message) → (ns : List Message)
+    → map bare ms ≡ map bare ns → (p : ℕ)
+    → score people ms entries p ≡ score people ns entries p
 
-  same_first : (old new : List PlainItem) → map shut_of new ≡ map shut_of old
-      → map collapsed_of (first_rows ls new links) ≡ map collapsed_of (first_rows ls old links)
-  same_first old new same =
-      first_collapsed new
-      ∙ each_same (in_shut new links) (in_shut old links) places (same_shut old new same)
-      ∙ sym (first_collapsed old)
+bare_at : (rows : List Row) (p : ℕ) → bare_row (row_at rows p) ≡ row_at (map bare_row rows) p
+bare_at rows p = sym (read_map bare_row no_row rows p)
 
-scored_collapsed : (people : PlainPeople) (es : List PlainEntry) (messages : List Message)
-    (rows : List Row) → map collapsed_of (scored_rows people es messages rows)
-    ≡ map collapsed_of rows
-scored_collapsed people es messages rows =
-    map-map collapsed_of (scored_at people es messages rows) (range_with_len 0 (length rows))
-    ∙ map_at collapsed_of rows no_row
-
-pub rows_collapsed : (ls : List PlainListed) (f : Facts) → map collapsed_of (rows_of ls f)
-    ≡ map collapsed_of (first_rows ls f.items (links_of ls f))
-rows_collapsed ls f =
-    let first = first_rows ls f.items (links_of ls f) in
-    map-map collapsed_of (with_number (ordered ls f)) (scored ls f)
-    ∙ scored_collapsed f.people f.scores (table ls first (links_of ls f)) first
-
--- Scores.
-
-each_score : (F : ℕ → Row) → ((p : ℕ) → (F p).score ≡ 0) → (xs : List ℕ) (p : ℕ)
-    → (row_at (map F xs) p).score ≡ 0
-each_score F none [] p = refl
-each_score F none (x ∷ xs) zero = none x
-each_score F none (x ∷ xs) (suc p) = each_score F none xs p
-
--- without entries each message scores nothing, so it is sorted by what it is
-keys_without : (people : PlainPeople) (messages : List Message) (rows : List Row)
-    (ls : List PlainListed) → keys ls (scored_rows people [] messages rows)
-    ≡ map (λ p. key_of (at ls p) 0) (range_with_len 0 (length ls))
-keys_without people messages rows ls =
-    each_same (key_at ls (scored_rows people [] messages rows)) (λ p. key_of (at ls p) 0)
-    (range_with_len 0 (length ls)) (λ p. ap (key_of (at ls p))
-    (each_score (scored_at people [] messages rows) (λ q. refl)
-    (range_with_len 0 (length rows)) p))
-
-keys_still : (ls : List PlainListed) (f : Facts) → f.scores ≡ []
-    → keys ls (scored ls f) ≡ map (λ p. key_of (at ls p) 0) (range_with_len 0 (length ls))
-keys_still ls f none =
-    let first = first_rows ls f.items (links_of ls f) in
-    let messages = table ls first (links_of ls f) in
-    ap (λ es. keys ls (scored_rows f.people es messages first)) none
-    ∙ keys_without f.people messages first ls
+same_at : (rows others : List Row) → map bare_row rows ≡ map bare_row others → (p : ℕ)
+    → bare_row (row_at rows p) ≡ bare_row (row_at others p)
+same_at rows others same p =
+    bare_at rows p ∙ ap (λ (all : List Row). row_at all p) same ∙ sym (bare_at others p)
 
 -- What is seen.
 
-module _ (ls : List PlainListed) (f : Facts) (items : List PlainItem) (unlimited : f.limit ≡ None)
-    (none : f.scores ≡ []) (same : map shut_of items ≡ map shut_of f.items) where
+module _ (ls : List PlainListed) (f : Facts) (items : List PlainItem) (blind : IsBlind f.limit)
+    (scores_blind : AreBlind f.scores) (same : map shut_of items ≡ map shut_of f.items) where
   abbrev g : Facts
   g = record f { items = items }
 
+  abbrev links : List Links
+  links = links_of ls f
+
+  abbrev places : List ℕ
+  places = range_with_len 0 (length ls)
+
+  abbrev first : List PlainItem → List Row
+  first is = first_rows ls is links
+
+  same_shut : (p : ℕ) → in_shut items links p ≡ in_shut f.items links p
+  same_shut p =
+      let root = (links_at links p).root in
+      sym (read_map shut_of no_item items root)
+      ∙ ap (λ (shut : List Bool). slice_index_or shut root no_item.shut) same
+      ∙ read_map shut_of no_item f.items root
+
+  first_bare : map bare_row (first items) ≡ map bare_row (first f.items)
+  first_bare =
+      map-map bare_row (first_row_at ls items links) places
+      ∙ each_same (λ p. bare_row (first_row_at ls items links p))
+      (λ p. bare_row (first_row_at ls f.items links p)) places
+      (λ p. ap (λ (c : Bool). bare_row (first_row (at ls p) no_item c)) (same_shut p))
+      ∙ sym (map-map bare_row (first_row_at ls f.items links) places)
+
+  first_long : (is : List PlainItem) → length (first is) ≡ length ls
+  first_long is =
+      length-map places (first_row_at ls is links) ∙ length-range_with_len 0 (length ls)
+
+  table_bare : (rows others : List Row) → map bare_row rows ≡ map bare_row others
+      → map bare (table ls rows links) ≡ map bare (table ls others links)
+  table_bare rows others are =
+      map-map bare (message_at ls rows links) places
+      ∙ each_same (λ p. bare (message_at ls rows links p))
+      (λ p. bare (message_at ls others links p)) places
+      (λ p. ap (λ (r : Row). message (at ls p) r (links_at links p)) (same_at rows others are p))
+      ∙ sym (map-map bare (message_at ls others links) places)
+
+  -- a message with its score
+  abbrev scores_at : List PlainItem → ℕ → Row
+  scores_at is = scored_at f.people f.scores (table ls (first is) links) (first is)
+
+  same_scored : (p : ℕ) → bare_row (scores_at items p) ≡ bare_row (scores_at f.items p)
+  same_scored p = λ k. with_score
+      (scores_blind f.people (table ls (first items) links) (table ls (first f.items) links)
+      (table_bare (first items) (first f.items) first_bare) p k)
+      (same_at (first items) (first f.items) first_bare p k)
+
+  scored_bare : map bare_row (scored ls g) ≡ map bare_row (scored ls f)
+  scored_bare =
+      map-map bare_row (scores_at items) (range_with_len 0 (length (first items)))
+      ∙ each_same (λ p. bare_row (scores_at items p)) (λ p. bare_row (scores_at f.items p))
+      (range_with_len 0 (length (first items))) same_scored
+      ∙ ap (λ n. map (λ p. bare_row (scores_at f.items p)) (range_with_len 0 n))
+      (first_long items ∙ sym (first_long f.items))
+      ∙ sym (map-map bare_row (scores_at f.items) (range_with_len 0 (length (first f.items))))
+
   same_order : ordered ls g ≡ ordered ls f
   same_order = ap (λ ks. order (sort_options f.options) ks (threads_of ls f))
-      (keys_still ls g none ∙ sym (keys_still ls f none))
+      (each_same (key_at ls (scored ls g)) (key_at ls (scored ls f)) places
+      (λ p. ap (λ (r : Row). key_of (at ls p) r.score)
+      (same_at (scored ls g) (scored ls f) scored_bare p)))
 
   same_stances : stances_of ls g ≡ stances_of ls f
   same_stances = ap (λ ids. stances (is_threads f.options.sort) (threads_of ls f) (ids_in ls) ids)
       same_order
 
-  all_rows : map collapsed_of (rows_of ls g) ≡ map collapsed_of (rows_of ls f)
-  all_rows = rows_collapsed ls g ∙ same_first ls (links_of ls f) f.items items same
-      ∙ sym (rows_collapsed ls f)
+  numbers_bare : (order : List Id) (rows : List Row)
+      → map bare_row (numbered order rows) ≡ map (with_number order) (map bare_row rows)
+  numbers_bare order rows =
+      map-map bare_row (with_number order) rows ∙ sym (map-map (with_number order) bare_row rows)
 
-  messages_long : (h : Facts) → length (messages_of ls h) ≡ length ls
-  messages_long h =
-      length-map (range_with_len 0 (length ls)) (message_at ls (rows_of ls h) (links_of ls h))
-      ∙ length-range_with_len 0 (length ls)
-
-  within_none : (h : Facts) → h.limit ≡ None → within_of ls h
-      ≡ map (λ p. true) (range_with_len 0 (length ls))
-  within_none h free =
-      ap (λ (l : Option PlainLimit). all_within h.people l (messages_of ls h)) free
-      ∙ ap (λ n. map (λ (p : ℕ). true) (range_with_len 0 n)) (messages_long h)
+  rows_bare : map bare_row (rows_of ls g) ≡ map bare_row (rows_of ls f)
+  rows_bare =
+      numbers_bare (ordered ls g) (scored ls g)
+      ∙ (λ k. map (with_number (same_order k)) (scored_bare k))
+      ∙ sym (numbers_bare (ordered ls f) (scored ls f))
 
   same_within : within_of ls g ≡ within_of ls f
-  same_within = within_none g unlimited ∙ sym (within_none f unlimited)
+  same_within = blind f.people (messages_of ls g) (messages_of ls f)
+      (table_bare (rows_of ls g) (rows_of ls f) rows_bare)
 
   -- the mark at each place is the same but for what tells new messages from old ones
   mark_same : {X : Type 0} (pick : Mark → X) (F G : ℕ → Mark) → ((p : ℕ) → pick (F p) ≡ pick (G p))
@@ -179,10 +192,7 @@ module _ (ls : List PlainListed) (f : Facts) (items : List PlainItem) (unlimited
       (rows_long ls g ∙ sym (rows_long ls f))
 
   same_row : (p : ℕ) → (row_at (rows_of ls g) p).collapsed ≡ (row_at (rows_of ls f) p).collapsed
-  same_row p =
-      sym (read_map collapsed_of no_row (rows_of ls g) p)
-      ∙ ap (λ (bs : List Bool). slice_index_or bs p false) all_rows
-      ∙ read_map collapsed_of no_row (rows_of ls f) p
+  same_row p = ap (λ (r : Row). r.collapsed) (same_at (rows_of ls g) (rows_of ls f) rows_bare p)
 
   same_is_shut : (p : ℕ) → (mark_at (marks_of (rows_of ls g) (within_of ls g)) p).is_shut
       ≡ (mark_at (marks_of (rows_of ls f) (within_of ls f)) p).is_shut
@@ -269,13 +279,13 @@ acted_ids act id items =
     by_test i true keeps = keeps
     by_test i false keeps = refl
 
--- where nothing is limited and nothing scores, what is done to a message leaves what is seen
-pub seen_acted : (mails : List Mail) (f : Facts) (act : Act) (id : Id) → f.limit ≡ None
-    → f.scores ≡ []
+-- what is done to a message leaves what is seen, where neither limit nor scores look at it
+pub seen_acted : (mails : List Mail) (f : Facts) (act : Act) (id : Id) → IsBlind f.limit
+    → AreBlind f.scores
     → visible_ids (answers_over mails (record f { items = alter_at id (acted act) f.items })).sight
     ≡ visible_ids (answers_over mails f).sight
-seen_acted mails f act id unlimited none =
+seen_acted mails f act id blind scores_blind =
     let items = alter_at id (acted act) f.items in
     ap (λ (xs : List Id). visible_ids (sight_of (with_letters mails xs) (record f { items = items })))
     (acted_ids act id f.items)
-    ∙ seen_still (all_listed mails f.items) f items unlimited none (acted_shut act id f.items)
+    ∙ seen_still (all_listed mails f.items) f items blind scores_blind (acted_shut act id f.items)

@@ -2,18 +2,19 @@
 
 use crate::view::{View, all_listed};
 use folder_core::{Archive, Changes};
-use index_items::changes;
+use index_items::{Tally, changes};
 use index_order::ViewOptions;
 use mail_base::{Id, Ids, Kind, NoMemory};
-use patterns_match::{Pattern, Row};
+use patterns_match::{Pattern, Row, ScoreEntry};
 use std::alloc::Global;
 use threads::Parent;
 
 impl View {
     ghost use Rattle.std.specs.Prelude.{◌≡◌, [], None, List, is_some, length, map, true, IfOk};
-    ghost use Rattle.std.specs.Prelude.{IfSome};
+    ghost use Rattle.std.specs.Prelude.{IfSome, option_map};
     ghost use Rattle.folder_core.specs.Letters.{Mail, plain_letter};
     ghost use Rattle.index_items.specs.Changes.{AreBelow, changes_of, plain_changes};
+    ghost use Rattle.index_items.specs.Tally.{tally_of};
     ghost use Rattle.index_listed.specs.Cursor.{is_seen};
     ghost use Rattle.index_view.specs.Answers as answers;
     ghost use Rattle.index_view.specs.Limit.{plain_limit};
@@ -52,6 +53,20 @@ impl View {
         self.options
     }
 
+    /// The limit, if there is one.
+    pub fn limit(&self) -> Option<&Pattern>
+        ensures { option_map (λ pattern. pattern.now) result ≡ self.now.limit }
+    {
+        self.tables.limit.as_ref()
+    }
+
+    /// The entries of scores.
+    pub fn scores(&self) -> &[ScoreEntry]
+        ensures { result.now ≡ self.now.scores }
+    {
+        self.tables.scores.entries.as_slice()
+    }
+
     /// All ids in the order of the index.
     pub fn ordered(&self) -> &Ids
         ensures { result.now.items ≡ self.now.answers.sight.order }
@@ -66,11 +81,12 @@ impl View {
         self.answers.sight().visible()
     }
 
-    /// What is shown of the messages, in the order of the listing.
-    pub fn rows(&self) -> &[Row]
-        ensures { result.now ≡ self.now.answers.rows }
+    /// How many of the messages are new, deleted and so on, and whether a sync that purges has
+    /// something to do.
+    pub fn tally(&self) -> Tally
+        ensures { result ≡ tally_of self.now.items }
     {
-        self.answers.rows()
+        self.items.tally()
     }
 
     /// What is shown of a message; nothing where the id is not listed.
@@ -112,7 +128,7 @@ impl View {
         ensures same { (self.new ≡ self.old) × (pattern.new ≡ pattern.old) }
     {
         let letters = archive.as_slice();
-        let listed = all_listed(self.alloc, letters, &self.heads, &self.items)?;
+        let listed = all_listed(self.alloc, letters, &self.heads, self.items.as_slice())?;
         let people = &mut self.tables.people;
         self.answers.picked(alloc, people, &listed, pattern)
     }
@@ -124,6 +140,6 @@ impl View {
         ensures below { (mails : List Mail) → spec.IsOf mails self.now
             → IfOk result (λ c. AreBelow (length mails) c.items) }
     {
-        changes(alloc, kind, purge, &self.items)
+        changes(alloc, kind, purge, self.items.as_slice())
     }
 }

@@ -6,7 +6,6 @@ use index_items::keep;
 use mail_base::{Bytes, NoMemory};
 use patterns_match::{Pattern, ScoreError, Scores};
 use people::{Expr, PeopleTable};
-use std::mem;
 
 impl View {
     ghost use Rattle.std.specs.Prelude.{◌≡◌, ◌++◌, ◌∷◌, [], List, length, map, option_map, OnErr};
@@ -36,7 +35,7 @@ impl View {
             &mut self.tables,
             &self.heads,
             archive,
-            &self.items,
+            self.items.as_slice(),
         )?;
         self.turn(answers);
         Ok(())
@@ -129,7 +128,7 @@ impl View {
         ensures err { OnErr result (self.new ≡ self.old) }
     {
         let none = Scores::new(self.alloc);
-        let old = mem::replace(&mut self.tables.scores, none);
+        let old = std::mem::replace(&mut self.tables.scores, none);
         match self.judge(archive) {
             Ok(()) => Ok(()),
             Err(error) => {

@@ -3,7 +3,6 @@
 //! and ask for its ids, rows and lines.
 #![tactic(auto)]
 
-mod acting;
 mod answers;
 mod asked;
 mod asking;

@@ -15,7 +15,7 @@ use crate::shutting::all_shut;
 use crate::tables::Tables;
 use folder_core::{Archive, Changes, Found, Letter};
 use headers::Header;
-use index_items::{Alteration, Item, altered, ids_of, joined, settled};
+use index_items::{Act, Alteration, Item, Items, altered, ids_of, joined, settled};
 use index_listed::{Listed, all_listed as with_letters, moved, moved_by_shutting, read_heads};
 use index_order::ViewOptions;
 use mail_base::{Delta, Id, Kind, NoMemory};
@@ -35,7 +35,7 @@ pub struct View {
     pub(crate) tables: Tables,
     // The aliases that were added here, in tables of their own: nothing else is asked of them.
     pub(crate) aliases: People,
-    pub(crate) items: Vec<Item>,
+    pub(crate) items: Items,
     pub(crate) heads: Vec<Header>,
     pub(crate) answers: Answers,
     pub(crate) cursor: Option<Id>,
@@ -44,14 +44,13 @@ pub struct View {
 impl Model for View {
     ghost use Rattle.std.specs.Prelude.{map};
     ghost use Rattle.headers.specs.Header.{plain_header};
-    ghost use Rattle.index_items.specs.Items.{plain_items};
     ghost use Rattle.index_view.specs.View.{PlainView};
 
     ghost Value = { PlainView };
 
     ghost view = { λ v. record {
       options = v.options;
-      items = plain_items v.items.items;
+      items = v.items;
       people = v.tables.people;
       scores = v.tables.scores.entries.items;
       limit = v.tables.limit;
@@ -102,6 +101,7 @@ pub fn answers_over(
 impl View {
     ghost use Rattle.std.specs.Prelude.{◌≡◌, List, length, map, option_map, IfOk, OnErr, OnOk};
     ghost use Rattle.folder_core.specs.Letters.{Mail, plain_letter};
+    ghost use Rattle.index_items.specs.Acts.{acted_all};
     ghost use Rattle.index_items.specs.Alteration as it;
     ghost use Rattle.index_items.specs.Changes.{AreBelow, plain_changes, settled as left_by};
     ghost use Rattle.index_items.specs.Items.{numbers, plain_items};
@@ -124,7 +124,7 @@ impl View {
                 limit: None,
             },
             aliases: People::new(alloc),
-            items: Vec::new(alloc),
+            items: Items::new(alloc),
             heads: Vec::new(alloc),
             answers: Answers::none(alloc),
             cursor: None,
@@ -169,7 +169,7 @@ impl View {
         ensures err { OnErr result (self.new ≡ self.old) }
     {
         let answers = self.answers_for(archive, &items)?;
-        self.items = items;
+        self.items = Items::from_vec(items);
         self.turn(answers);
         Ok(())
     }
@@ -187,7 +187,7 @@ impl View {
             &mut self.tables,
             &self.heads,
             archive,
-            &self.items,
+            self.items.as_slice(),
         )?;
         self.options = options;
         self.turn(answers);
@@ -212,7 +212,7 @@ impl View {
         ensures err { OnErr result (self.new ≡ self.old) }
     {
         let answers = self.answers_for(archive, &items)?;
-        self.items = items;
+        self.items = Items::from_vec(items);
         self.fold(answers);
         Ok(())
     }
@@ -225,7 +225,7 @@ impl View {
         ensures err { OnErr result (self.new ≡ self.old) }
     {
         let letters = archive.as_slice();
-        let listed = all_listed(self.alloc, letters, &self.heads, &self.items)?;
+        let listed = all_listed(self.alloc, letters, &self.heads, self.items.as_slice())?;
         let old = std::mem::replace(&mut self.tables.limit, limit);
         match self.answers.limited(self.alloc, &mut self.tables, &listed) {
             Ok(sight) => {
@@ -256,7 +256,38 @@ impl View {
         ensures err { OnErr result (self.new ≡ self.old) }
     {
         let change = Alteration::Pending(delta, deleted);
-        let items = altered(self.alloc, &self.items, id, change)?;
+        let items = altered(self.alloc, self.items.as_slice(), id, change)?;
+        self.put(archive, items)
+    }
+
+    // The messages, to which this is done one after the other.
+    fn acted_items(&self, archive: &Archive, act: Act, ids: &[Id]) -> Result<Vec<Item>, NoMemory>
+        requires { spec.IsOf (map plain_letter archive.now.items) self.now }
+        ensures { IfOk result
+            (λ all. plain_items all.items ≡ acted_all act ids.now self.now.items) }
+    {
+        let mut items = self.items.as_slice().to_vec(self.alloc)?;
+        let mut left = ids;
+        while let Some((first, rest)) = left.split_first() {
+            if let Some(place) = self.answers.place(*first) {
+                items[place] = items[place].acted(act);
+            }
+            left = rest;
+        }
+        Ok(items)
+    }
+
+    /// Does this to messages, one after the other. What is seen is worked out once, behind the last
+    /// of them, and then the cursor goes where it has to.
+    pub fn act_on(&mut self, archive: &Archive, act: Act, ids: &[Id]) -> Result<(), NoMemory>
+        requires { spec.IsOf (map plain_letter archive.now.items) self.old }
+        ensures ok { OnOk result (spec.Turned (map plain_letter archive.now.items) self.old self.new
+            (record (spec.facts_of self.old) {
+              items = acted_all act ids.now self.old.items;
+            })) }
+        ensures err { OnErr result (self.new ≡ self.old) }
+    {
+        let items = self.acted_items(archive, act, ids)?;
         self.put(archive, items)
     }
 
@@ -269,7 +300,8 @@ impl View {
             })) }
         ensures err { OnErr result (self.new ≡ self.old) }
     {
-        let items = altered(self.alloc, &self.items, id, Alteration::Tag(tagged))?;
+        let change = Alteration::Tag(tagged);
+        let items = altered(self.alloc, self.items.as_slice(), id, change)?;
         self.put(archive, items)
     }
 
@@ -282,7 +314,8 @@ impl View {
             })) }
         ensures err { OnErr result (self.new ≡ self.old) }
     {
-        let items = altered(self.alloc, &self.items, root, Alteration::Shut(shut))?;
+        let change = Alteration::Shut(shut);
+        let items = altered(self.alloc, self.items.as_slice(), root, change)?;
         self.put_folded(archive, items)
     }
 
@@ -295,7 +328,7 @@ impl View {
             })) }
         ensures err { OnErr result (self.new ≡ self.old) }
     {
-        let items = all_shut(self.alloc, &self.answers, shut, &self.items)?;
+        let items = all_shut(self.alloc, &self.answers, shut, self.items.as_slice())?;
         self.put_folded(archive, items)
     }
 
@@ -309,7 +342,7 @@ impl View {
         ensures err { OnErr result (spec.IsWithMore self.old self.new) }
     {
         read_heads(self.alloc, &mut self.heads, archive.as_slice())?;
-        let items = joined(self.alloc, archive, found, &self.items)?;
+        let items = joined(self.alloc, archive, found, self.items.as_slice())?;
         self.put(archive, items)
     }
 
@@ -347,7 +380,8 @@ impl View {
         ensures err { OnErr result (self.new ≡ self.old) }
     {
         let changes = changes.as_slice();
-        let items = settled(self.alloc, kind, archive.len(), changes, &self.items)?;
-        self.put(archive, items)
+        let items = self.items.as_slice();
+        let left = settled(self.alloc, kind, archive.len(), changes, items)?;
+        self.put(archive, left)
     }
 }

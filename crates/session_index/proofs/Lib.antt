@@ -1,3 +1,4 @@
+mod StayingLemmas
 pub mod ActsLemmas
 pub mod IndexLemmas
 pub mod SearchLemmas

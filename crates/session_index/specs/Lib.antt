@@ -13,3 +13,4 @@ pub mod Effects
 pub mod Answering
 pub mod Typing
 pub mod Opening
+pub mod Staying

@@ -6,6 +6,7 @@ ghost use Rattle.index_view.specs.View.{IsOf};
 ghost use Rattle.session_index.specs.Acts as spec;
 ghost use Rattle.session_index.specs.Index.{Shows, index_of};
 
+use crate::staying::is_still;
 use folder_core::Archive;
 use index_items::Act;
 use index_view::View;
@@ -19,7 +20,7 @@ pub fn act_on(view: &mut View, archive: &Archive, act: Act, ids: &[Id]) -> Resul
         (spec.acted_all (map plain_letter archive.now.items) act ids.now (index_of view.old))
         view.new) }
 {
-    if view.is_still() {
+    if is_still(view) {
         return view.act_on(archive, act, ids);
     }
     act_on_each(view, archive, act, ids)

@@ -1,14 +1,28 @@
 //! What a listing that changed, and other options, make of a desk.
 
-ghost use Rattle.std.specs.Prelude.{◌≡◌};
+ghost use Rattle.std.specs.Prelude.{◌≡◌, [], IfOk};
 ghost use Rattle.session_index.specs.Opening as spec;
 ghost use Rattle.session_index.specs.Shown.{seen};
 
 use crate::desk::Desk;
 use crate::sought::{Sought, first_shown};
-use folder_core::{Archive, Found};
+use folder_core::{Archive, Found, Listing};
 use index_view::{View, ViewOptions};
-use mail_base::{Id, NoMemory};
+use mail_base::{Id, Ids, NoMemory};
+use std::alloc::Global;
+
+/// What was found where these messages came.
+pub fn first_found(alloc: Global, came: &Listing) -> Result<Found, NoMemory>
+    ensures gone { IfOk result (λ found. found.gone.items ≡ []) }
+    ensures reflagged { IfOk result (λ found. found.reflagged.items ≡ []) }
+    ensures came { IfOk result (λ found. found.came.items ≡ came.now.items) }
+{
+    Ok(Found {
+        gone: Ids::new(alloc),
+        reflagged: Listing::new(alloc),
+        came: Listing::from_vec(came.as_slice().to_vec(alloc)?),
+    })
+}
 
 // The first new message, else the first unread one, else the last.
 fn first_of(view: &View) -> Option<Id>
@@ -25,7 +39,7 @@ fn first_of(view: &View) -> Option<Id>
 }
 
 impl Desk {
-    ghost use Rattle.std.specs.Prelude.{◌≡◌, map, List, OnOk};
+    ghost use Rattle.std.specs.Prelude.{map, List, OnOk};
     ghost use Rattle.folder_core.specs.Letters.{Mail, plain_letter};
     ghost use Rattle.index_view.specs.View.{IsOf, MayTake};
     ghost use Rattle.session_index.specs.Desk.{Holds, plain_desk};

@@ -4,6 +4,5 @@ pub mod Tuning
 pub mod Sorting
 pub mod Formats
 pub mod Columns
-pub mod Counting
 pub mod Status
 pub mod Screen

@@ -1,6 +1,6 @@
 -- The status line of the index (Mutt's manual, "status_format").
-use Rattle.std.specs.Prelude.{◌+◌, ◌==◌, not, ℕ, Bool, true, List, Option, length, min, option_map}
-use Rattle.index_items.specs.Changes.{changes_of}
+use Rattle.std.specs.Prelude.{◌+◌, ℕ, Bool, List, Option, length, min, option_map}
+use Rattle.index_items.specs.Tally.{is_changed, tally_of}
 use Rattle.index_rows.specs.Summary.{PlainSummary, status_line as status_row}
 use Rattle.index_view.specs.Lines.{page_start}
 use Rattle.index_view.specs.View.{PlainView, visible_of}
@@ -8,7 +8,6 @@ use Rattle.mail_base.specs.declared.kind.Kind.{Kind}
 use Rattle.rc_lang.specs.Rules.{status_letters}
 use Rattle.rc_lang.specs.Values.{PlainValue}
 use Rattle.rc_lang.specs.declared.variable.Variable.TheVariants as variable
-use Rattle.session_screen.specs.Counting.{counts_of}
 use Rattle.session_screen.specs.Formats.{format_in}
 use Rattle.session_screen.specs.Places.{text_of}
 use Rattle.session_screen.specs.Window.{page_rows}
@@ -30,10 +29,6 @@ plain_banner b = record {
   limit = option_map (λ text. text.now) b.limit;
 }
 
--- a sync that purges has something to do
-abbrev pub is_changed : Kind → PlainView → Bool
-is_changed kind v = not (length (changes_of kind true v.items) == 0)
-
 -- how many messages stand before the end of the page that holds the cursor
 abbrev pub page_end : ℕ → PlainView → ℕ
 page_end rows v = min (page_start rows v + rows) (length (visible_of v))
@@ -42,14 +37,14 @@ abbrev pub summary_of : ℕ → List PlainValue → PlainBanner → PlainView �
 summary_of rows values banner v = record {
   path = banner.path;
   read_only = banner.read_only;
-  changed = is_changed banner.kind v;
+  changed = is_changed banner.kind v.items;
   count = length v.answers.sight.order;
-  new = (counts_of v.answers.rows).new;
-  old = (counts_of v.answers.rows).old;
-  unread = (counts_of v.answers.rows).unread;
-  deleted = (counts_of v.answers.rows).deleted;
-  flagged = (counts_of v.answers.rows).flagged;
-  tagged = (counts_of v.answers.rows).tagged;
+  new = (tally_of v.items).new;
+  old = (tally_of v.items).old;
+  unread = (tally_of v.items).unread;
+  deleted = (tally_of v.items).deleted;
+  flagged = (tally_of v.items).flagged;
+  tagged = (tally_of v.items).tagged;
   limit = banner.limit;
   visible = length (visible_of v);
   before = page_start rows v;

@@ -3,7 +3,6 @@
 #![tactic(auto)]
 
 mod columns;
-mod counts;
 mod formats;
 mod page;
 mod places;

@@ -5,7 +5,6 @@ ghost use Rattle.index_rows.specs.Summary.{plain_summary};
 ghost use Rattle.session_screen.specs.Status as spec;
 ghost use Rattle.session_screen.specs.Window.{IsWindow};
 
-use crate::counts::count_rows;
 use crate::formats::format_in;
 use crate::window::Window;
 use index_rows::{Summary, status_line as status_row};
@@ -30,48 +29,34 @@ pub struct Banner<'a> {
     pub limit: Option<&'a [u8]>,
 }
 
-// Whether a sync that purges has something to do.
-fn is_changed(alloc: Global, view: &View, kind: Kind) -> Result<bool, NoMemory>
-    ensures { IfOk result (λ changed. changed ≡ spec.is_changed kind view.now) }
-{
-    let changes = view.changes(alloc, kind, true)?;
-    Ok(changes.len() != 0)
-}
-
 // What the status line shows of a view, whose pages have so many rows.
-fn summary<'a>(
-    alloc: Global,
-    view: &View,
-    settings: &'a Settings,
-    rows: usize,
-    banner: Banner<'a>,
-) -> Result<Summary<'a>, NoMemory>
+fn summary<'a>(view: &View, settings: &'a Settings, rows: usize, banner: Banner<'a>) -> Summary<'a>
     requires { 0 < rows }
-    ensures { IfOk result (λ summary. plain_summary summary
-        ≡ spec.summary_of rows settings.now (spec.plain_banner banner.entry) view.now) }
+    ensures { plain_summary result
+        ≡ spec.summary_of rows settings.now (spec.plain_banner banner.entry) view.now }
 {
-    let counts = count_rows(view.rows());
+    let tally = view.tally();
     let visible = view.visible().len();
     let start = view.cursor_place() / rows * rows;
     let left = visible.saturating_sub(start);
-    Ok(Summary {
+    Summary {
         path: banner.place.path,
         read_only: banner.read_only,
-        changed: is_changed(alloc, view, banner.place.kind)?,
+        changed: tally.is_changed(banner.place.kind),
         count: view.ordered().len() as u64,
-        new: counts.new,
-        old: counts.old,
-        unread: counts.unread,
-        deleted: counts.deleted,
-        flagged: counts.flagged,
-        tagged: counts.tagged,
+        new: tally.new,
+        old: tally.old,
+        unread: tally.unread,
+        deleted: tally.deleted,
+        flagged: tally.flagged,
+        tagged: tally.tagged,
         limit: banner.limit,
         visible: visible as u64,
         before: start as u64,
         last: (visible - left + left.min(rows)) as u64,
         sort: settings.text(Variable::Sort),
         sort_aux: settings.text(Variable::SortAux),
-    })
+    }
 }
 
 /// The status line of a view, in the columns of the window.
@@ -87,6 +72,6 @@ pub fn status_line(
         (spec.plain_banner banner.entry) view.now) }
 {
     let format = format_in(alloc, STATUS_LETTERS, settings, Variable::StatusFormat)?;
-    let summary = summary(alloc, view, settings, window.rows as usize - 2, banner)?;
+    let summary = summary(view, settings, window.rows as usize - 2, banner);
     status_row(alloc, &format, &summary, window.cols)
 }

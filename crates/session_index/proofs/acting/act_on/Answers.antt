@@ -1,4 +1,5 @@
-use Rattle.std.proofs.Common.{ap, map, option_map, refl, subst, sym}
+use Rattle.std.proofs.Common.{◌∙◌, map, option_map, subst, sym}
+use Rattle.std.proofs.lemmas.Bool.{and_parts}
 use Rattle.std.proofs.lemmas.Result.{on_ok_weaker}
 use Rattle.folder_core.specs.Letters.{plain_letter}
 use Rattle.patterns_match.specs.ScoreEntries.{held_entries}
@@ -7,8 +8,10 @@ use Rattle.index_listed.specs.Seen.{visible_ids}
 use Rattle.index_view.specs.Answers.{PlainAnswers}
 use Rattle.index_view.specs.Limit.{plain_limit}
 use Rattle.session_index.specs.Index.{PlainIndex, Shows, index_of}
+use Rattle.session_index.specs.Staying.{entries_stay, limit_stays}
 use Rattle.session_index.proofs.ActsLemmas.{acted_at_once}
 use Rattle.session_index.proofs.IndexLemmas.{turned_shows}
+use Rattle.session_index.proofs.StayingLemmas.{entries_blind, limit_blind}
 use Rattle.session_index.proofs.acting.act_on.Goals as goal
 
 pub returns-then-is_still : goal.returns-then-is_still
@@ -17,9 +20,11 @@ returns-then-is_still c =
     let v = c.args.view.now in
     let stands = subst (λ (a : PlainAnswers). Stands (visible_ids a.sight) v.cursor)
     c.requires.answered c.requires.stands in
+    let still = and_parts (entries_stay (held_entries v.scores))
+    (limit_stays (option_map plain_limit v.limit)) (sym c.is_still.ensures ∙ c.if-is_still.true) in
     let same = acted_at_once mails c.args.act c.args.ids.now (index_of v)
-    (ap (option_map plain_limit) (c.if-is_still.ensures refl).0)
-    (ap held_entries (c.if-is_still.ensures refl).1) stands in
+    (limit_blind (option_map plain_limit v.limit) still.1)
+    (entries_blind (held_entries v.scores) still.0) stands in
     on_ok_weaker c.act_on.result (λ turned. subst
     (λ (i : PlainIndex). Shows mails i c.act_on.new.self) (sym same)
     (turned_shows mails v c.act_on.new.self _ c.requires turned)) c.act_on.ensures.ok

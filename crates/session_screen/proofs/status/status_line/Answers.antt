@@ -7,5 +7,5 @@ pub returns : goal.returns
 returns c =
     let cols = c.args.window.cols in
     IfOk-weaker c.status_line.result _ _ (λ line is. is
-    ∙ ap (λ (s : PlainSummary). status_row cols s c.in_ok-format.format) c.in_ok-summary.ensures
+    ∙ ap (λ (s : PlainSummary). status_row cols s c.in_ok-format.format) c.summary-summary.ensures
     ∙ ap (status_row cols _) c.in_ok-format.ensures) c.status_line.ensures

@@ -1,6 +1,6 @@
-use Rattle.std.proofs.Common.{◌≡◌, ◌∙◌, ap, length, nat_eq, subst, sym}
+use Rattle.std.proofs.Common.{◌∙◌, ap, length, nat_eq, subst, sym}
 use Rattle.std.specs.List.{IsDistinct}
-use Rattle.index_items.specs.Items.{numbers, plain_items}
+use Rattle.index_items.specs.Items.{numbers}
 use Rattle.index_listed.specs.Heads.{AreWithin}
 use Rattle.index_view.proofs.ActingLemmas.{all_acted_numbers}
 use Rattle.index_view.proofs.view.View.act_on.Goals as goal

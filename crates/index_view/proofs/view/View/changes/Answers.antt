@@ -1,7 +1,6 @@
 use Rattle.std.proofs.Common.{◌∙◌, ap, length}
 use Rattle.std.proofs.lemmas.Result.{IfOk-weaker}
 use Rattle.index_items.specs.Changes.{changes_of}
-use Rattle.index_items.specs.Items.{plain_items}
 use Rattle.index_view.specs.View.{PlainView}
 use Rattle.index_view.proofs.ItemLemmas.{changes_below}
 use Rattle.index_view.proofs.JoinLemmas.{all_below}
@@ -14,5 +13,5 @@ returns-clause-below c mails of =
     let purge = c.args.purge in
     IfOk-weaker c.changes.result _ _ (λ changes are.
     changes_below (length mails) kind purge v.items changes.items (all_below mails v of)
-    (are ∙ ap (λ xs. changes_of kind purge (plain_items xs)) c.deref.ensures.value
+    (are ∙ ap (changes_of kind purge) c.as_slice.ensures
     ∙ ap (λ (w : PlainView). changes_of kind purge w.items) c.self.view_is)) c.changes.ensures

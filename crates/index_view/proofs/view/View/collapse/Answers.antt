@@ -14,7 +14,7 @@ put_folded-requires-clause-within c =
     let items : plain_items c.in_ok-items.items.items
     ≡ alter_at c.args.root (altered_by alteration) c.args.self.now.items = c.in_ok-items.ensures
     ∙ ap (alter_at c.args.root (altered_by alteration))
-    (ap plain_items c.deref.ensures.value ∙ ap (λ (v : PlainView). v.items) c.self.view_is) in
+    (c.as_slice.ensures ∙ ap (λ (v : PlainView). v.items) c.self.view_is) in
     subst (λ (l : List PlainItem). AreWithin (length c.args.self.now.heads) (numbers l))
     (sym items) (altered_within alteration c.args.root c.args.self.now.items
     (length c.args.self.now.heads) c.requires.within)
@@ -25,6 +25,6 @@ put_folded-requires-clause-apart c =
     let items : plain_items c.in_ok-items.items.items
     ≡ alter_at c.args.root (altered_by alteration) c.args.self.now.items = c.in_ok-items.ensures
     ∙ ap (alter_at c.args.root (altered_by alteration))
-    (ap plain_items c.deref.ensures.value ∙ ap (λ (v : PlainView). v.items) c.self.view_is) in
+    (c.as_slice.ensures ∙ ap (λ (v : PlainView). v.items) c.self.view_is) in
     subst AreApart (sym items)
     (altered_apart alteration c.args.root c.args.self.now.items c.requires.apart)

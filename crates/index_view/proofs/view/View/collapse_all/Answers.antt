@@ -12,7 +12,7 @@ put_folded-requires-clause-within c =
     let items : plain_items c.in_ok-items.items.items
     ≡ all_shut c.args.shut c.self.inside.answers old.items = c.in_ok-items.ensures
     ∙ ap (all_shut c.args.shut c.self.inside.answers)
-    (ap plain_items c.deref.ensures.value ∙ ap (λ (v : PlainView). v.items) c.self.view_is) in
+    (c.as_slice.ensures ∙ ap (λ (v : PlainView). v.items) c.self.view_is) in
     subst (λ (l : List PlainItem). AreWithin (length old.heads) (numbers l)) (sym items)
     (shut_within c.args.shut c.self.inside.answers (length old.heads) old.items c.requires.within)
 
@@ -22,6 +22,6 @@ put_folded-requires-clause-apart c =
     let items : plain_items c.in_ok-items.items.items
     ≡ all_shut c.args.shut c.self.inside.answers old.items = c.in_ok-items.ensures
     ∙ ap (all_shut c.args.shut c.self.inside.answers)
-    (ap plain_items c.deref.ensures.value ∙ ap (λ (v : PlainView). v.items) c.self.view_is) in
+    (c.as_slice.ensures ∙ ap (λ (v : PlainView). v.items) c.self.view_is) in
     subst AreApart (sym items)
     (shut_apart c.args.shut c.self.inside.answers old.items c.requires.apart)

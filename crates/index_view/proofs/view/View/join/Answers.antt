@@ -35,7 +35,7 @@ put-requires-clause-within c =
     let heads = c.read_heads.new.heads.items in
     let items = plain_items c.in_ok-items.items.items in
     let joined = subst (λ (l : List PlainItem). IsJoined mails c.args.found.now l items)
-    (ap plain_items c.deref.ensures.value ∙ ap (λ (v : PlainView). v.items) c.self.view_is)
+    (c.as_slice-2.ensures ∙ ap (λ (v : PlainView). v.items) c.self.view_is)
     c.in_ok-items.ensures in
     let many : length mails ≡ length (map plain_header heads) =
     length-map c.args.archive.now.items plain_letter ∙ ap length (sym c.as_slice.ensures)
@@ -50,7 +50,7 @@ put-requires-clause-apart c =
     let items = plain_items c.in_ok-items.items.items in
     joined_apart mails c.args.found.now c.args.self.now.items items
     (subst (λ (l : List PlainItem). IsJoined mails c.args.found.now l items)
-    (ap plain_items c.deref.ensures.value ∙ ap (λ (v : PlainView). v.items) c.self.view_is)
+    (c.as_slice-2.ensures ∙ ap (λ (v : PlainView). v.items) c.self.view_is)
     c.in_ok-items.ensures) c.requires.found.apart
 
 pub returns-clause-err : goal.returns-clause-err

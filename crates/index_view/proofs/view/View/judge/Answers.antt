@@ -1,7 +1,6 @@
 use Rattle.std.proofs.Common.{◌∙◌, ap, map}
 use Rattle.folder_core.specs.Letters.{plain_letter}
 use Rattle.headers.specs.Header.{plain_header}
-use Rattle.index_items.specs.Items.{plain_items}
 use Rattle.index_view.specs.Answers.{facts}
 use Rattle.index_view.specs.View.{PlainView, answers_over, facts_of}
 use Rattle.index_view.proofs.JudgingLemmas.{judged}
@@ -14,11 +13,12 @@ returns-clause-ok c =
     let same = c.in_ok-answers.ensures.same in
     judged mails c.args.self.now _ _ c.in_ok-answers.answers c.requires.heads c.requires.within
     c.requires.apart (c.in_ok-answers.ensures.value
-    ∙ (λ i. answers_over mails (facts inside.options (c.deref-2.ensures.value i) inside.tables))
+    ∙ (λ i. answers_over mails (record (facts inside.options c.as_slice.result.now inside.tables)
+    { items = c.as_slice.ensures i }))
     ∙ ap (λ (v : PlainView). answers_over mails (facts_of v)) c.self.view_is)
     ((λ i. record {
       options = inside.options;
-      items = plain_items inside.items.items;
+      items = inside.items;
       people = (same i).people;
       scores = (same i).scores.entries.items;
       limit = (same i).limit;

@@ -14,7 +14,7 @@ returns-clause-ok c =
     let new : PlainView = record old { items = items } in
     let before = c.self.view_is ∙ c.in_ok-answers.ensures.same in
     let now : c.turn.new.self ≡ turned new all =
-    c.turn.ensures ∙ (λ i. turned (record (before i) { items = items }) all) in
+    c.turn.ensures ∙ (λ i. turned (record (before i) { items = c.from_vec.ensures i }) all) in
     subst (λ (v : PlainView). Turned mails old v (facts_of new)) (sym now)
     (turned_over mails old new all c.requires.heads c.requires.within c.requires.apart
     (c.in_ok-answers.ensures.value ∙ (λ i. answers_over mails

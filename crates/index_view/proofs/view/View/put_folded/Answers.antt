@@ -14,7 +14,7 @@ returns-clause-ok c =
     let new : PlainView = record old { items = items } in
     let before = c.self.view_is ∙ c.in_ok-answers.ensures.same in
     let now : c.fold.new.self ≡ folded new all =
-    c.fold.ensures ∙ (λ i. folded (record (before i) { items = items }) all) in
+    c.fold.ensures ∙ (λ i. folded (record (before i) { items = c.from_vec.ensures i }) all) in
     subst (λ (v : PlainView). Folded mails old v (facts_of new)) (sym now)
     (folded_over mails old new all c.requires.heads c.requires.within c.requires.apart
     (c.in_ok-answers.ensures.value ∙ (λ i. answers_over mails

@@ -24,6 +24,7 @@ returns-clause-ok c =
     (turned_over mails old new all c.requires.heads c.requires.within c.requires.apart
     (c.in_ok-answers.ensures.value
     ∙ (λ i. answers_over mails
-    (facts options (c.deref-2.ensures.value i) c.self.inside.tables))
+    (record (facts options c.as_slice.result.now c.self.inside.tables)
+    { items = c.as_slice.ensures i }))
     ∙ (λ i. answers_over mails (record (facts_of (c.self.view_is i)) { options = options })))
     refl refl refl)
