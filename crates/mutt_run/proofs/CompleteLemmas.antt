@@ -27,7 +27,8 @@ use Rattle.session_events.specs.declared.event.OpenFault.TheVariants.{Taken, NoD
 use Rattle.mutt_run.specs.Choice.{first_of}
 use Rattle.mutt_run.specs.Complete.{IsPlainEnd, IsReadable, NamesReadable, WereReadable}
 use Rattle.mutt_run.specs.Ending.{EndsAs, IsChosen, IsRefused}
-use Rattle.mutt_run.specs.Reading.{CountsStreams, Outside, Reads}
+use Rattle.mutt_run.specs.Going.{CountsStreams}
+use Rattle.mutt_run.specs.Reading.{Outside, Reads}
 use Rattle.mutt_run.specs.declared.status.Status.{Status}
 use Rattle.mutt_run.specs.declared.status.Status.TheVariants.{Done, Usage, NotOpened, DiskFault}
 use Rattle.mutt_run.specs.declared.status.Status.TheVariants.{KeysFault, OutFault, NoMemory}

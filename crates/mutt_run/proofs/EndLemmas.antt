@@ -17,7 +17,8 @@ use Rattle.mutt_run.specs.Choice.{acted_on, first_by}
 use Rattle.mutt_run.specs.Ending.{EndsAs, IsChosen}
 use Rattle.mutt_run.specs.Notes.{BegunNote, Tells, TellsEnd, note, told_text}
 use Rattle.mutt_run.specs.Printed.{Prints, PrintsBut}
-use Rattle.mutt_run.specs.Reading.{Outside, Reads, TellsNotes}
+use Rattle.mutt_run.specs.Going.{Streams, TellsText}
+use Rattle.mutt_run.specs.Reading.{Outside, Reads}
 use Rattle.mutt_run.specs.Screens.{printed_lines}
 use Rattle.mutt_run.specs.Taken.{Gives, pressed_moments}
 use Rattle.mutt_run.specs.declared.status.Status.{Status}
@@ -126,15 +127,15 @@ pub rose_after : (a b c : ℕ) → a ≤ b → Rose b c → Rose a c
 rose_after a b c low rose = grind (arith, low, rose)
 
 -- The line of the end behind those of faulty commands.
-module _ (Ends : Status → Type 0) (notes : List (List ℕ)) (path : List ℕ) (old mid : Outside)
+module _ (Ends : Status → Type 0) (notes : List (List ℕ)) (path : List ℕ) (old mid : Streams)
     (new : Option (List ℕ)) (faults : ℕ) (low : old.faults ≤ mid.faults)
     (high : mid.faults ≤ faults) where
   abbrev text : List ℕ
   text = printed_lines notes
 
   -- a front of the lines of faulty commands was told in any case
-  notes_sent : (status : Status) → TellsNotes status text old mid
-      → (rest : List ℕ) × Sent old.told mid.told text rest
+  notes_sent : (status : Status) → TellsText status text old mid
+      → (rest : List ℕ) × Sent old.errs mid.errs text rest
   notes_sent OutFault told = (told.0, told.1)
   notes_sent NoMemory told = told
   notes_sent Done told = ([], (text, sym (append-nil text), told))
@@ -145,16 +146,16 @@ module _ (Ends : Status → Type 0) (notes : List (List ℕ)) (path : List ℕ) 
   notes_sent Empty told = ([], (text, sym (append-nil text), told))
   notes_sent TooManyKeys told = ([], (text, sym (append-nil text), told))
 
-  all_told : (status : Status) → Appends old.told mid.told text
-      → (status ≡ status) × Appends mid.told new (note path status)
-      → Appends old.told new (told_text notes path status)
+  all_told : (status : Status) → Appends old.errs mid.errs text
+      → (status ≡ status) × Appends mid.errs new (note path status)
+      → Appends old.errs new (told_text notes path status)
   all_told status first next =
-      appends_then old.told mid.told new text (note path status) first next.1
+      appends_then old.errs mid.errs new text (note path status) first next.1
 
   begun : (status : Status) → Ends status → (rest : List ℕ)
-      → Sent old.told new (told_text notes path status) rest
+      → Sent old.errs new (told_text notes path status) rest
       → ((status ≡ OutFault) × (rest ≡ [])) ⊎ Rose old.faults faults
-      → BegunNote Ends (Rose old.faults faults) notes path old.told new
+      → BegunNote Ends (Rose old.faults faults) notes path old.errs new
   begun status ends rest sent cause =
       record { status = status; ended = ends; rest = rest; sent = sent; cause = cause }
 
@@ -163,16 +164,16 @@ module _ (Ends : Status → Type 0) (notes : List (List ℕ)) (path : List ℕ) 
   cut_cause rest (inl is) = inl (refl, is)
   cut_cause rest (inr rose) = inr (rose_sooner old.faults mid.faults faults low high rose)
 
-  same_told : (status : Status) → Ends status → TellsNotes status text old mid
-      → TellsEnd path status status mid.told new
-      → Tells Ends (Rose old.faults faults) notes path status old.told new
+  same_told : (status : Status) → Ends status → TellsText status text old mid
+      → TellsEnd path status status mid.errs new
+      → Tells Ends (Rose old.faults faults) notes path status old.errs new
   same_told OutFault ends first next =
       begun OutFault ends first.0
-      (subst (λ (l : List ℕ). Sent old.told new l first.0) (sym (append-nil text))
-      (sent_before old.told mid.told new text first.0 first.1
-      (sent_nothing mid.told new next.0 next.1))) (cut_cause first.0 first.2)
+      (subst (λ (l : List ℕ). Sent old.errs new l first.0) (sym (append-nil text))
+      (sent_before old.errs mid.errs new text first.0 first.1
+      (sent_nothing mid.errs new next.0 next.1))) (cut_cause first.0 first.2)
   same_told NoMemory ends first next =
-      (first.0, sent_before old.told mid.told new text first.0 first.1 next)
+      (first.0, sent_before old.errs mid.errs new text first.0 first.1 next)
   same_told Done ends first next = all_told Done first next
   same_told (Usage word) ends first next = all_told (Usage word) first next
   same_told (NotOpened why) ends first next = all_told (NotOpened why) first next
@@ -181,27 +182,27 @@ module _ (Ends : Status → Type 0) (notes : List (List ℕ)) (path : List ℕ) 
   same_told Empty ends first next = all_told Empty first next
   same_told TooManyKeys ends first next = all_told TooManyKeys first next
 
-  cut_line : (status : Status) → Ends status → Appends old.told mid.told text
-      → (rest : List ℕ) × Sent mid.told new (note path status) rest → Rose old.faults faults
-      → BegunNote Ends (Rose old.faults faults) notes path old.told new
+  cut_line : (status : Status) → Ends status → Appends old.errs mid.errs text
+      → (rest : List ℕ) × Sent mid.errs new (note path status) rest → Rose old.faults faults
+      → BegunNote Ends (Rose old.faults faults) notes path old.errs new
   cut_line status ends first next rose =
       begun status ends next.0
-      (sent_behind old.told mid.told new text (note path status) next.0 first next.1) (inr rose)
+      (sent_behind old.errs mid.errs new text (note path status) next.0 first next.1) (inr rose)
 
   -- the write of the line failed
-  cut_told : (status : Status) → Ends status → TellsNotes status text old mid
-      → (rest : List ℕ) × Sent mid.told new (note path status) rest → Rose old.faults faults
-      → BegunNote Ends (Rose old.faults faults) notes path old.told new
+  cut_told : (status : Status) → Ends status → TellsText status text old mid
+      → (rest : List ℕ) × Sent mid.errs new (note path status) rest → Rose old.faults faults
+      → BegunNote Ends (Rose old.faults faults) notes path old.errs new
   cut_told OutFault ends first next rose =
       begun OutFault ends first.0
-      (subst (λ (l : List ℕ). Sent old.told new l first.0) (sym (append-nil text))
-      (sent_before old.told mid.told new text first.0 first.1
-      (sent_nothing mid.told new next.0 next.1))) (inr rose)
+      (subst (λ (l : List ℕ). Sent old.errs new l first.0) (sym (append-nil text))
+      (sent_before old.errs mid.errs new text first.0 first.1
+      (sent_nothing mid.errs new next.0 next.1))) (inr rose)
   cut_told NoMemory ends first next rose =
       begun NoMemory ends first.0
-      (subst (λ (l : List ℕ). Sent old.told new l first.0) (sym (append-nil text))
-      (sent_before old.told mid.told new text first.0 first.1
-      (sent_nothing mid.told new next.0 next.1))) (inr rose)
+      (subst (λ (l : List ℕ). Sent old.errs new l first.0) (sym (append-nil text))
+      (sent_before old.errs mid.errs new text first.0 first.1
+      (sent_nothing mid.errs new next.0 next.1))) (inr rose)
   cut_told Done ends first next rose = cut_line Done ends first next rose
   cut_told (Usage word) ends first next rose = cut_line (Usage word) ends first next rose
   cut_told (NotOpened why) ends first next rose = cut_line (NotOpened why) ends first next rose
@@ -211,27 +212,27 @@ module _ (Ends : Status → Type 0) (notes : List (List ℕ)) (path : List ℕ) 
   cut_told TooManyKeys ends first next rose = cut_line TooManyKeys ends first next rose
 
   pub notes_told : (here : List ℕ) (status result : Status) → here ≡ path → Ends status
-      → TellsNotes status text old mid → TellsEnd here status result mid.told new
+      → TellsText status text old mid → TellsEnd here status result mid.errs new
       → IsToldAs (Rose mid.faults faults) status result
-      → Tells Ends (Rose old.faults faults) notes path result old.told new
+      → Tells Ends (Rose old.faults faults) notes path result old.errs new
   notes_told here status result at ends first told (inl is) =
-      subst (λ (st : Status). Tells Ends (Rose old.faults faults) notes path st old.told new)
+      subst (λ (st : Status). Tells Ends (Rose old.faults faults) notes path st old.errs new)
       (sym is) (same_told status ends first
-      (subst (λ (st : Status). TellsEnd path status st mid.told new) is
-      (subst (λ (p : List ℕ). TellsEnd p status result mid.told new) at told)))
+      (subst (λ (st : Status). TellsEnd path status st mid.errs new) is
+      (subst (λ (p : List ℕ). TellsEnd p status result mid.errs new) at told)))
   notes_told here status result at ends first told (inr (inl is)) =
       let sent = notes_sent status first in
-      subst (λ (st : Status). Tells Ends (Rose old.faults faults) notes path st old.told new)
+      subst (λ (st : Status). Tells Ends (Rose old.faults faults) notes path st old.errs new)
       (sym is) (
         sent.0,
-        sent_before old.told mid.told new text sent.0 sent.1
-            (subst (λ (st : Status). TellsEnd here status st mid.told new) is told),
+        sent_before old.errs mid.errs new text sent.0 sent.1
+            (subst (λ (st : Status). TellsEnd here status st mid.errs new) is told),
       )
   notes_told here status result at ends first told (inr (inr is)) =
-      subst (λ (st : Status). Tells Ends (Rose old.faults faults) notes path st old.told new)
+      subst (λ (st : Status). Tells Ends (Rose old.faults faults) notes path st old.errs new)
       (sym is.0) (cut_told status ends first
-      (subst (λ (st : Status). TellsEnd path status st mid.told new) is.0
-      (subst (λ (p : List ℕ). TellsEnd p status result mid.told new) at told))
+      (subst (λ (st : Status). TellsEnd path status st mid.errs new) is.0
+      (subst (λ (p : List ℕ). TellsEnd p status result mid.errs new) at told))
       (rose_after old.faults mid.faults faults low is.1))
 
 -- Causes of faults.

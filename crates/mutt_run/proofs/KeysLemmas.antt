@@ -9,22 +9,18 @@ use Rattle.keymap.specs.Reader.{PlainReader, most_bytes, Begins, Gives as GivesK
 use Rattle.keymap.specs.Stream.{first_key, is_open, keys_of}
 use Rattle.keymap.specs.declared.key.Key.{Key}
 use Rattle.keymap.specs.declared.key_reader.KeyFault.{KeyFault}
-use Rattle.session_events.specs.Events.{Happening, FileRead, FileRefused, KeyPressed, FolderOpened}
-use Rattle.session_events.specs.Events.{FolderRefused}
-use Rattle.mail_base.specs.declared.kind.Kind.{Kind}
-use Rattle.disk_model.specs.Seen.{Seen}
-use Rattle.session.specs.Given.{Given}
-use Rattle.session.specs.Runs.{State}
-use Rattle.session.specs.Telling.{Witnessed}
+use Rattle.session_events.specs.Events.{AreFiles, Happening, FileRead, FileRefused, KeyPressed}
+use Rattle.session_events.specs.Events.{FolderOpened, FolderRefused}
 use Rattle.session_state.specs.declared.stage.Stage.{Stage}
 use Rattle.session_state.specs.declared.stage.Stage.TheVariants.{Idle, Over}
 use Rattle.mail_base.specs.Faults.{Rose}
-use Rattle.mutt_run.specs.Going.{AreKeys, CountsFaults, GoesToEnd, Presses}
+use Rattle.session.specs.Steps.{AddsFiles, PressesKey}
+use Rattle.mutt_run.specs.Going.{AreActs, CountsStreams, GoesToEnd, Presses}
 use Rattle.mutt_run.specs.declared.status.Status.{Status}
 use Rattle.mutt_run.specs.declared.status.Status.TheVariants.{Done, KeysFault, OutFault}
 use Rattle.mutt_run.specs.declared.status.Status.TheVariants.{NoMemory}
 use Rattle.mutt_run.specs.declared.status.Status.TheVariants.{TooManyKeys}
-use Rattle.mutt_run.specs.Taken.{AreFirst, Gives, IsGiven, later_moments}
+use Rattle.mutt_run.specs.Taken.{AreFirst, Gives, IsGiven, TakesKeys, later_moments}
 use Rattle.mutt_run.specs.Taken.{pressed_keys}
 use Rattle.mutt_run.specs.Taken.{pressed_moments}
 
@@ -50,14 +46,32 @@ moments-append (FileRefused path why marks ∷ xs) ys = moments-append xs ys
 moments-append (FolderOpened path kind moment came marks ∷ xs) ys = moments-append xs ys
 moments-append (FolderRefused path why marks ∷ xs) ys = moments-append xs ys
 
-are_keys-append : (xs : List Happening) (key : Key) (moment : ℤ) → AreKeys xs
-    → AreKeys (xs ++ KeyPressed key moment ∷ [])
-are_keys-append [] key moment h = tt
-are_keys-append (KeyPressed k m ∷ xs) key moment h = are_keys-append xs key moment h
-are_keys-append (FileRead path text marks ∷ xs) key moment h = absurd h
-are_keys-append (FileRefused path why marks ∷ xs) key moment h = absurd h
-are_keys-append (FolderOpened path kind at came marks ∷ xs) key moment h = absurd h
-are_keys-append (FolderRefused path why marks ∷ xs) key moment h = absurd h
+acts-append : (xs ys : List Happening) → AreActs xs → AreActs ys → AreActs (xs ++ ys)
+acts-append [] ys are more = more
+acts-append (KeyPressed key moment ∷ xs) ys are more = acts-append xs ys are more
+acts-append (FileRead path text marks ∷ xs) ys are more = acts-append xs ys are more
+acts-append (FileRefused path why marks ∷ xs) ys are more = acts-append xs ys are more
+acts-append (FolderOpened path kind at came marks ∷ xs) ys are more = absurd are
+acts-append (FolderRefused path why marks ∷ xs) ys are more = absurd are
+
+-- Files of commands are acts without keys.
+
+pub files_acts : (files : List Happening) → AreFiles files → AreActs files
+files_acts [] are = tt
+files_acts (FileRead path text marks ∷ files) are = files_acts files are.1
+files_acts (FileRefused path why marks ∷ files) are = files_acts files are.1
+files_acts (KeyPressed key moment ∷ files) are = absurd are.0
+files_acts (FolderOpened path kind moment came marks ∷ files) are = absurd are.0
+files_acts (FolderRefused path why marks ∷ files) are = absurd are.0
+
+pub files_keyless : (files : List Happening) → AreFiles files
+    → (pressed_keys files ≡ []) × (pressed_moments files ≡ [])
+files_keyless [] are = (refl, refl)
+files_keyless (FileRead path text marks ∷ files) are = files_keyless files are.1
+files_keyless (FileRefused path why marks ∷ files) are = files_keyless files are.1
+files_keyless (KeyPressed key moment ∷ files) are = absurd are.0
+files_keyless (FolderOpened path kind moment came marks ∷ files) are = absurd are.0
+files_keyless (FolderRefused path why marks ∷ files) are = absurd are.0
 
 -- Streams that go on.
 
@@ -127,7 +141,7 @@ pub presses_none : (events : List Happening) (keys : Option (List ℕ)) (clock :
     → Presses events events (record { pending = []; taken = 0 }) keys keys clock clock
 presses_none events keys clock = record {
   more = [];
-  are_keys = tt;
+  are_acts = tt;
   events_are = sym (append-nil events);
   takes = record {
     bytes = [];
@@ -146,36 +160,40 @@ module _ (first now : List Happening) (old : PlainReader) (keys0 keys1 keys2 : O
   -- a key was given and is pressed
   pub presses_key : (key : Key) (moment : ℤ) (clock2 : Option (List ℤ)) (later : List Happening)
       → GivesKey (Some key) old new keys1 keys2 → Gives clock1 clock2 (moment ∷ [])
-      → later ≡ now ++ KeyPressed key moment ∷ []
+      → PressesKey key moment now later
       → Presses first later new keys0 keys2 clock0 clock2
-  presses_key key moment clock2 later gives tick is = record {
-    more = presses.more ++ KeyPressed key moment ∷ [];
-    are_keys = are_keys-append presses.more key moment presses.are_keys;
-    events_are = is ∙ ap (λ (l : List Happening). l ++ KeyPressed key moment ∷ [])
-        presses.events_are
-        ∙ append_assoc first presses.more (KeyPressed key moment ∷ []);
-    takes = record {
-      bytes = presses.takes.bytes ++ gives.more;
-      taken = consumes_then keys0 keys1 keys2 presses.takes.bytes gives.more presses.takes.taken
-          gives.takes.taken;
-      counted = omega (
-        arith,
-        presses.takes.counted,
-        gives.takes.counted,
-        length-append presses.takes.bytes gives.more,
-      );
-      few = gives.takes.within;
-      waiting = short;
-      keys = subst (λ (l : List Key). AreFirst l new.pending keys0 keys2)
-          (sym (keys-append presses.more (KeyPressed key moment ∷ [])))
-          (first_key_more (pressed_keys presses.more) key old.pending new.pending keys0 keys1 keys2
-          presses.takes.keys gives.begins);
-    };
-    given = subst (λ (l : List ℤ). Gives clock0 clock2 l)
-        (sym (moments-append presses.more (KeyPressed key moment ∷ [])))
-        (gives_then clock0 clock1 clock2 (pressed_moments presses.more) (moment ∷ []) presses.given
-        tick);
-  }
+  presses_key key moment clock2 later gives tick is =
+      let more : List Happening = KeyPressed key moment ∷ is.files in
+      let none = files_keyless is.files is.are in
+      record {
+        more = presses.more ++ more;
+        are_acts = acts-append presses.more more presses.are_acts (files_acts is.files is.are);
+        events_are = is.pressed ∙ ap (λ (l : List Happening). l ++ more) presses.events_are
+            ∙ append_assoc first presses.more more;
+        takes = record {
+          bytes = presses.takes.bytes ++ gives.more;
+          taken = consumes_then keys0 keys1 keys2 presses.takes.bytes gives.more
+              presses.takes.taken gives.takes.taken;
+          counted = omega (
+            arith,
+            presses.takes.counted,
+            gives.takes.counted,
+            length-append presses.takes.bytes gives.more,
+          );
+          few = gives.takes.within;
+          waiting = short;
+          keys = subst (λ (l : List Key). AreFirst l new.pending keys0 keys2)
+              (sym (keys-append presses.more more
+              ∙ ap (λ (l : List Key). pressed_keys presses.more ++ key ∷ l) none.0))
+              (first_key_more (pressed_keys presses.more) key old.pending new.pending keys0 keys1
+              keys2 presses.takes.keys gives.begins);
+        };
+        given = subst (λ (l : List ℤ). Gives clock0 clock2 l)
+            (sym (moments-append presses.more more
+            ∙ ap (λ (l : List ℤ). pressed_moments presses.more ++ moment ∷ l) none.1))
+            (gives_then clock0 clock1 clock2 (pressed_moments presses.more) (moment ∷ [])
+            presses.given tick);
+      }
 
   module _ (same : List Happening) (same_is : same ≡ now) where
     -- the keys are at their end
@@ -183,7 +201,7 @@ module _ (first now : List Happening) (old : PlainReader) (keys0 keys1 keys2 : O
         → Presses first same new keys0 keys2 clock0 clock1
     presses_end gives = record {
       more = presses.more;
-      are_keys = presses.are_keys;
+      are_acts = presses.are_acts;
       events_are = same_is ∙ presses.events_are;
       takes = record {
         bytes = presses.takes.bytes ++ gives.more;
@@ -208,7 +226,7 @@ module _ (first now : List Happening) (old : PlainReader) (keys0 keys1 keys2 : O
         → Presses first same new keys0 keys2 clock0 clock1
     presses_stop fault stops = record {
       more = presses.more;
-      are_keys = presses.are_keys;
+      are_acts = presses.are_acts;
       events_are = same_is ∙ presses.events_are;
       takes = record {
         bytes = presses.takes.bytes ++ stops.more;
@@ -317,18 +335,59 @@ pub full_reader : (reader : PlainReader) → most_bytes + length reader.pending 
 full_reader reader many few =
     (ap is_open (nothing_in reader.pending (omega (arith, many, few))), omega (arith, many, few))
 
-pub pushed_on : (now mid later : List Happening) (key : Key) (moment given : ℤ) → mid ≡ now
-    → given ≡ moment → later ≡ mid ++ KeyPressed key given ∷ []
-    → later ≡ now ++ KeyPressed key moment ∷ []
-pushed_on now mid later key moment given same is put =
-    put ∙ ap (λ (l : List Happening). l ++ KeyPressed key given ∷ []) same
-    ∙ ap (λ (m : ℤ). now ++ KeyPressed key m ∷ []) is
+pub pressed_on : (now mid later : List Happening) (key : Key) (moment given : ℤ) → mid ≡ now
+    → given ≡ moment → PressesKey key given mid later → PressesKey key moment now later
+pressed_on now mid later key moment given same is press =
+    subst (λ (l : List Happening). PressesKey key moment l later) same
+    (subst (λ (m : ℤ). PressesKey key m mid later) is press)
 
-pub told_same : {Has : Kind → Type 0} {given : Given} {first : State}
-    {events same : List Happening} {before seen : Seen} → same ≡ events
-    → Witnessed Has given first events before seen → Witnessed Has given first same before seen
-told_same {Has} {given} {first} {events} {same} {before} {seen} is h =
-    subst (λ (l : List Happening). Witnessed Has given first l before seen) (sym is) h
+-- files of commands that keys come to which commands have put
+pub presses_files : (now later : List Happening) (keys : Option (List ℕ))
+    (clock : Option (List ℤ)) → AddsFiles now later
+    → Presses now later (record { pending = []; taken = 0 }) keys keys clock clock
+presses_files now later keys clock adds =
+    let none = files_keyless adds.files adds.are in record {
+      more = adds.files;
+      are_acts = files_acts adds.files adds.are;
+      events_are = adds.added;
+      takes = subst (λ (l : List Key). TakesKeys l (record { pending = []; taken = 0 }) keys keys)
+          (sym none.0) (record {
+            bytes = [];
+            taken = consumes_none keys;
+            counted = refl;
+            few = omega arith;
+            waiting = omega arith;
+            keys = first_none keys;
+          });
+      given = subst (λ (l : List ℤ). Gives clock clock l) (sym none.1) (gives_none clock);
+    }
+
+-- and keys behind them
+pub ends_files : (now mid later : List Happening) (status : Status) (stage : Stage)
+    (keys keys' : Option (List ℕ)) (clock clock' : Option (List ℤ)) → AddsFiles now mid
+    → GoesToEnd status mid later stage keys keys' clock clock'
+    → GoesToEnd status now later stage keys keys' clock clock'
+ends_files now mid later status stage keys keys' clock clock' adds goes =
+    let none = files_keyless adds.files adds.are in record {
+      reader = goes.reader;
+      presses = record {
+        more = adds.files ++ goes.presses.more;
+        are_acts = acts-append adds.files goes.presses.more (files_acts adds.files adds.are)
+            goes.presses.are_acts;
+        events_are = goes.presses.events_are
+            ∙ ap (λ (l : List Happening). l ++ goes.presses.more) adds.added
+            ∙ append_assoc now adds.files goes.presses.more;
+        takes = subst (λ (l : List Key). TakesKeys l goes.reader keys keys')
+            (sym (keys-append adds.files goes.presses.more
+            ∙ ap (λ (l : List Key). l ++ pressed_keys goes.presses.more) none.0))
+            goes.presses.takes;
+        given = subst (λ (l : List ℤ). Gives clock clock' l)
+            (sym (moments-append adds.files goes.presses.more
+            ∙ ap (λ (l : List ℤ). l ++ pressed_moments goes.presses.more) none.1))
+            goes.presses.given;
+      };
+      ends = goes.ends;
+    }
 
 -- Faults.
 
@@ -339,12 +398,30 @@ rose_before out mid next before rose =
 not_keys : (status : Status) → (status ≡ OutFault) ⊎ (status ≡ NoMemory) → status ≡ KeysFault → ⊥
 not_keys status which is = elim which [ inl h ↦ absurd (cc) | inr h ↦ absurd (cc) ]
 
--- a fault of a screen is answered where it was counted
-pub counts_turned : (status : Status) (keys keys' out mid next : ℕ)
-    → (status ≡ OutFault) ⊎ (status ≡ NoMemory) → (status ≡ OutFault → Rose mid next)
-    → out ≤ mid → mid ≤ next → CountsFaults status keys keys' out next
-counts_turned status keys keys' out mid next which cause before after = record {
+-- a fault of a screen or of a line is answered where it was counted
+pub counts_turned : (status : Status) (keys keys' out mid next errs mid' next' : ℕ)
+    → (status ≡ OutFault) ⊎ (status ≡ NoMemory)
+    → (status ≡ OutFault → Rose mid next ⊎ Rose mid' next')
+    → out ≤ mid → errs ≤ mid' → mid' ≤ next'
+    → CountsStreams status keys keys' out next errs next'
+counts_turned status keys keys' out mid next errs mid' next' which cause low low' high' = record {
   keys = λ is. absurd (not_keys status which is);
-  out = λ is. rose_before out mid next before (cause is);
-  later = omega (arith, before, after);
+  out = λ is. elim (cause is) [
+    | inl h ↦ inl (rose_before out mid next low h)
+    | inr h ↦ inr (rose_before errs mid' next' low' h)
+  ];
+  later = omega (arith, low', high');
+}
+
+-- what was counted from a later count on was counted
+pub counts_from : {status : Status} {keys keys' out mid next errs mid' next' : ℕ}
+    → out ≤ mid → errs ≤ mid' → CountsStreams status keys keys' mid next mid' next'
+    → CountsStreams status keys keys' out next errs next'
+counts_from {status} {keys} {keys'} {out} {mid} {next} {errs} {mid'} {next'} low low' counts = record {
+  keys = counts.keys;
+  out = λ is. elim (counts.out is) [
+    | inl h ↦ inl (rose_before out mid next low h)
+    | inr h ↦ inr (rose_before errs mid' next' low' h)
+  ];
+  later = omega (arith, low', counts.later);
 }

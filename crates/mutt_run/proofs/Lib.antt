@@ -1,4 +1,5 @@
 mod ScreensLemmas
+mod TurnLemmas
 mod KeysLemmas
 mod RunLemmas
 mod ReadsLemmas

@@ -19,7 +19,7 @@ use Rattle.session.specs.Beginning.{IsRefused as IsRefusedAs}
 use Rattle.session_events.specs.Events.{Happening, FolderOpened, FolderRefused}
 use Rattle.session.specs.Given.{Given}
 use Rattle.session.specs.Runs.{IsRunFrom, State, after_events}
-use Rattle.session.specs.Steps.{Waits}
+use Rattle.session.specs.Steps.{StaysTold}
 use Rattle.session.specs.Telling.{Witnessed}
 use Rattle.session_events.specs.declared.event.OpenFault.{OpenFault}
 use Rattle.session_events.specs.declared.event.OpenFault.TheVariants.{Folder}
@@ -29,10 +29,10 @@ use Rattle.session_events.specs.declared.setup.StartError.TheVariants as error
 use Rattle.session_state.specs.declared.stage.Stage.TheVariants.{Over}
 use Rattle.mutt_run.specs.Choice.{Task, ReadFolder, first_of, setup_of, task_of}
 use Rattle.mutt_run.specs.Ending.{EndsAs, EndsDone, EndsShown, IsNoUsage, IsOpened, IsRefused}
-use Rattle.mutt_run.specs.Going.{AreKeys, Breaks, Ended, EndsKeys, Goes, GoesToEnd}
+use Rattle.mutt_run.specs.Going.{AreActs, BeginsOut, Breaks, BreaksOut, CountsStreams, Ended}
+use Rattle.mutt_run.specs.Going.{EndsKeys, Goes, GoesOut, GoesToEnd, Streams}
 use Rattle.mutt_run.specs.Printed.{Prints, PrintsBut, pieces}
-use Rattle.mutt_run.specs.Reading.{CountsStreams, Outside, Reads, TellsNotes}
-use Rattle.mutt_run.specs.Reading.{TellsRefused}
+use Rattle.mutt_run.specs.Reading.{Outside, Reads, TellsNotes, TellsRefused, streams_of}
 use Rattle.mutt_run.specs.Screens.{printed_lines, screen_text}
 use Rattle.mutt_run.specs.Taken.{Gives, TakesKeys, pressed_keys, pressed_moments}
 use Rattle.mutt_run.specs.declared.status.Status.{Status}
@@ -41,14 +41,15 @@ use Rattle.mutt_run.specs.declared.status.Status.TheVariants.{KeysFault, OutFaul
 use Rattle.mutt_run.specs.declared.status.Status.TheVariants.{Empty}
 use Rattle.mutt_run.specs.declared.status.Status.TheVariants.{TooManyKeys}
 use Rattle.mutt_run.proofs.KeysLemmas.{consumes_none, first_none, gives_none}
-use Rattle.mutt_run.proofs.RunLemmas.{after-append, all_keys, all_listed, all_moments, all_notes}
+use Rattle.mutt_run.proofs.TurnLemmas.{text_cut, text_whole}
+use Rattle.mutt_run.proofs.RunLemmas.{after-append, all_keys, all_listed, all_moments}
 use Rattle.mutt_run.proofs.RunLemmas.{all_start, begun_breaks}
 
 -- A run of files of commands, an opening, and keys.
 module _ (o : PlainOptions) (start : ℤ) (Has : Kind → Type 0) (given : Given)
-    (status : Status) (opening events more later : List Happening) (old new : Outside)
-    (begins : BeginsRun Has given (first_of o start) start opening events old.disk new.disk)
-    (are_keys : AreKeys more) (is : later ≡ events ++ more) where
+    (status : Status) (opening events more later : List Happening) (old new : Outside) (mid : Seen)
+    (begins : BeginsRun Has given (first_of o start) start opening events old.disk mid)
+    (are_acts : AreActs more) (is : later ≡ events ++ more) where
   pub reads_by : IsRunFrom given (first_of o start) later → EndsAs given o start status later old.left new.left
       → (reader : PlainReader) → TakesKeys (pressed_keys more) reader old.left new.left
       → Gives old.moments new.moments (pressed_moments more)
@@ -56,7 +57,7 @@ module _ (o : PlainOptions) (start : ℤ) (Has : Kind → Type 0) (given : Given
       → PrintsBut (pieces given (task_of o) (first_of o start) later) old.written new.written
       → ((after_events given (first_of o start) later).turn.stage ≡ Over → Appends old.written new.written
       (concat (pieces given (task_of o) (first_of o start) later)))
-      → TellsNotes status (printed_lines (after_events given (first_of o start) events).notes) old new
+      → TellsNotes status (printed_lines (after_events given (first_of o start) later).notes) old new
       → Witnessed Has given (first_of o start) later old.disk new.disk
       → (status ≡ DiskFault → Rose old.disk.faults new.disk.faults) → IsNoUsage status
       → Reads (Ok o) start Has given status later old new
@@ -65,22 +66,20 @@ module _ (o : PlainOptions) (start : ℤ) (Has : Kind → Type 0) (given : Given
     ends = ends;
     reader = reader;
     takes = subst (λ (l : List Key). TakesKeys l reader old.left new.left)
-        (sym (all_keys Has given o start opening events old.disk new.disk begins more later
-        are_keys is)) takes;
-    start_is = all_start Has given o start opening events old.disk new.disk begins more later
-        are_keys is;
+        (sym (all_keys Has given o start opening events old.disk mid begins more later
+        are_acts is)) takes;
+    start_is = all_start Has given o start opening events old.disk mid begins more later
+        are_acts is;
     clocked = subst (λ (l : List ℤ). Gives old.moments new.moments l)
-        (sym (all_moments Has given o start opening events old.disk new.disk begins more later
-        are_keys is)) ticks;
+        (sym (all_moments Has given o start opening events old.disk mid begins more later
+        are_acts is)) ticks;
     printed = printed;
     but = but;
     whole = whole;
-    noted = subst (λ (l : List (List ℕ)). TellsNotes status (printed_lines l) old new)
-        (sym (all_notes Has given o start opening events old.disk new.disk begins more later
-        are_keys is)) noted;
+    noted = noted;
     told = told;
-    listed = all_listed Has given o start opening events old.disk new.disk begins more later
-        are_keys is;
+    listed = all_listed Has given o start opening events old.disk mid begins more later
+        are_acts is;
     fault = fault;
     chosen = no_usage;
   }
@@ -176,7 +175,7 @@ module _ (o : PlainOptions) (start : ℤ) (Has : Kind → Type 0) (given : Given
       → (status ≡ DiskFault → Rose old.disk.faults new.disk.faults) → IsNoUsage status
       → Reads (Ok o) start Has given status events old new
   reads_early ends printed noted fault no_usage =
-      reads_by o start Has given status opening events [] events old new begins tt
+      reads_by o start Has given status opening events [] events old new new.disk begins tt
       (sym (append-nil events)) begins.run ends (record { pending = []; taken = 0 })
       (subst (λ (l : Option (List ℕ)). TakesKeys [] (record { pending = []; taken = 0 }) old.left l)
       (sym same_left) (takes_none old.left))
@@ -203,23 +202,13 @@ module _ (o : PlainOptions) (start : ℤ) (Has : Kind → Type 0) (given : Given
 
 pub notes_whole : (status : Status) (text : List ℕ) (old new : Outside)
     → Appends old.told new.told text → TellsNotes status text old new
-notes_whole OutFault text old new told = ([], (text, sym (append-nil text), told), inl refl)
-notes_whole NoMemory text old new told = ([], (text, sym (append-nil text), told))
-notes_whole Done text old new told = told
-notes_whole (Usage word) text old new told = told
-notes_whole (NotOpened why) text old new told = told
-notes_whole DiskFault text old new told = told
-notes_whole KeysFault text old new told = told
-notes_whole Empty text old new told = told
-notes_whole TooManyKeys text old new told = told
+notes_whole status text old new told = text_whole status text (streams_of old) (streams_of new) told
 
 pub notes_cut : (status : Status) (text : List ℕ) (old new : Outside)
     → ((status ≡ OutFault) × Rose old.faults new.faults) ⊎ (status ≡ NoMemory)
     → (rest : List ℕ) × Sent old.told new.told text rest → TellsNotes status text old new
-notes_cut status text old new (inl is) sent =
-    subst (λ (st : Status). TellsNotes st text old new) (sym is.0) (sent.0, sent.1, inr is.1)
-notes_cut status text old new (inr is) sent =
-    subst (λ (st : Status). TellsNotes st text old new) (sym is) sent
+notes_cut status text old new which sent =
+    text_cut status text (streams_of old) (streams_of new) which sent
 
 pub cut_status : {Rises : Type 0} (status : Status)
     → ((status ≡ OutFault) × Rises) ⊎ (status ≡ NoMemory) → IsBroken status
@@ -359,165 +348,181 @@ starts_here o start moment Has given setup events state before now at is begun =
 -- A folder was opened.
 module _ (o : PlainOptions) (start : ℤ) (Has : Kind → Type 0) (given : Given)
     (events : List Happening) (old new : Outside) (task : task_of o ≡ ReadFolder) (state : State)
-    (starts : Starts Has given (first_of o start) start events state old.disk new.disk) where
-  notes_are : (after_events given (first_of o start) events).notes ≡ state.notes
-  notes_are = ap (λ (s : State). s.notes) starts.waits.state_is
+    (mid : Seen) (starts : Starts Has given (first_of o start) start events state old.disk mid)
+  where
+    notes_are : (after_events given (first_of o start) events).notes ≡ state.notes
+    notes_are = ap (λ (s : State). s.notes) starts.waits.state_is
 
-  opened_at : (more later : List Happening) → AreKeys more → later ≡ events ++ more
-      → IsOpened starts.came more later
-  opened_at more later are_keys put = record {
-    files = starts.begins.files;
-    path = starts.path;
-    kind = starts.kind;
-    moment = start;
-    marks = starts.marks;
-    are_files = starts.begins.are_files;
-    are_keys = are_keys;
-    events_are = put ∙ ap (λ (l : List Happening). l ++ more) starts.begins.events_are
-        ∙ append_assoc starts.begins.files (FolderOpened starts.path starts.kind start
-        starts.came starts.marks ∷ []) more;
-  }
+    opened_at : (more later : List Happening) → AreActs more → later ≡ events ++ more
+        → IsOpened starts.came more later
+    opened_at more later are_acts put = record {
+      files = starts.begins.files;
+      path = starts.path;
+      kind = starts.kind;
+      moment = start;
+      marks = starts.marks;
+      are_files = starts.begins.are_files;
+      are_acts = are_acts;
+      events_are = put ∙ ap (λ (l : List Happening). l ++ more) starts.begins.events_are
+          ∙ append_assoc starts.begins.files (FolderOpened starts.path starts.kind start
+          starts.came starts.marks ∷ []) more;
+    }
 
-  module _ (same_out : new.written ≡ old.written) (same_left : new.left ≡ old.left)
-      (same_clock : new.moments ≡ old.moments) where
-    pub starts_cut : (status : Status)
-        → ((status ≡ OutFault) × Rose old.faults new.faults) ⊎ (status ≡ NoMemory)
-        → (rest : List ℕ) × Sent old.told new.told (printed_lines state.notes) rest
-        → Reads (Ok o) start Has given status events old new
-    starts_cut status which sent =
-        reads_off o start Has given status (FolderOpened starts.path starts.kind start
-        starts.came starts.marks ∷ []) events old new starts.begins task same_out same_left
-        same_clock (cut_status status which)
-        (subst (λ (l : List (List ℕ)). TellsNotes status (printed_lines l) old new)
-        (sym notes_are) (notes_cut status (printed_lines state.notes) old new which sent))
+    module _ (same_disk : mid ≡ new.disk) (same_out : new.written ≡ old.written)
+        (same_left : new.left ≡ old.left) (same_clock : new.moments ≡ old.moments) where
+      begins_here : BeginsRun Has given (first_of o start) start
+          (FolderOpened starts.path starts.kind start starts.came starts.marks ∷ []) events old.disk
+          new.disk
+      begins_here = subst (λ (s : Seen). BeginsRun Has given (first_of o start) start
+          (FolderOpened starts.path starts.kind start starts.came starts.marks ∷ []) events old.disk
+          s) same_disk starts.begins
 
-    pub starts_empty : o.skip_empty ≡ true → state.listing ≡ []
-        → Appends old.told new.told (printed_lines state.notes)
-        → Reads (Ok o) start Has given Empty events old new
-    starts_empty skips none told =
-        reads_early o start Has given Empty (FolderOpened starts.path starts.kind start
-        starts.came starts.marks ∷ []) events old new starts.begins task same_out same_left
-        same_clock (
-          task,
-          skips,
-          subst (λ (l : List Listed). IsOpened l [] events)
-              (sym starts.listing ∙ none) (opened_at [] events tt (sym (append-nil events))),
-        )
-        (subst (λ (w : Option (List ℕ)). Appends old.written w []) (sym same_out)
-        (appends_none old.written))
-        (subst (λ (l : List (List ℕ)). Appends old.told new.told (printed_lines l))
-        (sym notes_are) told)
-        (λ fault. absurd (subst IsOtherThanDisk fault tt)) tt
+      pub starts_cut : (status : Status)
+          → ((status ≡ OutFault) × Rose old.faults new.faults) ⊎ (status ≡ NoMemory)
+          → (rest : List ℕ) × Sent old.told new.told (printed_lines state.notes) rest
+          → Reads (Ok o) start Has given status events old new
+      starts_cut status which sent =
+          reads_off o start Has given status (FolderOpened starts.path starts.kind start
+          starts.came starts.marks ∷ []) events old new begins_here task same_out same_left
+          same_clock (cut_status status which)
+          (subst (λ (l : List (List ℕ)). TellsNotes status (printed_lines l) old new)
+          (sym notes_are) (notes_cut status (printed_lines state.notes) old new which sent))
 
-  -- and keys went on
-  module _ (later : List Happening) (next : State)
-      (full : o.skip_empty ≡ true → state.listing ≡ [] → ⊥)
-      (told : Appends old.told new.told (printed_lines state.notes))
-      (witnessed : Witnessed Has given (first_of o start) later old.disk new.disk) where
-    abbrev opening : List Happening
-    opening = FolderOpened starts.path starts.kind start starts.came starts.marks ∷ []
-
-    module _ (status : Status) (goes : GoesToEnd status events later next.turn.stage old.left
-        new.left old.moments new.moments) where
-      shown_end : after_events given (first_of o start) later ≡ next
-          → EndsShown given o start status later old.left new.left
-      shown_end same = record {
-        came = starts.came;
-        keys = goes.presses.more;
-        opened = opened_at goes.presses.more later goes.presses.are_keys goes.presses.events_are;
-        full = λ skips none. full skips (starts.listing ∙ none);
-        reader = goes.reader;
-        takes = subst (λ (l : List Key). TakesKeys l goes.reader old.left new.left)
-            (sym (all_keys Has given o start opening events old.disk new.disk starts.begins
-            goes.presses.more later goes.presses.are_keys goes.presses.events_are))
-            goes.presses.takes;
-        ends = subst (λ (s : State). EndsKeys status s.turn.stage goes.reader new.left)
-            (sym same) goes.ends;
-      }
-
-      reads_so : IsRunFrom given (first_of o start) later → EndsAs given o start status later old.left new.left
-          → Prints status (pieces given (task_of o) (first_of o start) later) old.written
-          new.written
-          → PrintsBut (pieces given (task_of o) (first_of o start) later) old.written new.written
-          → ((after_events given (first_of o start) later).turn.stage ≡ Over → Appends old.written
-          new.written (concat (pieces given (task_of o) (first_of o start) later)))
-          → (status ≡ DiskFault → Rose old.disk.faults new.disk.faults) → IsNoUsage status
-          → Reads (Ok o) start Has given status later old new
-      reads_so run ends printed but whole fault no_usage =
-          reads_by o start Has given status opening events goes.presses.more later old new
-          starts.begins goes.presses.are_keys goes.presses.events_are run ends goes.reader
-          goes.presses.takes goes.presses.given printed but whole
-          (notes_whole status (printed_lines (after_events given (first_of o start) events).notes) old new
+      pub starts_empty : o.skip_empty ≡ true → state.listing ≡ []
+          → Appends old.told new.told (printed_lines state.notes)
+          → Reads (Ok o) start Has given Empty events old new
+      starts_empty skips none told =
+          reads_early o start Has given Empty (FolderOpened starts.path starts.kind start
+          starts.came starts.marks ∷ []) events old new begins_here task same_out same_left
+          same_clock (
+            task,
+            skips,
+            subst (λ (l : List Listed). IsOpened l [] events)
+                (sym starts.listing ∙ none) (opened_at [] events tt (sym (append-nil events))),
+          )
+          (subst (λ (w : Option (List ℕ)). Appends old.written w []) (sym same_out)
+          (appends_none old.written))
           (subst (λ (l : List (List ℕ)). Appends old.told new.told (printed_lines l))
-          (sym notes_are) told))
-          witnessed fault no_usage
+          (sym notes_are) told)
+          (λ fault. absurd (subst IsOtherThanDisk fault tt)) tt
 
-      reads_goes : Goes given (first_of o start) later next old.written new.written
-          → (EndsShown given o start status later old.left new.left
-          → EndsAs given o start status later old.left new.left)
-          → (Appends old.written new.written
-          (concat (pieces given (task_of o) (first_of o start) later))
-          → Prints status (pieces given (task_of o) (first_of o start) later) old.written
-          new.written)
-          → (status ≡ DiskFault → Rose old.disk.faults new.disk.faults) → IsNoUsage status
+    -- and keys went on
+    module _ (later : List Happening) (next : State)
+        (full : o.skip_empty ≡ true → state.listing ≡ [] → ⊥)
+        (witnessed : Witnessed Has given (first_of o start) later old.disk new.disk) where
+      abbrev opening : List Happening
+      opening = FolderOpened starts.path starts.kind start starts.came starts.marks ∷ []
+
+      module _ (status : Status) (goes : GoesToEnd status events later next.turn.stage old.left
+          new.left old.moments new.moments) where
+        shown_end : after_events given (first_of o start) later ≡ next
+            → EndsShown given o start status later old.left new.left
+        shown_end same = record {
+          came = starts.came;
+          keys = goes.presses.more;
+          opened = opened_at goes.presses.more later goes.presses.are_acts goes.presses.events_are;
+          full = λ skips none. full skips (starts.listing ∙ none);
+          reader = goes.reader;
+          takes = subst (λ (l : List Key). TakesKeys l goes.reader old.left new.left)
+              (sym (all_keys Has given o start opening events old.disk mid starts.begins
+              goes.presses.more later goes.presses.are_acts goes.presses.events_are))
+              goes.presses.takes;
+          ends = subst (λ (s : State). EndsKeys status s.turn.stage goes.reader new.left)
+              (sym same) goes.ends;
+        }
+
+        reads_so : IsRunFrom given (first_of o start) later → EndsAs given o start status later old.left new.left
+            → Prints status (pieces given (task_of o) (first_of o start) later) old.written
+            new.written
+            → PrintsBut (pieces given (task_of o) (first_of o start) later) old.written new.written
+            → ((after_events given (first_of o start) later).turn.stage ≡ Over → Appends old.written
+            new.written (concat (pieces given (task_of o) (first_of o start) later)))
+            → TellsNotes status (printed_lines (after_events given (first_of o start) later).notes) old new
+            → (status ≡ DiskFault → Rose old.disk.faults new.disk.faults) → IsNoUsage status
+            → Reads (Ok o) start Has given status later old new
+        reads_so run ends printed but whole noted fault no_usage =
+            reads_by o start Has given status opening events goes.presses.more later old new mid
+            starts.begins goes.presses.are_acts goes.presses.events_are run ends goes.reader
+            goes.presses.takes goes.presses.given printed but whole noted witnessed fault no_usage
+
+        reads_goes : GoesOut given (first_of o start) later next (streams_of old) (streams_of new)
+            → (EndsShown given o start status later old.left new.left
+            → EndsAs given o start status later old.left new.left)
+            → (Appends old.written new.written
+            (concat (pieces given (task_of o) (first_of o start) later))
+            → Prints status (pieces given (task_of o) (first_of o start) later) old.written
+            new.written)
+            → (status ≡ DiskFault → Rose old.disk.faults new.disk.faults) → IsNoUsage status
+            → Reads (Ok o) start Has given status later old new
+        reads_goes out ends printed fault no_usage =
+            reads_so went.stands.run (ends (shown_end went.stands.state_is)) (printed all)
+            (prints_all (pieces given (task_of o) (first_of o start) later) old.written new.written all)
+            (λ over. all) (notes_whole status
+            (printed_lines (after_events given (first_of o start) later).notes) old new
+            (subst (λ (s : State). Appends old.told new.told (printed_lines s.notes))
+            (sym went.stands.state_is) out.noted)) fault no_usage
+          where
+            went : Goes given (first_of o start) later next old.written new.written
+            went = out.goes
+
+            all : Appends old.written new.written
+                (concat (pieces given (task_of o) (first_of o start) later))
+            all = subst (λ (t : Task). Appends old.written new.written
+                (concat (pieces given t (first_of o start) later))) (sym task)
+                (subst (λ (l : List (List (List ℕ))). Appends old.written new.written
+                (concat (map screen_text l))) (sym went.stands.screens_are) went.sent)
+
+        reads_breaks : BreaksOut given status (first_of o start) later (streams_of old)
+            (streams_of new)
+            → IsBroken status → Reads (Ok o) start Has given status later old new
+        reads_breaks out broken =
+            reads_so out.breaks.run
+            (ends_free given o start later old.left new.left status broken)
+            (prints_broken o start given later old.written new.written status task broken out.breaks)
+            (prints_all_but o start given later old.written new.written task out.breaks)
+            (whole_broken o start given later old.written new.written task out.breaks) out.noted
+            (no_fault (Rose old.disk.faults new.disk.faults) status broken)
+            (usage_free status broken)
+
+      pub starts_went : (status : Status) → Ended given status (first_of o start) later next
+          (streams_of old) (streams_of new)
+          → GoesToEnd status events later next.turn.stage old.left new.left old.moments new.moments
           → Reads (Ok o) start Has given status later old new
-      reads_goes went ends printed fault no_usage =
-          reads_so went.stands.run (ends (shown_end went.stands.state_is)) (printed all)
-          (prints_all (pieces given (task_of o) (first_of o start) later) old.written new.written all)
-          (λ over. all) fault no_usage
-        where
-          all : Appends old.written new.written
-              (concat (pieces given (task_of o) (first_of o start) later))
-          all = subst (λ (t : Task). Appends old.written new.written
-              (concat (pieces given t (first_of o start) later))) (sym task)
-              (subst (λ (l : List (List (List ℕ))). Appends old.written new.written
-              (concat (map screen_text l))) (sym went.stands.screens_are) went.sent)
+      starts_went Done went goes =
+          reads_goes Done goes went (λ shown. subst (λ (t : Task). EndsDone given t o start later old.left
+          new.left) (sym task) shown) (λ all. all)
+          (λ fault. absurd (subst IsOtherThanDisk fault tt)) tt
+      starts_went KeysFault went goes =
+          reads_goes KeysFault goes went (λ shown. (task, shown)) (λ all. all)
+          (λ fault. absurd (subst IsOtherThanDisk fault tt)) tt
+      starts_went TooManyKeys went goes =
+          reads_goes TooManyKeys goes went (λ shown. (task, shown)) (λ all. all)
+          (λ fault. absurd (subst IsOtherThanDisk fault tt)) tt
+      starts_went OutFault went goes = reads_breaks OutFault goes went (inl refl)
+      starts_went NoMemory went goes = reads_breaks NoMemory goes went (inr refl)
+      starts_went (Usage word) went goes = absurd goes.ends
+      starts_went (NotOpened why) went goes = absurd goes.ends
+      starts_went DiskFault went goes = absurd goes.ends
+      starts_went Empty went goes = absurd goes.ends
 
-      reads_breaks : Breaks given (first_of o start) later old.written new.written
-          → IsBroken status → Reads (Ok o) start Has given status later old new
-      reads_breaks breaks broken =
-          reads_so breaks.run (ends_free given o start later old.left new.left status broken)
-          (prints_broken o start given later old.written new.written status task broken breaks)
-          (prints_all_but o start given later old.written new.written task breaks)
-          (whole_broken o start given later old.written new.written task breaks)
-          (no_fault (Rose old.disk.faults new.disk.faults) status broken)
-          (usage_free status broken)
-
-    pub starts_went : (status : Status) → Ended given status (first_of o start) later next old.written
-        new.written
+    pub starts_go : (later : List Happening) (next : State) (status : Status) (now : Streams)
+        → (o.skip_empty ≡ true → state.listing ≡ [] → ⊥)
+        → now.out ≡ old.written → Appends old.told now.errs (printed_lines state.notes)
+        → old.faults ≤ now.faults
+        → ((first : State) → (from : Streams) → BeginsOut given first events state from now
+        → Ended given status first later next from (streams_of new))
+        → StaysTold Has events later mid new.disk
         → GoesToEnd status events later next.turn.stage old.left new.left old.moments new.moments
         → Reads (Ok o) start Has given status later old new
-    starts_went Done went goes =
-        reads_goes Done goes went (λ shown. subst (λ (t : Task). EndsDone given t o start later old.left
-        new.left) (sym task) shown) (λ all. all)
-        (λ fault. absurd (subst IsOtherThanDisk fault tt)) tt
-    starts_went KeysFault went goes =
-        reads_goes KeysFault goes went (λ shown. (task, shown)) (λ all. all)
-        (λ fault. absurd (subst IsOtherThanDisk fault tt)) tt
-    starts_went TooManyKeys went goes =
-        reads_goes TooManyKeys goes went (λ shown. (task, shown)) (λ all. all)
-        (λ fault. absurd (subst IsOtherThanDisk fault tt)) tt
-    starts_went OutFault went goes = reads_breaks OutFault goes went (inl refl)
-    starts_went NoMemory went goes = reads_breaks NoMemory goes went (inr refl)
-    starts_went (Usage word) went goes = absurd goes.ends
-    starts_went (NotOpened why) went goes = absurd goes.ends
-    starts_went DiskFault went goes = absurd goes.ends
-    starts_went Empty went goes = absurd goes.ends
-
-  pub starts_go : (later : List Happening) (next : State) (status : Status)
-      → (o.skip_empty ≡ true → state.listing ≡ [] → ⊥)
-      → Appends old.told new.told (printed_lines state.notes)
-      → ((first : State) → Waits given first events state
-      → Ended given status first later next old.written new.written)
-      → ((other : Given) → (first : State) → (before seen : Seen)
-      → Witnessed Has other first events before seen
-      → Witnessed Has other first later before seen)
-      → GoesToEnd status events later next.turn.stage old.left new.left old.moments new.moments
-      → Reads (Ok o) start Has given status later old new
-  starts_go later next status full told went witnessed goes =
-      starts_went later next full told
-      (witnessed given (first_of o start) old.disk new.disk starts.begins.told) status
-      (went (first_of o start) starts.waits) goes
+    starts_go later next status now full unprinted told low went witnessed goes =
+        starts_went later next full
+        (witnessed given (first_of o start) old.disk starts.begins.told) status
+        (went (first_of o start) (streams_of old) (record {
+          waits = starts.waits;
+          unprinted = unprinted;
+          noted = told;
+          later = low;
+        })) goes
 
 abbrev IsEmptyAlone : Status → Type 0
 IsEmptyAlone Empty = Unit {0}

@@ -12,14 +12,14 @@ use Rattle.session_events.specs.Events.{AreFiles, Happening, FileRead, FileRefus
 use Rattle.session_events.specs.Events.{FolderOpened, FolderRefused}
 use Rattle.session.specs.Given.{Given}
 use Rattle.session.specs.Runs.{State, after, after_events, screens_from, shown}
-use Rattle.session.specs.Runs.{stage_screens, taken_at}
+use Rattle.session.specs.Runs.{stage_screens}
 use Rattle.session.specs.Steps.{Stands}
+use Rattle.session.proofs.StepsLemmas.{after_unopened, files_unopened}
 use Rattle.session_state.specs.declared.stage.Stage.{Stage}
-use Rattle.session_state.specs.declared.stage.Stage.TheVariants.{Unopened, Pushing, Idle, Ready}
-use Rattle.session_state.specs.declared.stage.Stage.TheVariants.{Over}
+use Rattle.session_state.specs.declared.stage.Stage.TheVariants.{Unopened}
 use Rattle.mutt_run.specs.Choice.{first_of}
 use Rattle.mutt_run.specs.Ending.{AllListed}
-use Rattle.mutt_run.specs.Going.{AreKeys, Breaks}
+use Rattle.mutt_run.specs.Going.{AreActs, Breaks}
 use Rattle.mutt_run.specs.Taken.{IsStart, pressed_keys, pressed_moments}
 use Rattle.mutt_run.proofs.ScreensLemmas.{breaks_unshown}
 
@@ -65,21 +65,21 @@ files_listed letters (KeyPressed key moment ∷ files) rest are h = absurd are.0
 files_listed letters (FolderOpened path kind moment came marks ∷ files) rest are h = absurd are.0
 files_listed letters (FolderRefused path why marks ∷ files) rest are h = absurd are.0
 
-keys_start : (start : ℤ) (keys : List Happening) → AreKeys keys → IsStart start keys
-keys_start start [] are = tt
-keys_start start (KeyPressed key moment ∷ keys) are = keys_start start keys are
-keys_start start (FileRead path text marks ∷ keys) are = absurd are
-keys_start start (FileRefused path why marks ∷ keys) are = absurd are
-keys_start start (FolderOpened path kind moment came marks ∷ keys) are = absurd are
-keys_start start (FolderRefused path why marks ∷ keys) are = absurd are
+acts_start : (start : ℤ) (keys : List Happening) → AreActs keys → IsStart start keys
+acts_start start [] are = tt
+acts_start start (KeyPressed key moment ∷ keys) are = acts_start start keys are
+acts_start start (FileRead path text marks ∷ keys) are = acts_start start keys are
+acts_start start (FileRefused path why marks ∷ keys) are = acts_start start keys are
+acts_start start (FolderOpened path kind moment came marks ∷ keys) are = absurd are
+acts_start start (FolderRefused path why marks ∷ keys) are = absurd are
 
-keys_listed : (letters : List Mail) (keys : List Happening) → AreKeys keys → AllListed letters keys
-keys_listed letters [] are = tt
-keys_listed letters (KeyPressed key moment ∷ keys) are = (tt, keys_listed letters keys are)
-keys_listed letters (FileRead path text marks ∷ keys) are = absurd are
-keys_listed letters (FileRefused path why marks ∷ keys) are = absurd are
-keys_listed letters (FolderOpened path kind moment came marks ∷ keys) are = absurd are
-keys_listed letters (FolderRefused path why marks ∷ keys) are = absurd are
+acts_listed : (letters : List Mail) (keys : List Happening) → AreActs keys → AllListed letters keys
+acts_listed letters [] are = tt
+acts_listed letters (KeyPressed key moment ∷ keys) are = (tt, acts_listed letters keys are)
+acts_listed letters (FileRead path text marks ∷ keys) are = (tt, acts_listed letters keys are)
+acts_listed letters (FileRefused path why marks ∷ keys) are = (tt, acts_listed letters keys are)
+acts_listed letters (FolderOpened path kind moment came marks ∷ keys) are = absurd are
+acts_listed letters (FolderRefused path why marks ∷ keys) are = absurd are
 
 opening_keys : (start : ℤ) (letters : List Mail) (opening rest : List Happening)
     → AreOpening start letters opening → pressed_keys (opening ++ rest) ≡ pressed_keys rest
@@ -119,42 +119,12 @@ opening_listed start letters [] rest opens h = h
 opening_listed start letters (event ∷ []) rest opens h = (opens.1, h)
 opening_listed start letters (event ∷ next ∷ opening) rest opens h = absurd opens
 
--- keys leave what was told of commands
-stage_notes : (stage : Stage) (s : State) → (taken_at stage s).notes ≡ s.notes
-stage_notes Unopened s = refl
-stage_notes Pushing s = refl
-stage_notes Idle s = refl
-stage_notes Ready s = refl
-stage_notes Over s = refl
-
-keys_notes : (given : Given) (s : State) (keys : List Happening) → AreKeys keys
-    → (after_events given s keys).notes ≡ s.notes
-keys_notes given s [] are = refl
-keys_notes given s (KeyPressed key moment ∷ keys) are =
-    keys_notes given (after given s (KeyPressed key moment)) keys are ∙ stage_notes s.turn.stage s
-keys_notes given s (FileRead path text marks ∷ keys) are = absurd are
-keys_notes given s (FileRefused path why marks ∷ keys) are = absurd are
-keys_notes given s (FolderOpened path kind moment came marks ∷ keys) are = absurd are
-keys_notes given s (FolderRefused path why marks ∷ keys) are = absurd are
-
 pub after-append : (given : Given) (s : State) (xs ys : List Happening)
     → after_events given s (xs ++ ys) ≡ after_events given (after_events given s xs) ys
 after-append given s [] ys = refl
 after-append given s (x ∷ xs) ys = after-append given (after given s x) xs ys
 
--- files of commands show no screen
-pub files_stage : (given : Given) (s : State) (files : List Happening) → AreFiles files
-    → s.turn.stage ≡ Unopened
-    → (after_events given s files).turn.stage ≡ Unopened
-files_stage given s [] are stage = stage
-files_stage given s (FileRead path text marks ∷ files) are stage =
-    files_stage given (after given s (FileRead path text marks)) files are.1 stage
-files_stage given s (FileRefused path why marks ∷ files) are stage =
-    files_stage given (after given s (FileRefused path why marks)) files are.1 stage
-files_stage given s (KeyPressed key moment ∷ files) are stage = absurd are.0
-files_stage given s (FolderOpened path kind moment came marks ∷ files) are stage = absurd are.0
-files_stage given s (FolderRefused path why marks ∷ files) are stage = absurd are.0
-
+-- files of commands show no screen before a folder is open
 unshown : (given : Given) (s : State) → s.turn.stage ≡ Unopened → shown given s ≡ []
 unshown given s stage = ap (λ (t : Stage). stage_screens given t s) stage
 
@@ -162,18 +132,11 @@ files_screens : (given : Given) (s : State) (files rest : List Happening) → Ar
     → s.turn.stage ≡ Unopened
     → screens_from given s (files ++ rest) ≡ screens_from given (after_events given s files) rest
 files_screens given s [] rest are stage = refl
-files_screens given s (FileRead path text marks ∷ files) rest are stage =
-    let next : State = after given s (FileRead path text marks) in
+files_screens given s (event ∷ files) rest are stage =
+    let next : State = after given s event in
+    let here : next.turn.stage ≡ Unopened = after_unopened given s event are.0 stage in
     ap (λ (l : List (List (List ℕ))). l ++ screens_from given next (files ++ rest))
-    (unshown given next stage) ∙ files_screens given next files rest are.1 stage
-files_screens given s (FileRefused path why marks ∷ files) rest are stage =
-    let next : State = after given s (FileRefused path why marks) in
-    ap (λ (l : List (List (List ℕ))). l ++ screens_from given next (files ++ rest))
-    (unshown given next stage) ∙ files_screens given next files rest are.1 stage
-files_screens given s (KeyPressed key moment ∷ files) rest are stage = absurd are.0
-files_screens given s (FolderOpened path kind moment came marks ∷ files) rest are stage =
-    absurd are.0
-files_screens given s (FolderRefused path why marks ∷ files) rest are stage = absurd are.0
+    (unshown given next here) ∙ files_screens given next files rest are.1 here
 
 opening_screens : (given : Given) (s : State) (start : ℤ) (opening : List Happening)
     → AreOpening start given.mails opening → s.turn.stage ≡ Unopened
@@ -196,7 +159,7 @@ module _ (Has : Kind → Type 0) (given : Given) (o : PlainOptions) (start : ℤ
         ≡ shown given (after_events given (first_of o start) l)) (sym begins.events_are)
         (files_screens given (first_of o start) begins.files opening begins.are_files refl
         ∙ opening_screens given (after_events given (first_of o start) begins.files) start opening
-        begins.opens (files_stage given (first_of o start) begins.files begins.are_files refl)
+        begins.opens (files_unopened given (first_of o start) begins.files begins.are_files refl)
         ∙ ap (shown given) (sym (after-append given (first_of o start) begins.files opening)));
   }
 
@@ -206,7 +169,7 @@ module _ (Has : Kind → Type 0) (given : Given) (o : PlainOptions) (start : ℤ
       breaks_unshown given (first_of o start) (after_events given (first_of o start) events) events []
       begun_stands out out (appends_none out)
 
-  module _ (more later : List Happening) (are_keys : AreKeys more) (is : later ≡ events ++ more)
+  module _ (more later : List Happening) (are_acts : AreActs more) (is : later ≡ events ++ more)
     where
       all_is : later ≡ begins.files ++ (opening ++ more)
       all_is = is ∙ ap (λ (l : List Happening). l ++ more) begins.events_are
@@ -225,16 +188,10 @@ module _ (Has : Kind → Type 0) (given : Given) (o : PlainOptions) (start : ℤ
       all_start = subst (IsStart start) (sym all_is)
           (files_start start begins.files (opening ++ more) begins.are_files
           (opening_start start given.mails opening more begins.opens
-          (keys_start start more are_keys)))
+          (acts_start start more are_acts)))
 
       pub all_listed : AllListed given.mails later
       all_listed = subst (AllListed given.mails) (sym all_is)
           (files_listed given.mails begins.files (opening ++ more) begins.are_files
           (opening_listed start given.mails opening more begins.opens
-          (keys_listed given.mails more are_keys)))
-
-      pub all_notes : (after_events given (first_of o start) later).notes
-          ≡ (after_events given (first_of o start) events).notes
-      all_notes = ap (λ (l : List Happening). (after_events given (first_of o start) l).notes) is
-          ∙ ap (λ (s : State). s.notes) (after-append given (first_of o start) events more)
-          ∙ keys_notes given (after_events given (first_of o start) events) more are_keys
+          (acts_listed given.mails more are_acts)))

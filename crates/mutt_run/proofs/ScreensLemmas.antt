@@ -1,5 +1,5 @@
 -- How screens are printed, key by key.
-use Rattle.std.proofs.Common.{◌≡◌, ◌≤◌, ◌⊎◌, inl, inr, ℕ, ℤ, List, [], ◌∷◌, ◌++◌, Option, length}
+use Rattle.std.proofs.Common.{◌≡◌, ◌≤◌, ◌⊎◌, inl, inr, ℕ, List, [], ◌∷◌, ◌++◌, Option, length}
 use Rattle.std.proofs.Common.{map}
 use Rattle.std.proofs.Common.{refl, sym, ◌∙◌, ap, subst, append_assoc, arith, length-append}
 use Rattle.std.proofs.lemmas.List.{append-nil, map-append}
@@ -9,19 +9,17 @@ use Rattle.std.specs.List.{concat}
 use Rattle.mail_base.specs.Streams.{Sent}
 use Rattle.mail_base.proofs.Sending.{appends_then}
 use Rattle.folder_core.specs.Letters.{Mail}
-use Rattle.keymap.specs.declared.key.Key.{Key}
-use Rattle.session_events.specs.Events.{Happening, KeyPressed}
+use Rattle.session_events.specs.Events.{Happening}
 use Rattle.session.specs.Given.{Given}
 use Rattle.session.specs.Runs.{State, after_events, screen_in, screens_from, shown}
-use Rattle.session.specs.Runs.{stage_screens, typed}
-use Rattle.session.specs.Steps.{IsTaken, Stands, Waits}
-use Rattle.session.proofs.StepsLemmas.{stands_pressed}
+use Rattle.session.specs.Runs.{stage_screens}
+use Rattle.session.specs.Steps.{Stands}
 use Rattle.session_state.specs.declared.stage.Stage.{Stage}
 use Rattle.session_state.specs.declared.stage.Stage.TheVariants.{Unopened, Pushing, Idle, Ready}
-use Rattle.session_state.specs.declared.stage.Stage.TheVariants.{Over}
-use Rattle.mutt_run.specs.Going.{Breaks, Ended, Goes}
+use Rattle.session_state.specs.declared.stage.Stage.TheVariants.{Over, Reading}
+use Rattle.mutt_run.specs.Going.{Breaks, BreaksOut, Ended, Goes, GoesOut, Streams}
 use Rattle.mutt_run.specs.Printed.{last_length}
-use Rattle.mutt_run.specs.Screens.{screen_text}
+use Rattle.mutt_run.specs.Screens.{printed_lines, screen_text}
 use Rattle.mutt_run.specs.declared.status.Status.{Status}
 use Rattle.mutt_run.specs.declared.status.Status.TheVariants.{OutFault, NoMemory}
 
@@ -43,6 +41,7 @@ IsIdle Idle = Unit {0}
 IsIdle Unopened = ⊥
 IsIdle Pushing = ⊥
 IsIdle Ready = ⊥
+IsIdle Reading = ⊥
 IsIdle Over = ⊥
 
 pub idle_not_over : Idle ≡ Over → ⊥
@@ -100,6 +99,7 @@ module _ (given : Given) (first s : State) (events : List Happening)
     short_by Unopened is = omega arith
     short_by Pushing is = omega arith
     short_by Ready is = omega arith
+    short_by Reading is = omega arith
     short_by Over is = omega arith
     short_by Idle is =
         let here : List (List ℕ) = screen_in given.mails s in
@@ -180,100 +180,60 @@ module _ (given : Given) (first s : State) (events : List Happening)
         whole = λ over. absurd (idle_not_over (sym (stage_is Idle idle) ∙ over));
       }
 
--- A key, behind a run whose screens were printed.
-module _ (given : Given) (first old taken_as : State) (events events' : List Happening)
-    (start mid : Option (List ℕ))
-    (taken : (screens : List (List (List ℕ))) → Stands given first events old screens
-    → IsTaken given first events taken_as screens)
-    (goes : Goes given first events old start mid) where
-  is_taken : IsTaken given first events taken_as goes.screens
-  is_taken = taken goes.screens goes.stands
-
-  -- memory ran out
-  pub turned_off : (key : Key) (moment : ℤ) → events' ≡ events ++ KeyPressed key moment ∷ []
-      → Breaks given first events' start mid
-  turned_off key moment put =
-      subst (λ (l : List Happening). Breaks given first l start mid) (sym put)
-      (breaks_unshown given first (typed given key moment taken_as)
-      (events ++ KeyPressed key moment ∷ []) goes.screens
-      (stands_pressed given first taken_as events key moment goes.screens is_taken) start mid
-      goes.sent)
-
-  -- a key was pressed
-  module _ (new : State) (press : IsTaken given first events taken_as goes.screens
-      → Stands given first events' new (goes.screens ++ shown given new)) where
-    stood : Stands given first events' new (goes.screens ++ shown given new)
-    stood = press is_taken
-
-    pub turned_over : new.turn.stage ≡ Over → Goes given first events' new start mid
-    turned_over over = goes_over given first new events' goes.screens stood start mid goes.sent over
-
-    module _ {mails : List Mail} (same : given.mails ≡ mails) (out : Option (List ℕ))
-        (idle : new.turn.stage ≡ Idle) where
-      pub turned_shown : Appends mid out (screen_text (screen_in mails new)) → Goes given first events' new start out
-      turned_shown more =
-          goes_shown given first new events' goes.screens stood start mid goes.sent out idle
-          (shown_given given mails new mid out same more)
-
-      pub turned_cut : (rest : List ℕ)
-          × Sent mid out (screen_text (screen_in mails new)) rest
-          → Breaks given first events' start out
-      turned_cut cut =
-          breaks_cut given first new events' goes.screens stood start mid goes.sent out idle
-          (cut_given given mails new mid out same cut)
-
--- the keys that commands have put act
-pub waits_stand : (given : Given) (first s t : State) (events : List Happening)
-    → Waits given first events s → (after_events given first events ≡ t)
-    → Stands given first events t ([] ++ shown given t)
-waits_stand given first s t events waits at = record {
-  run = waits.run;
-  state_is = at;
-  screens_are = waits.screens_are
-      ∙ ap (λ (u : State). shown given u) (sym waits.state_is ∙ at);
-}
-
--- a run goes on by nothing
-pub goes_same : {given : Given} {first s : State} {events events' : List Happening}
-    {old new : Option (List ℕ)} → events' ≡ events → Goes given first events s old new
-    → Goes given first events' s old new
-goes_same {given} {first} {s} {events} {events'} {old} {new} same goes =
-    subst (λ (l : List Happening). Goes given first l s old new) (sym same) goes
-
 -- and breaks off
-pub goes_broken : {given : Given} {first s : State} {events events' : List Happening}
-    {old new : Option (List ℕ)} → events' ≡ events → Goes given first events s old new
-    → Breaks given first events' old new
-goes_broken {given} {first} {s} {events} {events'} {old} {new} same goes =
-    subst (λ (l : List Happening). Breaks given first l old new) (sym same) (record {
-      run = goes.stands.run;
-      prints = record {
-        rest = [];
-        sent = (
-          concat (texts (screens_from given first events)),
-          sym (append-nil (concat (texts (screens_from given first events)))),
-          sent,
-        );
-        short = omega arith;
-      };
-      whole = λ over. sent;
-    })
+goes_broken : {given : Given} {first s : State} {events : List Happening}
+    {old new : Option (List ℕ)} → Goes given first events s old new
+    → Breaks given first events old new
+goes_broken {given} {first} {s} {events} {old} {new} goes = record {
+  run = goes.stands.run;
+  prints = record {
+    rest = [];
+    sent = (
+      concat (texts (screens_from given first events)),
+      sym (append-nil (concat (texts (screens_from given first events)))),
+      sent,
+    );
+    short = omega arith;
+  };
+  whole = λ over. sent;
+}
   where
     sent : Appends old new (concat (texts (screens_from given first events)))
     sent = subst (λ (l : List (List (List ℕ))). Appends old new (concat (texts l)))
         (sym goes.stands.screens_are) goes.sent
 
-pub breaks_same : {given : Given} {first : State} {events events' : List Happening}
-    {old new : Option (List ℕ)} → events' ≡ events → Breaks given first events old new
-    → Breaks given first events' old new
-breaks_same {given} {first} {events} {events'} {old} {new} same breaks =
-    subst (λ (l : List Happening). Breaks given first l old new) (sym same) breaks
+-- a run goes on by nothing
+pub out_same : {given : Given} {first s : State} {events events' : List Happening}
+    {old new : Streams} → events' ≡ events → GoesOut given first events s old new
+    → GoesOut given first events' s old new
+out_same {given} {first} {s} {events} {events'} {old} {new} same goes =
+    subst (λ (l : List Happening). GoesOut given first l s old new) (sym same) goes
+
+-- memory runs out before a key
+pub out_broken : {given : Given} {first s : State} {events events' : List Happening}
+    {old new : Streams} → events' ≡ events → GoesOut given first events s old new
+    → BreaksOut given NoMemory first events' old new
+out_broken {given} {first} {s} {events} {events'} {old} {new} same goes =
+    subst (λ (l : List Happening). BreaksOut given NoMemory first l old new) (sym same) (record {
+      breaks = goes_broken goes.goes;
+      noted = (
+        [],
+        (
+          printed_lines (after_events given first events).notes,
+          sym (append-nil (printed_lines (after_events given first events).notes)),
+          subst (λ (t : State). Appends old.errs new.errs (printed_lines t.notes))
+              (sym goes.goes.stands.state_is) goes.noted,
+        ),
+      );
+    })
 
 pub ended_broken : {given : Given} {first : State} {events : List Happening}
-    {old new : Option (List ℕ)} (s : State) (status : Status)
+    {old new : Streams} (s : State) (status : Status)
     → (status ≡ OutFault) ⊎ (status ≡ NoMemory)
-    → Breaks given first events old new → Ended given status first events s old new
+    → BreaksOut given status first events old new → Ended given status first events s old new
 ended_broken {given} {first} {events} {old} {new} s status (inl is) breaks =
-    subst (λ (st : Status). Ended given st first events s old new) (sym is) breaks
+    subst (λ (st : Status). Ended given st first events s old new) (sym is)
+    (subst (λ (st : Status). BreaksOut given st first events old new) is breaks)
 ended_broken {given} {first} {events} {old} {new} s status (inr is) breaks =
-    subst (λ (st : Status). Ended given st first events s old new) (sym is) breaks
+    subst (λ (st : Status). Ended given st first events s old new) (sym is)
+    (subst (λ (st : Status). BreaksOut given st first events old new) is breaks)

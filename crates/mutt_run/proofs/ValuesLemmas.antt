@@ -18,7 +18,7 @@ use Rattle.session.proofs.GivenLemmas.{keeps_same}
 use Rattle.session.specs.Telling.{Driverless}
 use Rattle.session_state.specs.declared.stage.Stage.{Stage}
 use Rattle.session_state.specs.declared.stage.Stage.TheVariants.{Unopened, Pushing, Idle, Ready}
-use Rattle.session_state.specs.declared.stage.Stage.TheVariants.{Over}
+use Rattle.session_state.specs.declared.stage.Stage.TheVariants.{Over, Reading}
 use Rattle.mutt_run.specs.Choice.{Task, TellValues, first_of, setup_of, task_of}
 use Rattle.mutt_run.specs.Ending.{EndsAs, EndsDone, IsNoUsage}
 use Rattle.mutt_run.specs.Printed.{Prints, PrintsBut, pieces, values_text}
@@ -33,13 +33,14 @@ use Rattle.mutt_run.proofs.ReadsLemmas.{IsBroken, IsOtherThanDisk, cut_status, e
 use Rattle.mutt_run.proofs.ReadsLemmas.{no_fault}
 use Rattle.mutt_run.proofs.ReadsLemmas.{notes_cut, notes_whole, prints_all, reads_by, takes_none}
 use Rattle.mutt_run.proofs.ReadsLemmas.{usage_free}
-use Rattle.mutt_run.proofs.RunLemmas.{files_stage}
+use Rattle.session.proofs.StepsLemmas.{files_unopened}
 
 abbrev IsUnopened : Stage → Type 0
 IsUnopened Unopened = Unit {0}
 IsUnopened Pushing = ⊥
 IsUnopened Idle = ⊥
 IsUnopened Ready = ⊥
+IsUnopened Reading = ⊥
 IsUnopened Over = ⊥
 
 module _ (o : PlainOptions) (start : ℤ) (given : Given) (setup : PlainSetup)
@@ -64,7 +65,7 @@ module _ (o : PlainOptions) (start : ℤ) (given : Given) (setup : PlainSetup)
   not_over : (Rises : Type 0) → (after_events given (first_of o start) events).turn.stage ≡ Over → Rises
   not_over Rises over =
       absurd (subst IsUnopened
-      (sym (files_stage given (first_of o start) events read.are refl) ∙ over) tt)
+      (sym (files_unopened given (first_of o start) events read.are refl) ∙ over) tt)
 
   reads_values : (status : Status) → EndsAs given o start status events old.left new.left
       → Prints status (pieces given (task_of o) (first_of o start) events) old.written new.written
@@ -73,7 +74,7 @@ module _ (o : PlainOptions) (start : ℤ) (given : Given) (setup : PlainSetup)
       → (status ≡ DiskFault → Rose old.disk.faults new.disk.faults) → IsNoUsage status
       → Reads (Ok o) start Driverless given status events old new
   reads_values status ends printed but noted fault no_usage =
-      reads_by o start Driverless given status [] events [] events old new begins tt
+      reads_by o start Driverless given status [] events [] events old new new.disk begins tt
       (sym (append-nil events)) (read.run given (keeps_same given.verdicts)) ends (record { pending = []; taken = 0 })
       (subst (λ (l : Option (List ℕ)). TakesKeys [] (record { pending = []; taken = 0 }) old.left l)
       (sym same_left) (takes_none old.left))

@@ -22,13 +22,14 @@ use Rattle.session.specs.Telling.{Driverless, Witnessed}
 use Rattle.session.proofs.TellingLemmas.{witnessed_files, witnessed_none}
 use Rattle.session_state.specs.declared.stage.Stage.{Stage}
 use Rattle.session_state.specs.declared.stage.Stage.TheVariants.{Unopened, Pushing, Idle, Ready}
-use Rattle.session_state.specs.declared.stage.Stage.TheVariants.{Over}
+use Rattle.session_state.specs.declared.stage.Stage.TheVariants.{Over, Reading}
 use Rattle.mutt_run.specs.Choice.{Task, ReadFolder, TellValues, TellVersion, acted_on, first_by}
 use Rattle.mutt_run.specs.Choice.{query_task, setup_of, task_by, task_of}
 use Rattle.mutt_run.specs.Ending.{EndsAs, EndsDone, IsChosen}
 use Rattle.mutt_run.specs.Printed.{Prints, PrintsBut, TellsVersion, pieces, pieces_by, values_text}
 use Rattle.mutt_run.specs.Printed.{version_line}
-use Rattle.mutt_run.specs.Reading.{CountsStreams, Outside, Reads}
+use Rattle.mutt_run.specs.Going.{CountsStreams}
+use Rattle.mutt_run.specs.Reading.{Outside, Reads}
 use Rattle.mutt_run.specs.Taken.{Gives, TakesKeys}
 use Rattle.mutt_run.specs.declared.status.Status.{Status}
 use Rattle.mutt_run.specs.declared.status.Status.TheVariants.{Done, Usage, NotOpened, DiskFault}
@@ -96,6 +97,7 @@ IsUnopened Unopened = Unit {0}
 IsUnopened Pushing = ⊥
 IsUnopened Idle = ⊥
 IsUnopened Ready = ⊥
+IsUnopened Reading = ⊥
 IsUnopened Over = ⊥
 
 abbrev IsDone : Status → Type 0

@@ -17,7 +17,7 @@ use Rattle.session_events.specs.declared.event.Marks.{Marks}
 use Rattle.session_events.specs.declared.event.OpenFault.{OpenFault}
 use Rattle.session_events.specs.declared.event.OpenFault.TheVariants.{Folder}
 use Rattle.mutt_run.specs.Choice.{Task, TellVersion, TellValues, ReadFolder, first_of, task_of}
-use Rattle.mutt_run.specs.Going.{AreKeys, EndsKeys}
+use Rattle.mutt_run.specs.Going.{AreActs, EndsKeys}
 use Rattle.mutt_run.specs.Taken.{TakesKeys, pressed_keys}
 use Rattle.mutt_run.specs.declared.status.Status.{Status}
 use Rattle.mutt_run.specs.declared.status.Status.TheVariants.{Done, Usage, NotOpened, DiskFault}
@@ -26,7 +26,7 @@ use Rattle.mutt_run.specs.declared.status.Status.TheVariants.{Empty}
 use Rattle.mutt_run.specs.declared.status.Status.TheVariants.{TooManyKeys}
 
 -- files of commands were read, a folder was opened in which these messages stood, and then keys
--- were pressed
+-- were pressed, which may have come to further files
 pub record IsOpened (came : List Listed) (keys events : List Happening) : Type 0 where
   pub files : List Happening
   pub path : List ℕ
@@ -34,7 +34,7 @@ pub record IsOpened (came : List Listed) (keys events : List Happening) : Type 0
   pub moment : ℤ
   pub marks : Marks
   pub are_files : AreFiles files
-  pub are_keys : AreKeys keys
+  pub are_acts : AreActs keys
   pub events_are : events ≡ files ++ FolderOpened path kind moment came marks ∷ keys
 
 -- files of commands were read, and then a folder was not opened for this cause
@@ -61,7 +61,7 @@ abbrev pub EndsDone : Given → Task → PlainOptions → ℤ → List Happening
     → Option (List ℕ) → Type 0
 EndsDone given TellVersion o start events old new = events ≡ []
 EndsDone given (TellValues names) o start events old new =
-    AreFiles events × ((after_events given (first_of o start) events).frames ≡ [])
+    AreFiles events × ((after_events given (first_of o start) events).turn.core.frames ≡ [])
 EndsDone given ReadFolder o start events old new = EndsShown given o start Done events old new
 
 -- how the events of a run with this status end, and what is left of the keys

@@ -11,13 +11,13 @@ use Rattle.session_events.specs.Events.{Happening, FileRead, FileRefused, KeyPre
 use Rattle.session_events.specs.Events.{FolderRefused}
 use Rattle.session.specs.Given.{Given}
 use Rattle.session.specs.Runs.{IsRunFrom, State, after_events, screens_from}
-use Rattle.session.specs.Steps.{Stands}
+use Rattle.session.specs.Steps.{Stands, Waits}
 use Rattle.session_events.specs.declared.setup.Next.{Next}
 use Rattle.session_events.specs.declared.setup.Next.TheVariants.{Go, Quit}
 use Rattle.session_state.specs.declared.stage.Stage.{Stage}
 use Rattle.session_state.specs.declared.stage.Stage.TheVariants.{Idle, Over}
 use Rattle.mutt_run.specs.Printed.{PrintsBut}
-use Rattle.mutt_run.specs.Screens.{screen_text}
+use Rattle.mutt_run.specs.Screens.{printed_lines, screen_text}
 use Rattle.mutt_run.specs.Taken.{Gives, TakesKeys, pressed_keys, pressed_moments}
 use Rattle.mutt_run.specs.declared.status.Status.{Status}
 use Rattle.mutt_run.specs.declared.status.Status.TheVariants.{Done, Usage, NotOpened, DiskFault}
@@ -35,12 +35,28 @@ pub record Shows {T : Type 0} (result : Result T Status) (piece : List ℕ)
   pub cause : IsErrOf result OutFault → Rose faults faults'
   pub later : faults ≤ faults'
 
--- a fault of the keys, and one of what is written, is answered only where it was counted
-pub record CountsFaults (status : Status) (keys_before keys_after out_before out_after : ℕ)
-    : Type 0 where
+-- a fault of the keys, and one of what is written or told, is answered only where it was counted
+pub record CountsStreams (status : Status) (keys_before keys_after out_before out_after : ℕ)
+    (errs_before errs_after : ℕ) : Type 0 where
   pub keys : status ≡ KeysFault → Rose keys_before keys_after
-  pub out : status ≡ OutFault → Rose out_before out_after
-  pub later : out_before ≤ out_after
+  pub out : status ≡ OutFault → Rose out_before out_after ⊎ Rose errs_before errs_after
+  pub later : errs_before ≤ errs_after
+
+-- what is written and told, and the faults of telling
+pub record Streams : Type 0 where
+  pub out : Option (List ℕ)
+  pub errs : Option (List ℕ)
+  pub faults : ℕ
+
+abbrev pub streams : Option (List ℕ) → Option (List ℕ) → ℕ → Streams
+streams out errs faults = record { out = out; errs = errs; faults = faults }
+
+-- A text was told: all of it, unless the fault stream failed or memory ran out.
+abbrev pub TellsText : Status → List ℕ → Streams → Streams → Type 0
+TellsText OutFault text old new =
+    (rest : List ℕ) × Sent old.errs new.errs text rest × ((rest ≡ []) ⊎ Rose old.faults new.faults)
+TellsText NoMemory text old new = (rest : List ℕ) × Sent old.errs new.errs text rest
+TellsText status text old new = Appends old.errs new.errs text
 
 -- the events are a run to this state, and its screens were printed
 pub record Goes (given : Given) (first : State) (events : List Happening) (state : State)
@@ -58,31 +74,60 @@ pub record Breaks (given : Given) (first : State) (events : List Happening)
   pub whole : (after_events given first events).turn.stage ≡ Over
       → Appends old new (concat (map screen_text (screens_from given first events)))
 
+-- The same, and the lines of faulty commands were told.
+pub record GoesOut (given : Given) (first : State) (events : List Happening) (state : State)
+    (old new : Streams) : Type 0 where
+  pub goes : Goes given first events state old.out new.out
+  pub noted : Appends old.errs new.errs (printed_lines state.notes)
+  pub later : old.faults ≤ new.faults
+
+-- A run broke off with a status, and so did its screens and lines.
+pub record BreaksOut (given : Given) (status : Status) (first : State) (events : List Happening)
+    (old new : Streams) : Type 0 where
+  pub breaks : Breaks given first events old.out new.out
+  pub noted : TellsText status (printed_lines (after_events given first events).notes) old new
+
+-- These screens were printed and these lines told.
+pub record GoesSo (old new : Streams) (screens : List (List (List ℕ)))
+    (notes : List (List ℕ)) : Type 0 where
+  pub sent : Appends old.out new.out (concat (map screen_text screens))
+  pub noted : Appends old.errs new.errs (printed_lines notes)
+  pub later : old.faults ≤ new.faults
+
+-- a folder is open and its keys wait; nothing was printed yet, and the lines of faulty commands
+-- were told
+pub record BeginsOut (given : Given) (first : State) (events : List Happening) (state : State)
+    (old new : Streams) : Type 0 where
+  pub waits : Waits given first events state
+  pub unprinted : new.out ≡ old.out
+  pub noted : Appends old.errs new.errs (printed_lines state.notes)
+  pub later : old.faults ≤ new.faults
+
 -- a key was taken, and the next screen was printed or the run is over; or it broke off
-abbrev pub Turned : Given → Result Next Status → State → List Happening → State
-    → Option (List ℕ) → Option (List ℕ) → Type 0
-Turned given (Ok next) first events state old new = Goes given first events state old new
-Turned given (Err status) first events state old new = Breaks given first events old new
+abbrev pub Turned : Given → Result Next Status → State → List Happening → State → Streams → Streams
+    → Type 0
+Turned given (Ok next) first events state old new = GoesOut given first events state old new
+Turned given (Err status) first events state old new = BreaksOut given status first events old new
 
 abbrev pub IsTurnedTo : Result Next Status → Stage → Type 0
 IsTurnedTo (Ok Go) stage = stage ≡ Idle
 IsTurnedTo (Ok Quit) stage = stage ≡ Over
 IsTurnedTo (Err status) stage = (status ≡ OutFault) ⊎ (status ≡ NoMemory)
 
--- keys alone
-abbrev pub AreKeys : List Happening → Type 0
-AreKeys [] = Unit {0}
-AreKeys (KeyPressed key moment ∷ events) = AreKeys events
-AreKeys (FileRead path text marks ∷ events) = ⊥
-AreKeys (FileRefused path why marks ∷ events) = ⊥
-AreKeys (FolderOpened path kind moment came marks ∷ events) = ⊥
-AreKeys (FolderRefused path why marks ∷ events) = ⊥
+-- keys, and files of commands that they came to
+abbrev pub AreActs : List Happening → Type 0
+AreActs [] = Unit {0}
+AreActs (KeyPressed key moment ∷ events) = AreActs events
+AreActs (FileRead path text marks ∷ events) = AreActs events
+AreActs (FileRefused path why marks ∷ events) = AreActs events
+AreActs (FolderOpened path kind moment came marks ∷ events) = ⊥
+AreActs (FolderRefused path why marks ∷ events) = ⊥
 
 -- keys were pressed: their bytes were taken, and their moments
 pub record Presses (events events' : List Happening) (reader : PlainReader)
     (keys keys' : Option (List ℕ)) (clock clock' : Option (List ℤ)) : Type 0 where
   pub more : List Happening
-  pub are_keys : AreKeys more
+  pub are_acts : AreActs more
   pub events_are : events' ≡ events ++ more
   pub takes : TakesKeys (pressed_keys more) reader keys keys'
   pub given : Gives clock clock' (pressed_moments more)
@@ -105,11 +150,10 @@ EndsKeys DiskFault stage reader left = ⊥
 EndsKeys Empty stage reader left = ⊥
 
 -- the run goes on up to its end, or breaks off
-abbrev pub Ended : Given → Status → State → List Happening → State → Option (List ℕ)
-    → Option (List ℕ) → Type 0
-Ended given OutFault first events state old new = Breaks given first events old new
-Ended given NoMemory first events state old new = Breaks given first events old new
-Ended given status first events state old new = Goes given first events state old new
+abbrev pub Ended : Given → Status → State → List Happening → State → Streams → Streams → Type 0
+Ended given OutFault first events state old new = BreaksOut given OutFault first events old new
+Ended given NoMemory first events state old new = BreaksOut given NoMemory first events old new
+Ended given status first events state old new = GoesOut given first events state old new
 
 -- keys were pressed up to this end
 pub record GoesToEnd (status : Status) (events events' : List Happening) (stage : Stage)

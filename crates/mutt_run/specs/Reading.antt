@@ -1,5 +1,5 @@
 -- What a run does outside.
-use Rattle.std.specs.Prelude.{◌≡◌, ◌≤◌, ◌⊎◌, ◌∷◌, ℕ, ℤ, List, [], Option, Result}
+use Rattle.std.specs.Prelude.{◌≡◌, ◌⊎◌, ◌∷◌, ℕ, ℤ, List, Option, Result}
 use Rattle.std.specs.Io.KnownBytes.{Appends}
 use Rattle.std.specs.List.{concat}
 use Rattle.mail_base.specs.Faults.{Rose}
@@ -17,12 +17,13 @@ use Rattle.session_state.specs.declared.stage.Stage.TheVariants.{Over}
 use Rattle.mutt_run.specs.Choice.{acted_on, first_by, state_by}
 use Rattle.mutt_run.specs.Complete.{IsPlainEnd, NamesReadable}
 use Rattle.mutt_run.specs.Ending.{AllListed, EndsAs, IsChosen}
+use Rattle.mutt_run.specs.Going.{Streams, TellsText, streams}
 use Rattle.mutt_run.specs.Notes.{Tells, folder_in}
 use Rattle.mutt_run.specs.Printed.{Prints, PrintsBut, pieces_by}
 use Rattle.mutt_run.specs.Screens.{printed_lines}
 use Rattle.mutt_run.specs.Taken.{Gives, IsStart, TakesKeys, pressed_keys, pressed_moments}
 use Rattle.mutt_run.specs.declared.status.Status.{Status}
-use Rattle.mutt_run.specs.declared.status.Status.TheVariants.{DiskFault, KeysFault}
+use Rattle.mutt_run.specs.declared.status.Status.TheVariants.{DiskFault}
 use Rattle.mutt_run.specs.declared.status.Status.TheVariants.{OutFault, NoMemory}
 
 -- what was printed and told so far, with the faults of telling; what is left of the keys; the
@@ -46,12 +47,12 @@ outside written told faults left moments disk = record {
   disk = disk;
 }
 
--- The lines of faulty commands were told: all, unless the fault stream failed or memory ran out.
+abbrev pub streams_of : Outside → Streams
+streams_of o = streams o.written o.told o.faults
+
+-- the lines of faulty commands were told
 abbrev pub TellsNotes : Status → List ℕ → Outside → Outside → Type 0
-TellsNotes OutFault text old new =
-    (rest : List ℕ) × Sent old.told new.told text rest × ((rest ≡ []) ⊎ Rose old.faults new.faults)
-TellsNotes NoMemory text old new = (rest : List ℕ) × Sent old.told new.told text rest
-TellsNotes status text old new = Appends old.told new.told text
+TellsNotes status text old new = TellsText status text (streams_of old) (streams_of new)
 
 -- The events are a run that ends with this status; their keys and moments were taken, what they ask
 -- for was printed and told, and what they say is true. Whatever the status, no more than a rest of
@@ -100,13 +101,6 @@ pub record RunsFrom (choice : Result PlainOptions (List ℕ)) (start : ℤ) (Has
   -- keys.
   pub complete : NamesReadable Has given choice start events new.disk.told → Quiet
       → IsPlainEnd status
-
--- a fault of the keys, and one of what is written or told, is answered only where it was counted
-pub record CountsStreams (status : Status) (keys_before keys_after out_before out_after : ℕ)
-    (errs_before errs_after : ℕ) : Type 0 where
-  pub keys : status ≡ KeysFault → Rose keys_before keys_after
-  pub out : status ≡ OutFault → Rose out_before out_after ⊎ Rose errs_before errs_after
-  pub later : errs_before ≤ errs_after
 
 -- For the code alone.
 

@@ -1,7 +1,7 @@
 //! What is printed, each piece in one write.
 
 ghost use Rattle.std.specs.Prelude.{◌≡◌, ◌≤◌, ◌++◌, ℕ, List, IfErr, IfOk};
-ghost use Rattle.std.specs.Prelude.{OnErr, OnOk};
+ghost use Rattle.std.specs.Prelude.{OnErr, OnOk, map};
 ghost use Rattle.std.specs.Io.KnownBytes.{Appends};
 ghost use Rattle.mail_base.specs.Faults.{Rose};
 ghost use Rattle.mail_base.specs.Series.{plain_texts};
@@ -9,7 +9,7 @@ ghost use Rattle.mail_base.specs.Streams.{Sent};
 ghost use Rattle.mutt_run.specs.Screens as spec;
 
 use crate::status::Status;
-use mail_base::{Bytes, Lines, NoMemory, Sink};
+use mail_base::{Bytes, Line, Lines, NoMemory, Sink};
 use std::alloc::Global;
 
 /// Adds lines, each with its LF.
@@ -17,7 +17,15 @@ pub fn put_lines(out: &mut Bytes, lines: &Lines) -> Result<(), NoMemory>
     ensures { OnOk result (out.new.items
         ≡ out.old.items ++ spec.printed_lines (plain_texts lines.now)) }
 {
-    let mut left = lines.as_slice();
+    put_each(out, lines.as_slice())
+}
+
+/// Adds these lines, each with its LF.
+pub fn put_each(out: &mut Bytes, lines: &[Line]) -> Result<(), NoMemory>
+    ensures { OnOk result (out.new.items ≡ out.old.items
+        ++ spec.printed_lines (map (λ line. line.items) lines.now)) }
+{
+    let mut left = lines;
     while let Some((line, rest)) = left.split_first() {
         out.append(line.as_slice())?;
         out.push(b'\n')?;

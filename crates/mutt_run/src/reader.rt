@@ -15,7 +15,8 @@ ghost use Rattle.session.specs.Given.{given_of};
 ghost use Rattle.mutt_run.specs.Ending.{AllListed, IsChosen};
 ghost use Rattle.mutt_run.specs.Notes.{folder_in};
 ghost use Rattle.mutt_run.specs.Printed.{TellsVersion};
-ghost use Rattle.mutt_run.specs.Reading.{CountsStreams, Reads, RunsFrom, outside};
+ghost use Rattle.mutt_run.specs.Going.{CountsStreams};
+ghost use Rattle.mutt_run.specs.Reading.{Reads, RunsFrom, outside};
 ghost use Rattle.mutt_run.specs.Taken.{TakesSome};
 ghost use Rattle.mutt_run.specs.declared.status.Status.TheVariants.{DiskFault, KeysFault, OutFault};
 

@@ -15,7 +15,8 @@ ghost use Rattle.session.specs.Runs.{plain_session};
 ghost use Rattle.session.specs.Starting.{plain_setup};
 ghost use Rattle.session.specs.Telling.{Driverless};
 ghost use Rattle.mutt_run.specs.Choice.{ReadFolder, TellValues, first_of, setup_of, task_of};
-ghost use Rattle.mutt_run.specs.Reading.{CountsStreams, Reads, TellsRefused, outside};
+ghost use Rattle.mutt_run.specs.Going.{CountsStreams};
+ghost use Rattle.mutt_run.specs.Reading.{Reads, TellsRefused, outside};
 ghost use Rattle.mutt_run.specs.Screens.{printed_lines};
 
 use crate::printing::{print, put_lines};
@@ -68,6 +69,7 @@ pub fn read<K: Source, O: Sink, E: Sink, C: Clock>(
             keys,
             out,
             errs,
+            dev,
             drivers,
             clock,
             &mut session,
@@ -88,6 +90,7 @@ fn read_on<K: Source, O: Sink, E: Sink, C: Clock>(
     keys: &mut K,
     out: &mut O,
     errs: &mut E,
+    dev: &mut Device,
     drivers: &Drivers,
     clock: &mut C,
     session: &mut Session,
@@ -95,11 +98,12 @@ fn read_on<K: Source, O: Sink, E: Sink, C: Clock>(
 ) -> Status
     requires fits { Fits (map plain_letter trace.old.archive.items) session.old }
     ensures reads { (o : PlainOptions) → o.skip_empty ≡ skip_empty → task_of o ≡ ReadFolder
-        → (start : ℤ) → (before now : Seen) → ((given : Given)
+        → (start : ℤ) → (before : Seen) → ((given : Given)
         → IsGiven (map plain_letter trace.old.archive.items) trace.old.verdicts.kept given → Starts
         (λ kind. Any (λ d. sort (d.vtable, d.value) ≡ kind) drivers.now.list.items)
         given (first_of o start) start (plain_events trace.old.events.items)
-        (plain_session session.old trace.old.notes) before now)
+        (plain_session session.old trace.old.notes) before
+        (seen (dev.old.disk.vtable, dev.old.disk.value)))
         → Reads (Ok o) start
         (λ kind. Any (λ d. sort (d.vtable, d.value) ≡ kind) drivers.now.list.items)
         (given_of (map plain_letter trace.new.archive.items) trace.new.verdicts.kept)
@@ -107,7 +111,7 @@ fn read_on<K: Source, O: Sink, E: Sink, C: Clock>(
         (outside (O.written out.old) (E.written errs.old) (E.faults errs.old) (K.left keys.old)
         (C.moments clock.old) before)
         (outside (O.written out.new) (E.written errs.new) (E.faults errs.new) (K.left keys.new)
-        (C.moments clock.new) now) }
+        (C.moments clock.new) (seen (dev.new.disk.vtable, dev.new.disk.value))) }
     ensures faults { CountsStreams result (K.faults keys.old) (K.faults keys.new)
         (O.faults out.old) (O.faults out.new) (E.faults errs.old) (E.faults errs.new) }
 {
@@ -117,7 +121,7 @@ fn read_on<K: Source, O: Sink, E: Sink, C: Clock>(
     if is_hidden(skip_empty, session.listing.as_slice()) {
         return Status::Empty;
     }
-    go(alloc, keys, out, drivers, clock, session, trace)
+    go(alloc, keys, out, errs, dev, drivers, clock, session, trace)
 }
 
 // Whether a folder with these messages is not shown.

@@ -1,26 +1,26 @@
 //! The keys of a run, one after the other.
 
-ghost use Rattle.std.specs.Prelude.{◌≡◌, ◌≤◌, ◌<◌, ◌++◌, ◌∷◌, [], ℕ, List, Any};
-ghost use Rattle.std.specs.Prelude.{OnOk, IsErrOf, map, Option};
+ghost use Rattle.std.specs.Prelude.{◌≡◌, ◌≤◌, ◌<◌, ◌⊎◌, ℕ, List, Any};
+ghost use Rattle.std.specs.Prelude.{OnOk, IsErrOf, length, map};
 ghost use Rattle.mail_base.specs.Faults.{Rose};
-ghost use Rattle.disk_model.specs.Seen.{Seen};
 ghost use Rattle.folder_core.specs.Letters.{plain_letter};
-ghost use Rattle.session_events.specs.Events.{KeyPressed, plain_events};
+ghost use Rattle.session_events.specs.Events.{plain_events};
 ghost use Rattle.session_state.specs.Instants.{IsMoment};
 ghost use Rattle.session.specs.Fitting.{Fits};
 ghost use Rattle.session.specs.Given.{Given, IsGiven};
 ghost use Rattle.patterns.specs.Causes.{Keeps};
-ghost use Rattle.session.specs.Runs.{State, plain_session, screen_in};
-ghost use Rattle.session.specs.Steps.{Waits};
-ghost use Rattle.session.specs.Telling.{Witnessed};
+ghost use Rattle.session.specs.Runs.{State, after_events, plain_session, screen_in};
+ghost use Rattle.session.specs.Steps.{GoesOn, IsNext, PressesKey, StaysTold};
 ghost use Rattle.session_state.specs.declared.stage.Stage.TheVariants.{Idle};
-ghost use Rattle.mutt_run.specs.Going.{CountsFaults, Ended, Goes, GoesToEnd, IsTurnedTo, Shows};
-ghost use Rattle.mutt_run.specs.Going.{Turned};
+ghost use Rattle.mutt_run.specs.Going.{BeginsOut, CountsStreams, Ended, GoesOut, GoesSo, GoesToEnd};
+ghost use Rattle.mutt_run.specs.Going.{IsTurnedTo, Shows, Streams, Turned, streams};
 ghost use Rattle.mutt_run.specs.Screens.{screen_text};
 
 use crate::clock::now;
 use crate::printing::{print, screen_bytes};
 use crate::status::Status;
+use crate::told::tell_later;
+use disk_model::Device;
 use folder_core::Drivers;
 use keymap::{Key, KeyFault, KeyReader};
 use mail_base::{Clock, NoMemory, Sink, Source};
@@ -33,10 +33,12 @@ const MOST_KEYS: u32 = 16_777_216;
 
 /// Lets the keys act that commands have put, prints the first screen, and goes on by keys until one
 /// ends the run, they end, or a stream fails.
-pub fn go<K: Source, O: Sink, C: Clock>(
+pub fn go<K: Source, O: Sink, E: Sink, C: Clock>(
     alloc: Global,
     keys: &mut K,
     out: &mut O,
+    errs: &mut E,
+    dev: &mut Device,
     drivers: &Drivers,
     clock: &mut C,
     session: &mut Session,
@@ -45,39 +47,43 @@ pub fn go<K: Source, O: Sink, C: Clock>(
     requires fits { Fits (map plain_letter trace.old.archive.items) session.old }
     ensures ended { (given : Given)
         → IsGiven (map plain_letter trace.new.archive.items) trace.new.verdicts.kept given
-        → (first : State) → Waits given first (plain_events trace.old.events.items)
-        (plain_session session.old trace.old.notes)
+        → (first : State) → (start : Streams) → BeginsOut given first
+        (plain_events trace.old.events.items) (plain_session session.old trace.old.notes) start
+        (streams (O.written out.old) (E.written errs.old) (E.faults errs.old))
         → Ended given result first (plain_events trace.new.events.items)
-        (plain_session session.new trace.new.notes) (O.written out.old) (O.written out.new) }
+        (plain_session session.new trace.new.notes) start
+        (streams (O.written out.new) (E.written errs.new) (E.faults errs.new)) }
     ensures pressed { GoesToEnd result (plain_events trace.old.events.items)
         (plain_events trace.new.events.items) session.new.stage (K.left keys.old)
         (K.left keys.new) (C.moments clock.old) (C.moments clock.new) }
-    ensures told { (given : Given) → (first : State) → (before seen : Seen)
-        → Witnessed (λ kind. Any (λ d. sort (d.vtable, d.value) ≡ kind) drivers.now.list.items)
-        given first (plain_events trace.old.events.items) before seen
-        → Witnessed (λ kind. Any (λ d. sort (d.vtable, d.value) ≡ kind) drivers.now.list.items)
-        given first (plain_events trace.new.events.items) before seen }
+    ensures told { StaysTold (λ kind. Any (λ d. sort (d.vtable, d.value) ≡ kind)
+        drivers.now.list.items) (plain_events trace.old.events.items)
+        (plain_events trace.new.events.items)
+        (seen (dev.old.disk.vtable, dev.old.disk.value))
+        (seen (dev.new.disk.vtable, dev.new.disk.value)) }
     ensures archive { trace.new.archive ≡ trace.old.archive }
     ensures kept { Keeps trace.old.verdicts.kept trace.new.verdicts.kept }
-    ensures faults { CountsFaults result (K.faults keys.old) (K.faults keys.new)
-        (O.faults out.old) (O.faults out.new) }
+    ensures faults { CountsStreams result (K.faults keys.old) (K.faults keys.new)
+        (O.faults out.old) (O.faults out.new) (E.faults errs.old) (E.faults errs.new) }
 {
-    match session.pushed(trace) {
-        Err(NoMemory) => return Status::NoMemory,
-        Ok(Next::Quit) => return Status::Done,
-        Ok(Next::Go) => {}
+    let told = trace.notes.len();
+    let Ok(next) = session.pushed(dev, drivers, trace) else {
+        return Status::NoMemory;
+    };
+    match tell_and_show(alloc, next, told, out, errs, session, trace) {
+        Ok(Next::Go) => press_all(alloc, keys, out, errs, dev, drivers, clock, session, trace),
+        Ok(Next::Quit) => Status::Done,
+        Err(status) => status,
     }
-    if let Err(status) = show(alloc, out, session, trace) {
-        return status;
-    }
-    press_all(alloc, keys, out, drivers, clock, session, trace)
 }
 
 /// Goes on by keys from a screen.
-fn press_all<K: Source, O: Sink, C: Clock>(
+fn press_all<K: Source, O: Sink, E: Sink, C: Clock>(
     alloc: Global,
     keys: &mut K,
     out: &mut O,
+    errs: &mut E,
+    dev: &mut Device,
     drivers: &Drivers,
     clock: &mut C,
     session: &mut Session,
@@ -87,23 +93,24 @@ fn press_all<K: Source, O: Sink, C: Clock>(
     requires fits { Fits (map plain_letter trace.old.archive.items) session.old }
     ensures ended { (given : Given)
         → IsGiven (map plain_letter trace.new.archive.items) trace.new.verdicts.kept given
-        → (first : State) → (start : Option (List ℕ)) → Goes given first
-        (plain_events trace.old.events.items) (plain_session session.old trace.old.notes)
-        start (O.written out.old)
+        → (first : State) → (start : Streams) → GoesOut given first
+        (plain_events trace.old.events.items) (plain_session session.old trace.old.notes) start
+        (streams (O.written out.old) (E.written errs.old) (E.faults errs.old))
         → Ended given result first (plain_events trace.new.events.items)
-        (plain_session session.new trace.new.notes) start (O.written out.new) }
+        (plain_session session.new trace.new.notes) start
+        (streams (O.written out.new) (E.written errs.new) (E.faults errs.new)) }
     ensures pressed { GoesToEnd result (plain_events trace.old.events.items)
         (plain_events trace.new.events.items) session.new.stage (K.left keys.old)
         (K.left keys.new) (C.moments clock.old) (C.moments clock.new) }
-    ensures told { (given : Given) → (first : State) → (before seen : Seen)
-        → Witnessed (λ kind. Any (λ d. sort (d.vtable, d.value) ≡ kind) drivers.now.list.items)
-        given first (plain_events trace.old.events.items) before seen
-        → Witnessed (λ kind. Any (λ d. sort (d.vtable, d.value) ≡ kind) drivers.now.list.items)
-        given first (plain_events trace.new.events.items) before seen }
+    ensures told { StaysTold (λ kind. Any (λ d. sort (d.vtable, d.value) ≡ kind)
+        drivers.now.list.items) (plain_events trace.old.events.items)
+        (plain_events trace.new.events.items)
+        (seen (dev.old.disk.vtable, dev.old.disk.value))
+        (seen (dev.new.disk.vtable, dev.new.disk.value)) }
     ensures archive { trace.new.archive ≡ trace.old.archive }
     ensures kept { Keeps trace.old.verdicts.kept trace.new.verdicts.kept }
-    ensures faults { CountsFaults result (K.faults keys.old) (K.faults keys.new)
-        (O.faults out.old) (O.faults out.new) }
+    ensures faults { CountsStreams result (K.faults keys.old) (K.faults keys.new)
+        (O.faults out.old) (O.faults out.new) (E.faults errs.old) (E.faults errs.new) }
 {
     let mut reader = KeyReader::new();
     for _turn in 0..MOST_KEYS {
@@ -117,7 +124,7 @@ fn press_all<K: Source, O: Sink, C: Clock>(
             Err(KeyFault::TooManyKeys) => return Status::TooManyKeys,
         };
         let moment = now(clock);
-        match turn(alloc, key, moment, out, drivers, session, trace) {
+        match turn(alloc, key, moment, out, errs, dev, drivers, session, trace) {
             Ok(Next::Go) => {}
             Ok(Next::Quit) => return Status::Done,
             Err(status) => return status,
@@ -127,11 +134,13 @@ fn press_all<K: Source, O: Sink, C: Clock>(
 }
 
 /// Does what a key is bound to, and prints the next screen.
-fn turn<O: Sink>(
+fn turn<O: Sink, E: Sink>(
     alloc: Global,
     key: Key,
     moment: i64,
     out: &mut O,
+    errs: &mut E,
+    dev: &mut Device,
     drivers: &Drivers,
     session: &mut Session,
     trace: &mut Trace,
@@ -142,33 +151,72 @@ fn turn<O: Sink>(
     requires room { 0 < trace.old.events.room }
     ensures turned { (given : Given)
         → IsGiven (map plain_letter trace.new.archive.items) trace.new.verdicts.kept given
-        → (first : State) → (start : Option (List ℕ)) → Goes given first
-        (plain_events trace.old.events.items) (plain_session session.old trace.old.notes)
-        start (O.written out.old)
+        → (first : State) → (start : Streams) → GoesOut given first
+        (plain_events trace.old.events.items) (plain_session session.old trace.old.notes) start
+        (streams (O.written out.old) (E.written errs.old) (E.faults errs.old))
         → Turned given result first (plain_events trace.new.events.items)
-        (plain_session session.new trace.new.notes) start (O.written out.new) }
+        (plain_session session.new trace.new.notes) start
+        (streams (O.written out.new) (E.written errs.new) (E.faults errs.new)) }
     ensures to { IsTurnedTo result session.new.stage }
     ensures fits { OnOk result (Fits (map plain_letter trace.new.archive.items) session.new) }
-    ensures pressed { plain_events trace.new.events.items
-        ≡ plain_events trace.old.events.items ++ KeyPressed key moment ∷ [] }
-    ensures told { (given : Given) → (first : State) → (before seen : Seen)
-        → Witnessed (λ kind. Any (λ d. sort (d.vtable, d.value) ≡ kind) drivers.now.list.items)
-        given first (plain_events trace.old.events.items) before seen
-        → Witnessed (λ kind. Any (λ d. sort (d.vtable, d.value) ≡ kind) drivers.now.list.items)
-        given first (plain_events trace.new.events.items) before seen }
+    ensures pressed { PressesKey key moment (plain_events trace.old.events.items)
+        (plain_events trace.new.events.items) }
+    ensures told { StaysTold (λ kind. Any (λ d. sort (d.vtable, d.value) ≡ kind)
+        drivers.now.list.items) (plain_events trace.old.events.items)
+        (plain_events trace.new.events.items)
+        (seen (dev.old.disk.vtable, dev.old.disk.value))
+        (seen (dev.new.disk.vtable, dev.new.disk.value)) }
     ensures archive { trace.new.archive ≡ trace.old.archive }
     ensures kept { Keeps trace.old.verdicts.kept trace.new.verdicts.kept }
-    ensures cause { IsErrOf result Status.OutFault → Rose (O.faults out.old) (O.faults out.new) }
-    ensures later { O.faults out.old ≤ O.faults out.new }
+    ensures cause { IsErrOf result Status.OutFault → Rose (O.faults out.old) (O.faults out.new)
+        ⊎ Rose (E.faults errs.old) (E.faults errs.new) }
+    ensures later { (O.faults out.old ≤ O.faults out.new)
+        × (E.faults errs.old ≤ E.faults errs.new) }
 {
     session.check(trace);
-    match session.key(key, moment, drivers, trace) {
+    let told = trace.notes.len();
+    match session.key(key, moment, dev, drivers, trace) {
         Err(NoMemory) => Err(Status::NoMemory),
-        Ok(Next::Quit) => Ok(Next::Quit),
-        Ok(Next::Go) => match show(alloc, out, session, trace) {
-            Ok(()) => Ok(Next::Go),
-            Err(status) => Err(status),
-        },
+        Ok(next) => tell_and_show(alloc, next, told, out, errs, session, trace),
+    }
+}
+
+/// Tells of faulty commands behind the first so many, and prints the screen, unless the run is
+/// over.
+fn tell_and_show<O: Sink, E: Sink>(
+    alloc: Global,
+    next: Next,
+    told: usize,
+    out: &mut O,
+    errs: &mut E,
+    session: &Session,
+    trace: &Trace,
+) -> Result<Next, Status>
+    requires fits { Fits (map plain_letter trace.now.archive.items) session.now }
+    requires next { IsNext next session.now.stage }
+    ensures answered { (given : Given) → given.mails ≡ map plain_letter trace.now.archive.items
+        → (first : State) → (screens : List (List (List ℕ))) → (notes : List (List ℕ))
+        → GoesOn given first (plain_events trace.now.events.items) screens notes
+        → after_events given first (plain_events trace.now.events.items)
+        ≡ plain_session session.now trace.now.notes
+        → told ≡ length notes → (start : Streams) → GoesSo start
+        (streams (O.written out.old) (E.written errs.old) (E.faults errs.old)) screens notes
+        → Turned given result first (plain_events trace.now.events.items)
+        (plain_session session.now trace.now.notes) start
+        (streams (O.written out.new) (E.written errs.new) (E.faults errs.new)) }
+    ensures to { IsTurnedTo result session.now.stage }
+    ensures cause { IsErrOf result Status.OutFault → Rose (O.faults out.old) (O.faults out.new)
+        ⊎ Rose (E.faults errs.old) (E.faults errs.new) }
+    ensures later { (O.faults out.old ≤ O.faults out.new)
+        × (E.faults errs.old ≤ E.faults errs.new) }
+{
+    tell_later(alloc, errs, &trace.notes, told)?;
+    match next {
+        Next::Quit => Ok(Next::Quit),
+        Next::Go => {
+            show(alloc, out, session, trace)?;
+            Ok(Next::Go)
+        }
     }
 }
 

@@ -1,7 +1,7 @@
 -- How a run goes on behind its files of commands.
 use Rattle.std.proofs.Common.{◌≡◌, ◌≤◌, ◌++◌, ℕ, ℤ, List, [], ◌∷◌, Option, Some, None, inl, inr}
 use Rattle.std.proofs.Common.{Result, Ok, Err, refl, sym, ◌∙◌, ap, subst, arith}
-use Rattle.std.specs.Prelude.{IfErr, IfOk, IsErrAnd, OnOk, map}
+use Rattle.std.specs.Prelude.{IfErr, IfOk, IsErrAnd, map}
 use Rattle.std.proofs.lemmas.List.{append-nil}
 use Rattle.std.proofs.lemmas.Option.{none-some}
 use Rattle.mail_base.specs.Faults.{Rose}
@@ -31,13 +31,13 @@ use Rattle.session.specs.Given.{Given}
 use Rattle.session_events.specs.Happened.{Counts, HasCause, IsListed}
 use Rattle.session.specs.Telling.{kind_in}
 use Rattle.session_events.specs.Opening.{IsOpening, OpensPath, refusal_of, start_error}
-use Rattle.session.specs.Runs.{Answers, State, after, after_events, arrived, first_wish}
-use Rattle.session_events.specs.Wishes.{moment_of}
+use Rattle.session.specs.Runs.{Answers, State, after, after_events, arrived, file_wish}
+use Rattle.session_events.specs.Wishes.{Open, moment_of}
 use Rattle.session.specs.Runs.{pushed, shown, wish_at}
-use Rattle.session.specs.Steps.{Sources, SourcesOff, Stands, Waits}
+use Rattle.session.specs.Steps.{GoesOn, IsFileless, Sources, SourcesOff, Stands, Waits}
 use Rattle.session.specs.Telling.{Driverless, Witnessed}
 use Rattle.session_events.specs.Telling.{Tells}
-use Rattle.session.proofs.StepsLemmas.{stands_push}
+use Rattle.session.proofs.StepsLemmas.{stands_goes, stands_push}
 use Rattle.session.proofs.TellingLemmas.{witnessed_files, witnessed_push}
 
 -- the keys that commands have put acted
@@ -49,6 +49,13 @@ waits_then given first s t events is waits =
       state_is = waits.state_is;
       screens_are = waits.screens_are;
     })
+
+-- they were broken off
+pub waits_on : {given : Given} {first s : State} {events : List Happening}
+    → Waits given first events s → GoesOn given first events [] s.notes
+waits_on {given} {first} {s} {events} waits =
+    stands_goes [] (sym (append-nil s.notes))
+    (waits_then given first s (pushed given s) events refl waits)
 
 rose_wider : (a b c d : ℕ) → a ≤ b → c ≡ d → Rose b c → Rose a d
 rose_wider a b c d low same rose =
@@ -83,62 +90,37 @@ pub no_memory : {T : Type 0} (result : Result T StartError) (Is : StartError →
     → IsErrAnd result (λ why. why ≡ error.NoMemory) → Is error.NoMemory → IfErr result Is
 no_memory result Is same is = if_error result error.NoMemory Is same is
 
--- What a result says of each past before it, it says of what that past came from.
-pub ok_from : {A E : Type 0} (From Was Is : State → Seen → Type 0) (result : Result A E)
-    → ((first : State) → (before : Seen) → From first before → Was first before)
-    → OnOk result ((first : State) → (before : Seen) → Was first before → Is first before)
-    → OnOk result ((first : State) → (before : Seen) → From first before → Is first before)
-ok_from From Was Is (Ok value) goes was = λ first before is. was first before (goes first before is)
-ok_from From Was Is (Err e) goes was = tt
-
-pub err_from : {A E : Type 0} (From Was : State → Seen → Type 0) (Is : E → State → Seen → Type 0)
-    (result : Result A E)
-    → ((first : State) → (before : Seen) → From first before → Was first before)
-    → IfErr result (λ e. (first : State) → (before : Seen) → Was first before → Is e first before)
-    → IfErr result (λ e. (first : State) → (before : Seen) → From first before → Is e first before)
-err_from From Was Is (Ok value) goes was = tt
-err_from From Was Is (Err e) goes was =
-    λ first before is. was first before (goes first before is)
-
-pub ok_at : {A E : Type 0} (From : State → Seen → Type 0) (Is : A → State → Seen → Type 0)
-    (result : Result A E)
-    → IfOk result (λ a. (first : State) → (before : Seen) → From first before → Is a first before)
-    → (first : State) (before : Seen) → From first before
-    → IfOk result (λ a. Is a first before)
-ok_at From Is (Ok value) was first before is = was first before is
-ok_at From Is (Err e) was first before is = tt
-
 -- the files were read to their ends, and names are asked for
 answers_names : {kept : List PlainJudged} (given : Given) → Keeps kept given.verdicts
     → (first s : State) (events : List Happening)
     (names lines : List (List ℕ)) (before now : Seen) → Sources kept first events s before now
-    → s.frames ≡ []
+    → s.turn.core.frames ≡ []
     → lines ≡ map (answer_line s.turn.core.rules.settings) names
     → AnswersNames given first events names lines s.notes
 answers_names given keeps first s events names lines before now sources read are =
     let at : after_events given first events ≡ s = (sources.stands given keeps).state_is in record {
-      read = ap (λ (u : State). u.frames) at ∙ read;
+      read = ap (λ (u : State). u.turn.core.frames) at ∙ read;
       noted = ap (λ (u : State). u.notes) at;
       lines_are = are ∙ sym (ap (λ (u : State).
           map (answer_line u.turn.core.rules.settings) names) at);
     }
 
-pub answers_from : {kept : List PlainJudged} (From : State → Seen → Type 0) (s : State)
-    (events : List Happening) (names : List (List ℕ)) (now : Seen)
-    (result : Result (Held (Held ℕ)) NoMemory)
-    → ((first : State) → (before : Seen) → From first before
-    → Sources kept first events s before now)
-    → s.frames ≡ []
+pub answers_at : {kept : List PlainJudged} (first s : State) (events : List Happening)
+    (names : List (List ℕ)) (before now : Seen) (result : Result (Held (Held ℕ)) NoMemory)
+    → Sources kept first events s before now → s.turn.core.frames ≡ []
     → IfOk result (λ lines. plain_texts lines
     ≡ map (answer_line s.turn.core.rules.settings) names)
-    → IfOk result (λ lines. (first : State) → (before : Seen) → From first before
-    → (given : Given) → Keeps kept given.verdicts
+    → IfOk result (λ lines. (given : Given) → Keeps kept given.verdicts
     → AnswersNames given first events names (plain_texts lines) s.notes)
-answers_from From s events names now (Ok lines) goes read are =
-    λ first before is given keeps.
-    answers_names given keeps first s events names (plain_texts lines) before now
-    (goes first before is) read are
-answers_from From s events names now (Err e) goes read are = tt
+answers_at first s events names before now (Ok lines) sources read are = λ given keeps.
+    answers_names given keeps first s events names (plain_texts lines) before now sources read are
+answers_at first s events names before now (Err e) sources read are = tt
+
+-- no file is left before a folder is open
+pub files_end : (stage : Stage) (frames : List PlainFrame) → stage ≡ Unopened
+    → IsFileless stage frames → frames ≡ []
+files_end stage frames unopened none =
+    subst (λ (s : Stage). IsFileless s frames) unopened none
 
 -- no folder was looked for
 pub fails_early : {kept : List PlainJudged} (Has : Kind → Type 0) (given : Given) (first : State)
@@ -165,7 +147,7 @@ module _ {kept : List PlainJudged} (Has : Kind → Type 0) (given : Given) (lett
     (mails : given.mails ≡ letters) (keeps : Keeps kept given.verdicts) (first s : State) (moment : ℤ)
     (events mid events' : List Happening) (event : Happening) (before now next : Seen)
     (same : mid ≡ events) (puts : events' ≡ mid ++ event ∷ []) (stage : s.turn.stage ≡ Unopened)
-    (read : s.frames ≡ [])
+    (read : s.turn.core.frames ≡ [])
     (opens : OpensPath Has (kind_in s) (folder_path s.turn.core.rules.settings s.named) moment
     letters event now next)
     (sources : Sources kept first events s before now) where
@@ -175,7 +157,8 @@ module _ {kept : List PlainJudged} (Has : Kind → Type 0) (given : Given) (lett
   look_answers : Answers s event
   look_answers =
       ap (λ (x : Stage). wish_at x s (moment_of event)) stage
-      ∙ ap (λ (frames : List PlainFrame). first_wish frames s) read
+      ∙ ap (λ (frames : List PlainFrame). file_wish frames
+      (Open (folder_path s.turn.core.rules.settings s.named))) read
       ∙ sym opens.answers
 
   look_stands : Stands given first events' (after given s event) (shown given (after given s event))

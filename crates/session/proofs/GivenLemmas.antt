@@ -1,9 +1,13 @@
 -- What was given stays given while verdicts are kept.
-use Rattle.std.proofs.Common.{◌≡◌, List, refl, ◌∙◌, ap, sym}
+use Rattle.std.proofs.Common.{◌≡◌, List, refl, ◌∙◌, ap, subst, sym}
 use Rattle.folder_core.specs.Letters.{Mail}
 use Rattle.people.specs.Judged.{PlainJudged}
 use Rattle.patterns.specs.Causes.{Keeps}
+use Rattle.session_state.specs.declared.stage.Stage.{Stage}
+use Rattle.session_state.specs.declared.stage.Stage.TheVariants.{Unopened, Pushing, Idle, Ready}
+use Rattle.session_state.specs.declared.stage.Stage.TheVariants.{Over, Reading}
 use Rattle.session.specs.Given.{Given, IsGiven, given_of}
+use Rattle.session.specs.Steps.{IsLent}
 
 pub keeps_same : (verdicts : List PlainJudged) → Keeps verdicts verdicts
 keeps_same verdicts = record { stays = λ text v h. h }
@@ -29,3 +33,36 @@ pub given_is : {mails : List Mail} {kept : List PlainJudged} {given : Given}
     → IsGiven mails kept given → given_of mails given.verdicts ≡ given
 given_is {mails} {kept} {given} is =
     sym (ap (λ (letters : List Mail). given_of letters given.verdicts) is.mails_are)
+
+-- What is given is lent at each stage.
+
+pub lent_given : {mails : List Mail} {kept : List PlainJudged} {given : Given} (stage : Stage)
+    → IsGiven mails kept given → IsLent stage mails kept given
+lent_given Unopened is = is.keeps
+lent_given Pushing is = is
+lent_given Idle is = is
+lent_given Ready is = is
+lent_given Reading is = is
+lent_given Over is = is
+
+-- and it is at a later stage
+pub lent_on : (mails : List Mail) (kept : List PlainJudged) (given : Given) (old new : Stage)
+    → (old ≡ Unopened → new ≡ Unopened) → IsLent old mails kept given → IsLent new mails kept given
+lent_on mails kept given Unopened new stays is =
+    subst (λ (stage : Stage). IsLent stage mails kept given) (sym (stays refl)) is
+lent_on mails kept given Pushing new stays is = lent_given new is
+lent_on mails kept given Idle new stays is = lent_given new is
+lent_on mails kept given Ready new stays is = lent_given new is
+lent_on mails kept given Reading new stays is = lent_given new is
+lent_on mails kept given Over new stays is = lent_given new is
+
+-- what is lent behind a call was lent before it
+pub lent_more : {mails mails' : List Mail} {old new : List PlainJudged} (given : Given)
+    (stage : Stage) → mails' ≡ mails → Keeps old new → IsLent stage mails' new given
+    → IsLent stage mails old given
+lent_more given Unopened same keeps is = keeps_then keeps is
+lent_more given Pushing same keeps is = keeps_more same keeps is
+lent_more given Idle same keeps is = keeps_more same keeps is
+lent_more given Ready same keeps is = keeps_more same keeps is
+lent_more given Reading same keeps is = keeps_more same keeps is
+lent_more given Over same keeps is = keeps_more same keeps is

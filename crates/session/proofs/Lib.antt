@@ -7,6 +7,8 @@ pub mod TellingLemmas
 mod SettlingLemmas
 pub mod StepsLemmas
 mod BeginningLemmas
+mod CallsLemmas
 mod FittingLemmas
 mod OpeningLemmas
 mod LearningLemmas
+mod ReadingLemmas

@@ -1,36 +1,38 @@
 -- How a run goes on by one event.
 use Rattle.std.proofs.Common.{◌≡◌, ◌≤◌, ℕ, ℤ, List, [], ◌∷◌, ◌++◌, refl, sym, ◌∙◌, ap, subst}
-use Rattle.std.proofs.Common.{append_assoc, arith}
+use Rattle.std.proofs.Common.{append_assoc, arith, pos}
 use Rattle.std.proofs.lemmas.List.{append-nil, map-append}
 use Rattle.folder_core.specs.Letters.{Mail}
-use Rattle.keymap.specs.Queue.{most_replacements}
 use Rattle.keymap.specs.declared.key.Key.{Key}
-use Rattle.session_state.specs.Rules.{put_all, without_puts}
+use Rattle.session_state.specs.Frames.{PlainFrame}
 use Rattle.session_state.specs.declared.stage.Stage.{Stage}
-use Rattle.session_state.specs.declared.stage.Stage.TheVariants.{Ready}
-use Rattle.session_state.specs.declared.stage.Stage.TheVariants.{Unopened}
-use Rattle.session_events.specs.Events.{AreFiles, Happening, FileRead, FileRefused, KeyPressed}
-use Rattle.session_events.specs.Events.{FolderOpened, FolderRefused, plain_event, plain_events}
+use Rattle.session_state.specs.declared.stage.Stage.TheVariants.{Unopened, Pushing, Idle, Ready}
+use Rattle.session_state.specs.declared.stage.Stage.TheVariants.{Over, Reading}
+use Rattle.session_events.specs.Events.{AreFiles, Happening, FileRead, FileRefused, IsFile}
+use Rattle.session_events.specs.Events.{KeyPressed, FolderOpened, FolderRefused, plain_event}
+use Rattle.session_events.specs.Events.{plain_events}
 use Rattle.session_events.specs.declared.event.Event.{Event}
 use Rattle.session_events.specs.declared.event.Marks.{Marks}
 use Rattle.patterns.specs.Causes.{Keeps}
 use Rattle.people.specs.Judged.{PlainJudged}
+use Rattle.session.specs.Answers.{caught_up}
 use Rattle.session.specs.Given.{Given, IsGiven, given_of}
 use Rattle.session.specs.Runs.{Answers, IsRunFrom, State, after, after_events, screens_from}
-use Rattle.session_events.specs.Wishes.{answered, moment_of}
-use Rattle.session.specs.Runs.{arrived, first_wish, ground, read_in, shown, skipped}
-use Rattle.session.specs.Runs.{pushed, stage_screens, taken, taken_at, typed, wish_at}
+use Rattle.session_events.specs.Wishes.{Source, answered, moment_of}
+use Rattle.session.specs.Runs.{arrived, going_on, ground, pushed, putting, read_at, read_in, shown}
+use Rattle.session.specs.Runs.{skipped, stage_screens, taken, taken_at, typed, waiting, wish}
+use Rattle.session.specs.Runs.{wish_at, with_core}
 use Rattle.mail_base.specs.declared.kind.Kind.{Kind}
 use Rattle.disk_model.specs.Seen.{Seen}
-use Rattle.session.specs.Telling.{kind_in}
-use Rattle.session.specs.Steps.{IsNext, IsTaken, PressesKey, Sources, SourcesOff, Stands}
-use Rattle.session.specs.Steps.{StaysRun, next_of}
+use Rattle.session.specs.Starting.{PlainSetup, first_state}
+use Rattle.session.specs.Steps.{AddsFiles, GoesOn, IsLent, IsSettled, IsTaken, PressesKey, ReadsFiles}
+use Rattle.session.specs.Steps.{Sources, SourcesOff, Stands, StaysTold}
 use Rattle.session.specs.Telling.{Driverless, Witnessed}
 use Rattle.session_events.specs.Telling.{HasFileCause, TellsFile}
 use Rattle.session.proofs.GivenLemmas.{given_here, keeps_then}
-use Rattle.session.proofs.SettlingLemmas.{keys_next}
-use Rattle.session.proofs.TellingLemmas.{file_is, files_append, tells_file, witnessed_key}
-use Rattle.session.proofs.TellingLemmas.{witnessed_none, witnessed_push}
+use Rattle.session.proofs.SettlingLemmas.{turn_settles}
+use Rattle.session.proofs.TellingLemmas.{each_are, each_faults, file_is, files_more, witnessed_each}
+use Rattle.session.proofs.TellingLemmas.{witnessed_key, witnessed_none}
 
 after-append : (given : Given) (s : State) (xs ys : List Happening)
     → after_events given s (xs ++ ys) ≡ after_events given (after_events given s xs) ys
@@ -85,42 +87,113 @@ stands_pressed given first s events key moment screens is =
     (typed given key moment t) (screens ++ shown given (typed given key moment t))) is.taken_is
     (stands_push given first is.before events (KeyPressed key moment) screens is.stands wishes)
 
+-- a run that shows a state goes on to it
+pub stands_goes : {given : Given} {first s : State} {events : List Happening}
+    {screens : List (List (List ℕ))} {notes : List (List ℕ)} (more : List (List ℕ))
+    → s.notes ≡ notes ++ more → Stands given first events s (screens ++ shown given s)
+    → GoesOn given first events screens notes
+stands_goes {given} {first} {s} {events} {screens} {notes} more is stands = record {
+  run = stands.run;
+  screens_are = stands.screens_are
+      ∙ ap (λ (t : State). screens ++ shown given t) (sym stands.state_is);
+  more = more;
+  noted = ap (λ (t : State). t.notes) stands.state_is ∙ is;
+}
+
+-- the same by what it leads to
+pub goes_stands : {given : Given} {first s : State} {events : List Happening}
+    {screens : List (List (List ℕ))} {notes : List (List ℕ)}
+    → GoesOn given first events screens notes → after_events given first events ≡ s
+    → Stands given first events s (screens ++ shown given s)
+goes_stands {given} {first} {s} {events} {screens} {notes} goes is = record {
+  run = goes.run;
+  state_is = is;
+  screens_are = goes.screens_are ∙ ap (λ (t : State). screens ++ shown given t) is;
+}
+
+-- fewer notes stood before
+pub goes_from : {given : Given} {first : State} {events : List Happening}
+    {screens : List (List (List ℕ))} (notes more later : List (List ℕ)) → later ≡ notes ++ more
+    → GoesOn given first events screens later → GoesOn given first events screens notes
+goes_from {given} {first} {events} {screens} notes more later is goes = record {
+  run = goes.run;
+  screens_are = goes.screens_are;
+  more = more ++ goes.more;
+  noted = goes.noted ∙ ap (λ (l : List (List ℕ)). l ++ goes.more) is
+      ∙ append_assoc notes more goes.more;
+}
+
+-- a run goes on twice
+pub goes_then : {given : Given} {first s : State} {mid later : List Happening}
+    {screens : List (List (List ℕ))} {notes : List (List ℕ)}
+    → GoesOn given first mid screens notes → after_events given first mid ≡ s
+    → (Stands given first mid s (screens ++ shown given s)
+    → GoesOn given first later screens s.notes)
+    → GoesOn given first later screens notes
+goes_then {given} {first} {s} {mid} {later} {screens} {notes} goes is next =
+    goes_from notes goes.more s.notes (sym (ap (λ (t : State). t.notes) is) ∙ goes.noted)
+    (next (goes_stands goes is))
+
+pub goes_same : {given : Given} {first : State} {events events' : List Happening}
+    {screens : List (List (List ℕ))} {notes : List (List ℕ)} → events' ≡ events
+    → GoesOn given first events screens notes → GoesOn given first events' screens notes
+goes_same {given} {first} {events} {events'} {screens} {notes} same goes =
+    subst (λ (l : List Happening). GoesOn given first l screens notes) (sym same) goes
+
+pub run_same : (given : Given) (first : State) {events events' : List Happening}
+    → events' ≡ events → IsRunFrom given first events → IsRunFrom given first events'
+run_same given first same run = subst (IsRunFrom given first) (sym same) run
+
+pub told_same : {Has : Kind → Type 0} {given : Given} {first : State}
+    {events same : List Happening} {before seen : Seen} → same ≡ events
+    → Witnessed Has given first events before seen → Witnessed Has given first same before seen
+told_same {Has} {given} {first} {events} {same} {before} {seen} is h =
+    subst (λ (l : List Happening). Witnessed Has given first l before seen) (sym is) h
+
+pub to_same : (given : Given) (first : State) {s : State} {events events' : List Happening}
+    → events' ≡ events → after_events given first events ≡ s
+    → after_events given first events' ≡ s
+to_same given first same is = ap (after_events given first) same ∙ is
+
 -- What a key does.
-module _ (key : Key) (moment : ℤ) (old : State) (events mid events' : List Happening)
-    (same : mid ≡ events) (put : events' ≡ mid ++ KeyPressed key moment ∷ []) where
-  put_is : events ++ KeyPressed key moment ∷ [] ≡ events'
-  put_is = sym (put ∙ ap (λ (l : List Happening). l ++ KeyPressed key moment ∷ []) same)
+module _ (key : Key) (moment : ℤ) (old : State) (events events' : List Happening)
+    (put : events' ≡ events ++ KeyPressed key moment ∷ []) (ready : old.turn.stage ≡ Ready)
+  where
+    still : taken old ≡ old
+    still = ap (λ (stage : Stage). taken_at stage old) ready
 
-  module _ (mails : List Mail) (kept : List PlainJudged) where
-    pub key_presses : (new : State) → old.turn.stage ≡ Ready
-        → ((given : Given) → IsGiven mails kept given
-        → new ≡ arrived given old (KeyPressed key moment))
-        → PressesKey mails kept key moment old new events events'
-    key_presses new ready arrives =
-        let still : taken old ≡ old = ap (λ (stage : Stage). taken_at stage old) ready in
-        record {
-          pressed = sym put_is;
-          window = ap (λ (t : State). t.window)
-              (arrives (given_of mails kept) (given_here mails kept)
-              ∙ ap (typed (given_of mails kept) key moment) still);
-          stood = λ given is first screens taken_so.
-              subst (λ (l : List Happening). Stands given first l new
-              (screens ++ shown given new))
-              put_is (subst (λ (t : State). Stands given first
-              (events ++ KeyPressed key moment ∷ []) t
-              (screens ++ shown given t)) (sym (arrives given is ∙ ap (typed given key moment) still))
-              (stands_pressed given first old events key moment screens taken_so));
-        }
+    module _ (given : Given) (first : State) (screens : List (List (List ℕ)))
+        (is : IsTaken given first events old screens) where
+      pressed_stands : Stands given first events' (typed given key moment old)
+          (screens ++ shown given (typed given key moment old))
+      pressed_stands =
+          subst (λ (l : List Happening). Stands given first l (typed given key moment old)
+          (screens ++ shown given (typed given key moment old))) (sym put)
+          (stands_pressed given first old events key moment screens is)
 
-    pub key_stays : (Has : Kind → Type 0) → StaysRun Has mails kept old events events'
-    key_stays Has = record {
-      run = λ given is first screens taken_so.
-          subst (λ (l : List Happening). IsRunFrom given first l) put_is
-          (stands_pressed given first old events key moment screens taken_so).run;
-      told = λ given first before now h.
-          subst (λ (l : List Happening). Witnessed Has given first l before now) put_is
-          (witnessed_key Has given first events key moment before now h);
-    }
+      -- the key was told
+      pub key_goes : GoesOn given first events' screens old.notes
+      key_goes = stands_goes [] (sym (append-nil old.notes)) pressed_stands
+
+      -- and acted
+      pub key_stands : (new : State) → new ≡ arrived given old (KeyPressed key moment)
+          → Stands given first events' new (screens ++ shown given new)
+      key_stands new arrives =
+          subst (λ (t : State). Stands given first events' t (screens ++ shown given t))
+          (sym (arrives ∙ ap (typed given key moment) still)) pressed_stands
+
+    pub key_notes : (given : Given) (new : State) → new ≡ arrived given old (KeyPressed key moment)
+        → new.notes ≡ old.notes ++ []
+    key_notes given new arrives =
+        ap (λ (t : State). t.notes) (arrives ∙ ap (typed given key moment) still)
+        ∙ sym (append-nil old.notes)
+
+pub key_told : (Has : Kind → Type 0) (key : Key) (moment : ℤ) (events events' : List Happening)
+    (now : Seen) → events' ≡ events ++ KeyPressed key moment ∷ []
+    → StaysTold Has events events' now now
+key_told Has key moment events events' now put given first before h =
+    subst (λ (l : List Happening). Witnessed Has given first l before now) (sym put)
+    (witnessed_key Has given first events key moment before now h)
 
 -- an event that was put
 pub put_plain : (old new : List Event) (event : Event) (is : Happening)
@@ -130,43 +203,58 @@ put_plain old new event is put same =
     ap plain_events put ∙ map-append plain_event old (event ∷ [])
     ∙ ap (λ (e : Happening). plain_events old ++ e ∷ []) same
 
--- a typed key ends the run, or a key is wanted behind it
-pub typed_next : (given : Given) (key : Key) (moment : ℤ) (old new : State)
-    → new ≡ typed given key moment old
-    → IsNext (next_of new.turn.stage) new.turn.stage
-typed_next given key moment old new is =
-    keys_next (ground given moment old) most_replacements 0 (old.turn.queue ++ key ∷ [])
-    old.turn.core new.turn.stage (ap (λ (s : State). s.turn.stage) is)
+-- a typed key has settled
+pub key_settles : {mails : List Mail} {kept : List PlainJudged} (key : Key) (moment : ℤ)
+    (old new : State) (event : Happening) → event ≡ KeyPressed key moment
+    → ((given : Given) → IsGiven mails kept given → new ≡ arrived given old event)
+    → IsSettled new.turn.stage new.turn.core.frames
+key_settles {mails} {kept} key moment old new event is arrives =
+    let given = given_of mails kept in
+    let s : State = taken old in
+    subst (λ (t : State). IsSettled t.turn.stage t.turn.core.frames)
+    (sym (arrives given (given_here mails kept) ∙ ap (arrived given old) is))
+    (turn_settles (ground given (record s { moment = moment }))
+    (waiting (s.turn.queue ++ key ∷ []) (record s { moment = moment })).turn)
 
-module _ {mails : List Mail} {kept : List PlainJudged} (old new : State) where
-  pub key_next : (key : Key) (moment : ℤ) (event : Happening) → event ≡ KeyPressed key moment
-      → ((given : Given) → IsGiven mails kept given → new ≡ arrived given old event)
-      → IsNext (next_of new.turn.stage) new.turn.stage
-  key_next key moment event is arrives =
-      typed_next (given_of mails kept) key moment (taken old) new
-      (arrives (given_of mails kept) (given_here mails kept)
-      ∙ ap (arrived (given_of mails kept) old) is)
+-- so have keys that commands have put
+pub pushed_settles : {mails : List Mail} {kept : List PlainJudged} (old new : State)
+    → ((given : Given) → IsGiven mails kept given → new ≡ pushed given old)
+    → IsSettled new.turn.stage new.turn.core.frames
+pushed_settles {mails} {kept} old new goes =
+    let given = given_of mails kept in
+    subst (λ (t : State). IsSettled t.turn.stage t.turn.core.frames)
+    (sym (goes given (given_here mails kept)))
+    (turn_settles (ground given (putting old)) (putting old).turn)
 
-  -- the keys that commands have put end the run, or a key is wanted behind them
-  pub pushed_next : ((given : Given) → IsGiven mails kept given → new ≡ pushed given old)
-      → IsNext (next_of new.turn.stage) new.turn.stage
-  pushed_next goes =
-      keys_next (ground (given_of mails kept) old.checked old) most_replacements 0
-      (put_all old.turn.core.rules.put)
-      (record old.turn.core { rules = without_puts old.turn.core.rules })
-      new.turn.stage (ap (λ (s : State). s.turn.stage)
-      (goes (given_of mails kept) (given_here mails kept)))
+-- files that were read are told
+pub files_told : (Has : Kind → Type 0) (a b : List Happening) (now next : Seen)
+    → ReadsFiles a b now next → StaysTold Has a b now next
+files_told Has a b now next reads given first before h =
+    subst (λ (l : List Happening). Witnessed Has given first l before next) (sym reads.added)
+    (witnessed_each Has given first a reads.files before now next reads.each h)
 
--- no event came
-pub stays_same : (Has : Kind → Type 0) (mails : List Mail) (kept : List PlainJudged) (old : State)
-    (events events' : List Happening) → events' ≡ events
-    → StaysRun Has mails kept old events events'
-stays_same Has mails kept old events events' same = record {
-  run = λ given is first screens taken_so.
-      subst (λ (l : List Happening). IsRunFrom given first l) (sym same) taken_so.stands.run;
-  told = λ given first before now h.
-      subst (λ (l : List Happening). Witnessed Has given first l before now) (sym same) h;
+pub files_added : (a b : List Happening) (now next : Seen) → ReadsFiles a b now next → AddsFiles a b
+files_added a b now next reads = record {
+  files = reads.files;
+  are = each_are reads.files now next reads.each;
+  added = reads.added;
 }
+
+pub adds_none : (events : List Happening) → AddsFiles events events
+adds_none events = record { files = []; are = tt; added = sym (append-nil events) }
+
+pub files_pressed : (key : Key) (moment : ℤ) (a b c : List Happening) (now next : Seen)
+    → b ≡ a ++ KeyPressed key moment ∷ [] → ReadsFiles b c now next → PressesKey key moment a c
+files_pressed key moment a b c now next put reads = record {
+  files = reads.files;
+  are = each_are reads.files now next reads.each;
+  pressed = reads.added ∙ ap (λ (l : List Happening). l ++ reads.files) put
+      ∙ append_assoc a (KeyPressed key moment ∷ []) reads.files;
+}
+
+pub key_alone : (key : Key) (moment : ℤ) (a b : List Happening)
+    → b ≡ a ++ KeyPressed key moment ∷ [] → PressesKey key moment a b
+key_alone key moment a b put = record { files = []; are = tt; pressed = put }
 
 -- Files of commands.
 
@@ -196,115 +284,333 @@ sources_off {kept} first s events events' before now next same still sources =
       faults = sources.faults;
     }))
 
--- a file leaves the stage
-file_stage : (given : Given) (s : State) (event : Happening) (marks : Marks)
-    → HasFileCause event marks → (arrived given s event).turn.stage ≡ s.turn.stage
-file_stage given s (FileRead path text kept) marks cause = refl
-file_stage given s (FileRefused path why kept) marks cause = refl
-file_stage given s (KeyPressed key moment) marks cause = absurd cause
-file_stage given s (FolderOpened path kind moment came kept) marks cause = absurd cause
-file_stage given s (FolderRefused path why kept) marks cause = absurd cause
+-- A file of commands.
 
-pub file_unopened : {mails : List Mail} {kept : List PlainJudged} (s t : State)
-    (event : Happening) (now next : Seen) → TellsFile event now next → s.turn.stage ≡ Unopened
-    → ((given : Given) → IsGiven mails kept given → t ≡ arrived given s event)
-    → t.turn.stage ≡ Unopened
-file_unopened {mails} {kept} s t event now next tells stage arrives =
-    ap (λ (u : State). u.turn.stage) (arrives (given_of mails kept) (given_here mails kept))
-    ∙ file_stage (given_of mails kept) s event tells.marks tells.cause ∙ stage
+going_keeps : (given : Given) (frames : List PlainFrame) (s : State)
+    → ((going_on given frames s).notes ≡ s.notes) × ((going_on given frames s).window ≡ s.window)
+going_keeps given [] s = (refl, refl)
+going_keeps given (frame ∷ frames) s = (refl, refl)
 
-module _ {before_kept : List PlainJudged} (first s : State) (events mid events' : List Happening)
-    (event : Happening) (before now next : Seen) (same : mid ≡ events)
-    (put : events' ≡ mid ++ event ∷ []) (stage : s.turn.stage ≡ Unopened)
-    (wished : first_wish s.frames s ≡ answered event) (tells : TellsFile event now next)
-    (sources : Sources before_kept first events s before now) where
-  put_file : events ++ event ∷ [] ≡ events'
-  put_file = sym (put ∙ ap (λ (l : List Happening). l ++ event ∷ []) same)
+-- what keys make of it leaves what was told, and the window
+read_keeps : (stage : Stage) (given : Given) (s : State)
+    → ((read_at stage given s).notes ≡ s.notes) × ((read_at stage given s).window ≡ s.window)
+read_keeps Unopened given s = (refl, refl)
+read_keeps Pushing given s = (refl, refl)
+read_keeps Idle given s = (refl, refl)
+read_keeps Ready given s = (refl, refl)
+read_keeps Reading given s = going_keeps given (caught_up given.mails s.turn.core).frames
+    (with_core (caught_up given.mails s.turn.core) s)
+read_keeps Over given s = (refl, refl)
 
-  file_answers : Answers s event
-  file_answers = ap (λ (x : Stage). wish_at x s (moment_of event)) stage ∙ wished
+file_notes : (given : Given) (s : State) (event : Happening) (marks : Marks)
+    → HasFileCause event marks
+    → (more : List (List ℕ)) × ((arrived given s event).notes ≡ s.notes ++ more)
+file_notes given s (FileRead path text kept) marks cause =
+    (_, (read_keeps s.turn.stage given (read_in given.verdicts text s)).0)
+file_notes given s (FileRefused path why kept) marks cause =
+    (_, (read_keeps s.turn.stage given (skipped given.verdicts why s)).0)
+file_notes given s (KeyPressed key moment) marks cause = absurd cause
+file_notes given s (FolderOpened path kind moment came kept) marks cause = absurd cause
+file_notes given s (FolderRefused path why kept) marks cause = absurd cause
 
-  file_unshown : (given : Given) (e : Happening) → e ≡ event → shown given (after given s e) ≡ []
-  file_unshown given (FileRead path text marks) is = ap
-      (λ (x : Stage). stage_screens given x (read_in given.verdicts text s)) stage
-  file_unshown given (FileRefused path why marks) is = ap
-      (λ (x : Stage). stage_screens given x (skipped given.verdicts why s)) stage
-  file_unshown given (KeyPressed key moment) is = absurd
-      (subst (λ (e : Happening). HasFileCause e tells.marks) (sym is) tells.cause)
-  file_unshown given (FolderOpened path kind moment came marks) is = absurd
-      (subst (λ (e : Happening). HasFileCause e tells.marks) (sym is) tells.cause)
-  file_unshown given (FolderRefused path why marks) is = absurd
-      (subst (λ (e : Happening). HasFileCause e tells.marks) (sym is) tells.cause)
+-- Before a folder is open it leaves the stage, and the letters have no say.
 
-  pub file_stands : (given : Given) → Keeps before_kept given.verdicts
-      → Stands given first events' (after given s event) []
-  file_stands given keeps =
-      subst (λ (l : List Happening). Stands given first l (after given s event) []) put_file
-      (subst (λ (l : List (List (List ℕ))). Stands given first (events ++ event ∷ [])
-      (after given s event) l)
-      (file_unshown given event refl)
-      (stands_push given first s events event [] (sources.stands given keeps) file_answers))
+unopened_read : (mails : List Mail) (stage : Stage) (given : Given) (s : State) → stage ≡ Unopened
+    → (read_at stage given s ≡ s) × (read_at stage (given_of mails given.verdicts) s ≡ s)
+unopened_read mails Unopened given s is = (refl, refl)
+unopened_read mails Pushing given s is = (refl, refl)
+unopened_read mails Idle given s is = (refl, refl)
+unopened_read mails Ready given s is = (refl, refl)
+unopened_read mails Reading given s is = absurd (cc)
+unopened_read mails Over given s is = (refl, refl)
 
-  pub file_told : (given : Given) → Keeps before_kept given.verdicts
-      → Witnessed Driverless given first events' before next
-  file_told given keeps =
-      subst (λ (l : List Happening). Witnessed Driverless given first l before next) put_file
-      (witnessed_push Driverless given first s events event before now next
-      (sources.stands given keeps).state_is
-      (tells_file Driverless given (kind_in s) event now next tells) (sources.told given keeps))
+module _ (mails : List Mail) (given : Given) (s : State) (unopened : s.turn.stage ≡ Unopened) where
+  file_same : (event : Happening) (marks : Marks) → HasFileCause event marks
+      → arrived given s event ≡ arrived (given_of mails given.verdicts) s event
+  file_same (FileRead path text kept) marks cause =
+      let both = unopened_read mails s.turn.stage given (read_in given.verdicts text s) unopened in
+      both.0 ∙ sym both.1
+  file_same (FileRefused path why kept) marks cause =
+      let both = unopened_read mails s.turn.stage given (skipped given.verdicts why s) unopened in
+      both.0 ∙ sym both.1
+  file_same (KeyPressed key moment) marks cause = absurd cause
+  file_same (FolderOpened path kind moment came kept) marks cause = absurd cause
+  file_same (FolderRefused path why kept) marks cause = absurd cause
 
-  file_are : AreFiles events'
-  file_are =
-      subst AreFiles put_file
-      (files_append events event sources.are (file_is event tells.marks tells.cause))
+file_unopened : (given : Given) (s : State) (event : Happening) → IsFile event
+    → s.turn.stage ≡ Unopened → (arrived given s event).turn.stage ≡ Unopened
+file_unopened given s (FileRead path text kept) is unopened =
+    ap (λ (t : State). t.turn.stage) (unopened_read [] s.turn.stage given
+    (read_in given.verdicts text s) unopened).0 ∙ unopened
+file_unopened given s (FileRefused path why kept) is unopened =
+    ap (λ (t : State). t.turn.stage) (unopened_read [] s.turn.stage given
+    (skipped given.verdicts why s) unopened).0 ∙ unopened
+file_unopened given s (KeyPressed key moment) is unopened = absurd is
+file_unopened given s (FolderOpened path kind moment came kept) is unopened = absurd is
+file_unopened given s (FolderRefused path why kept) is unopened = absurd is
 
-  file_faults : before.faults ≤ next.faults
-  file_faults = omega (arith, sources.faults, tells.faults)
+-- the event of a file leads to what arrives
+file_after : (given : Given) (s : State) (event : Happening) → IsFile event
+    → after given s event ≡ arrived given s event
+file_after given s (FileRead path text kept) is = refl
+file_after given s (FileRefused path why kept) is = refl
+file_after given s (KeyPressed key moment) is = absurd is
+file_after given s (FolderOpened path kind moment came kept) is = absurd is
+file_after given s (FolderRefused path why kept) is = absurd is
 
-  file_window : (given : Given) (e : Happening) → e ≡ event
-      → (arrived given s e).window ≡ s.window
-  file_window given (FileRead path text marks) is = refl
-  file_window given (FileRefused path why marks) is = refl
-  file_window given (KeyPressed key moment) is = absurd
-      (subst (λ (e : Happening). HasFileCause e tells.marks) (sym is) tells.cause)
-  file_window given (FolderOpened path kind moment came marks) is = refl
-  file_window given (FolderRefused path why marks) is = refl
+pub after_unopened : (given : Given) (s : State) (event : Happening) → IsFile event
+    → s.turn.stage ≡ Unopened → (after given s event).turn.stage ≡ Unopened
+after_unopened given s event is unopened =
+    ap (λ (t : State). t.turn.stage) (file_after given s event is)
+    ∙ file_unopened given s event is unopened
 
-  -- the letters have no say in a file
-  same_after : (mails : List Mail) (given : Given) (e : Happening) → e ≡ event
-      → after given s e ≡ arrived (given_of mails given.verdicts) s e
-  same_after mails given (FileRead path text marks) is = refl
-  same_after mails given (FileRefused path why marks) is = refl
-  same_after mails given (KeyPressed key moment) is = absurd
-      (subst (λ (e : Happening). HasFileCause e tells.marks) (sym is) tells.cause)
-  same_after mails given (FolderOpened path kind moment came marks) is = absurd
-      (subst (λ (e : Happening). HasFileCause e tells.marks) (sym is) tells.cause)
-  same_after mails given (FolderRefused path why marks) is = refl
+pub files_unopened : (given : Given) (s : State) (files : List Happening) → AreFiles files
+    → s.turn.stage ≡ Unopened → (after_events given s files).turn.stage ≡ Unopened
+files_unopened given s [] are unopened = unopened
+files_unopened given s (event ∷ files) are unopened =
+    files_unopened given (after given s event) files are.1
+    (after_unopened given s event are.0 unopened)
 
-  module _ {kept : List PlainJudged} (more : Keeps before_kept kept) where
-    pub file_sources : {mails : List Mail} (t : State)
-        → ((given : Given) → IsGiven mails kept given → t ≡ arrived given s event)
-        → Sources kept first events' t before next
-    file_sources {mails} t arrives = record {
-      are = file_are;
-      stands = λ given keeps. subst (λ (u : State). Stands given first events' u [])
-          (same_after mails given event refl
-          ∙ sym (arrives (given_of mails given.verdicts) (record {
-            mails_are = refl;
-            keeps = keeps;
-          }))) (file_stands given (keeps_then more keeps));
-      window = ap (λ (u : State). u.window)
-          (arrives (given_of mails kept) (given_here mails kept))
-          ∙ file_window (given_of mails kept) event refl ∙ sources.window;
-      told = λ given keeps. file_told given (keeps_then more keeps);
-      faults = file_faults;
-    }
+-- Behind keys it leaves a turn that has settled.
 
-    pub file_off : SourcesOff kept first events' before next
-    file_off = record {
-      are = file_are;
-      run = λ given keeps. (file_stands given (keeps_then more keeps)).run;
-      screens_are = λ given keeps. (file_stands given (keeps_then more keeps)).screens_are;
-      told = λ given keeps. file_told given (keeps_then more keeps);
-      faults = file_faults;
-    }
+going_settles : (given : Given) (frames : List PlainFrame) (s : State) → s.turn.stage ≡ Reading
+    → s.turn.core.frames ≡ frames
+    → IsSettled (going_on given frames s).turn.stage (going_on given frames s).turn.core.frames
+going_settles given [] s is read = turn_settles (ground given s) s.turn
+going_settles given (frame ∷ frames) s is read =
+    subst (λ (stage : Stage). IsSettled stage s.turn.core.frames) (sym is)
+    (λ none. absurd (let no : frame ∷ frames ≡ [] = sym read ∙ none in cc))
+
+read_settles : (stage : Stage) (given : Given) (old s : State) → old.turn.stage ≡ stage
+    → s.turn.stage ≡ stage → IsSettled old.turn.stage old.turn.core.frames
+    → IsSettled (read_at stage given s).turn.stage (read_at stage given s).turn.core.frames
+read_settles Unopened given old s was is h = absurd
+    (subst (λ (stage : Stage). IsSettled stage old.turn.core.frames) was h)
+read_settles Pushing given old s was is h = absurd
+    (subst (λ (stage : Stage). IsSettled stage old.turn.core.frames) was h)
+read_settles Idle given old s was is h =
+    subst (λ (stage : Stage). IsSettled stage s.turn.core.frames) (sym is) tt
+read_settles Ready given old s was is h = absurd
+    (subst (λ (stage : Stage). IsSettled stage old.turn.core.frames) was h)
+read_settles Reading given old s was is h = going_settles given
+    (caught_up given.mails s.turn.core).frames (with_core (caught_up given.mails s.turn.core) s)
+    is refl
+read_settles Over given old s was is h =
+    subst (λ (stage : Stage). IsSettled stage s.turn.core.frames) (sym is) tt
+
+file_settles : (given : Given) (s : State) (event : Happening) → IsFile event
+    → IsSettled s.turn.stage s.turn.core.frames
+    → IsSettled (arrived given s event).turn.stage (arrived given s event).turn.core.frames
+file_settles given s (FileRead path text kept) is h =
+    read_settles s.turn.stage given s (read_in given.verdicts text s) refl refl h
+file_settles given s (FileRefused path why kept) is h =
+    read_settles s.turn.stage given s (skipped given.verdicts why s) refl refl h
+file_settles given s (KeyPressed key moment) is h = absurd is
+file_settles given s (FolderOpened path kind moment came kept) is h = absurd is
+file_settles given s (FolderRefused path why kept) is h = absurd is
+
+-- A stage at which a file is wished shows nothing.
+wishes_unshown : (given : Given) (s t : State) (stage : Stage) (moment : ℤ) (path : List ℕ)
+    → wish_at stage s moment ≡ Source path → stage_screens given stage t ≡ []
+wishes_unshown given s t Unopened moment path is = refl
+wishes_unshown given s t Pushing moment path is = refl
+wishes_unshown given s t Idle moment path is = absurd (cc)
+wishes_unshown given s t Ready moment path is = refl
+wishes_unshown given s t Reading moment path is = refl
+wishes_unshown given s t Over moment path is = refl
+
+file_path : (event : Happening) → IsFile event → (path : List ℕ) × (answered event ≡ Source path)
+file_path (FileRead path text kept) is = (path, refl)
+file_path (FileRefused path why kept) is = (path, refl)
+file_path (KeyPressed key moment) is = absurd is
+file_path (FolderOpened path kind moment came kept) is = absurd is
+file_path (FolderRefused path why kept) is = absurd is
+
+-- A file that was wished was looked for.
+module _ (s : State) (events events' : List Happening)
+    (event : Happening) (now next : Seen) (put : events' ≡ events ++ event ∷ [])
+    (tells : TellsFile event now next)
+    (wished : (moment : ℤ) → wish s moment ≡ answered event) where
+  is_file : IsFile event
+  is_file = file_is event tells.marks tells.cause
+
+  unshown : (given : Given) → shown given s ≡ []
+  unshown given =
+      let path = file_path event is_file in
+      wishes_unshown given s s s.turn.stage (pos 0) path.0 (wished (pos 0) ∙ path.1)
+
+  module _ (given : Given) (first : State) where
+    file_stands : (screens : List (List (List ℕ)))
+        → Stands given first events s (screens ++ shown given s)
+        → Stands given first events' (arrived given s event)
+        (screens ++ shown given (arrived given s event))
+    file_stands screens stands =
+        let bare : Stands given first events s screens =
+        subst (λ (l : List (List (List ℕ))). Stands given first events s l)
+        (ap (λ (l : List (List (List ℕ))). screens ++ l) (unshown given) ∙ append-nil screens)
+        stands in
+        subst (λ (l : List Happening). Stands given first l (arrived given s event)
+        (screens ++ shown given (arrived given s event))) (sym put)
+        (subst (λ (t : State). Stands given first (events ++ event ∷ []) t
+        (screens ++ shown given t)) (file_after given s event is_file)
+        (stands_push given first s events event screens bare (wished (moment_of event))))
+
+    pub file_goes : (screens : List (List (List ℕ)))
+        → Stands given first events s (screens ++ shown given s)
+        → GoesOn given first events' screens s.notes
+    file_goes screens stands =
+        let more = file_notes given s event tells.marks tells.cause in
+        stands_goes more.0 more.1 (file_stands screens stands)
+
+    pub file_leads : (t : State) → t ≡ arrived given s event → after_events given first events ≡ s
+        → after_events given first events' ≡ t
+    file_leads t arrives is =
+        ap (after_events given first) put ∙ after-append given first events (event ∷ [])
+        ∙ ap (λ (u : State). after given u event) is ∙ file_after given s event is_file
+        ∙ sym arrives
+
+  pub file_reads : ReadsFiles events events' now next
+  file_reads = record { files = event ∷ []; added = put; each = (next, tells, refl) }
+
+  -- what arrives by the letters of the call arrives by what is lent
+  lent_by : {mails : List Mail} {kept : List PlainJudged} (stage : Stage) → s.turn.stage ≡ stage → (given : Given)
+      → IsLent stage mails kept given → (t : State)
+      → ((other : Given) → IsGiven mails kept other → t ≡ arrived other s event)
+      → t ≡ arrived given s event
+  lent_by {mails} Unopened is given lent t arrives =
+      arrives (given_of mails given.verdicts) (record { mails_are = refl; keeps = lent })
+      ∙ sym (file_same mails given s is event tells.marks tells.cause)
+  lent_by Pushing is given lent t arrives = arrives given lent
+  lent_by Idle is given lent t arrives = arrives given lent
+  lent_by Ready is given lent t arrives = arrives given lent
+  lent_by Reading is given lent t arrives = arrives given lent
+  lent_by Over is given lent t arrives = arrives given lent
+
+  module _ {mails : List Mail} {kept : List PlainJudged} (t : State)
+      (arrives : (given : Given) → IsGiven mails kept given → t ≡ arrived given s event) where
+    pub file_arrives : (given : Given) → IsLent s.turn.stage mails kept given
+        → t ≡ arrived given s event
+    file_arrives given lent = lent_by s.turn.stage refl given lent t arrives
+
+    here : t ≡ arrived (given_of mails kept) s event
+    here = arrives (given_of mails kept) (given_here mails kept)
+
+    pub file_stays : s.turn.stage ≡ Unopened → t.turn.stage ≡ Unopened
+    file_stays unopened =
+        ap (λ (u : State). u.turn.stage) here
+        ∙ file_unopened (given_of mails kept) s event is_file unopened
+
+    pub file_has_settled : IsSettled s.turn.stage s.turn.core.frames
+        → IsSettled t.turn.stage t.turn.core.frames
+    file_has_settled h =
+        subst (λ (u : State). IsSettled u.turn.stage u.turn.core.frames) (sym here)
+        (file_settles (given_of mails kept) s event is_file h)
+
+-- Files of commands were read before a folder is open.
+module _ (mails : List Mail) {kept kept' : List PlainJudged} (first s : State)
+    (events events' : List Happening) (notes : List (List ℕ)) (before now next : Seen)
+    (unopened : s.turn.stage ≡ Unopened) (reads : ReadsFiles events events' now next)
+    (more : Keeps kept kept')
+    (on : (given : Given) → IsLent s.turn.stage mails kept' given → (first : State)
+    → (screens : List (List (List ℕ))) → Stands given first events s (screens ++ shown given s)
+    → GoesOn given first events' screens notes)
+    (sources : Sources kept first events s before now) where
+  module _ (given : Given) (keeps : Keeps kept' given.verdicts) where
+    stood : Stands given first events s []
+    stood = sources.stands given (keeps_then more keeps)
+
+    lent : IsLent s.turn.stage mails kept' given
+    lent = subst (λ (stage : Stage). IsLent stage mails kept' given) (sym unopened) keeps
+
+    goes : GoesOn given first events' [] notes
+    goes = on given lent first []
+        (subst (λ (l : List (List (List ℕ))). Stands given first events s l)
+        (sym (ap (λ (stage : Stage). stage_screens given stage s) unopened)) stood)
+
+    later : (after_events given first events').turn.stage ≡ Unopened
+    later =
+        ap (λ (l : List Happening). (after_events given first l).turn.stage) reads.added
+        ∙ ap (λ (t : State). t.turn.stage) (after-append given first events reads.files)
+        ∙ files_unopened given (after_events given first events) reads.files
+        (each_are reads.files now next reads.each)
+        (ap (λ (t : State). t.turn.stage) stood.state_is ∙ unopened)
+
+    none_shown : screens_from given first events' ≡ []
+    none_shown = goes.screens_are ∙ ap (λ (stage : Stage). stage_screens given stage
+        (after_events given first events')) later
+
+    told : Witnessed Driverless given first events' before next
+    told = files_told Driverless events events' now next reads given first before
+        (sources.told given (keeps_then more keeps))
+
+  files_are : AreFiles events'
+  files_are = subst AreFiles (sym reads.added) (files_more events reads.files sources.are
+      (each_are reads.files now next reads.each))
+
+  fewer : before.faults ≤ next.faults
+  fewer = omega (arith, sources.faults, each_faults reads.files now next reads.each)
+
+  pub sources_broken : SourcesOff kept' first events' before next
+  sources_broken = record {
+    are = files_are;
+    run = λ given keeps. (goes given keeps).run;
+    screens_are = none_shown;
+    told = told;
+    faults = fewer;
+  }
+
+  pub sources_read : (t : State) → t.window ≡ s.window
+      → ((given : Given) → IsLent s.turn.stage mails kept' given → (first : State)
+      → after_events given first events ≡ s → after_events given first events' ≡ t)
+      → Sources kept' first events' t before next
+  sources_read t window to = record {
+    are = files_are;
+    stands = λ given keeps. record {
+      run = (goes given keeps).run;
+      state_is = to given (lent given keeps) first (stood given keeps).state_is;
+      screens_are = none_shown given keeps;
+    };
+    window = window ∙ sources.window;
+    told = told;
+    faults = fewer;
+  }
+
+-- The same from the first state.
+module _ (mails : List Mail) {kept kept' : List PlainJudged} (first s : State)
+    (events events' : List Happening) (notes : List (List ℕ)) (now next : Seen) (same : s ≡ first)
+    (none : events ≡ []) (unopened : first.turn.stage ≡ Unopened)
+    (reads : ReadsFiles events events' now next) (more : Keeps kept kept')
+    (on : (given : Given) → IsLent s.turn.stage mails kept' given → (first : State)
+    → (screens : List (List (List ℕ))) → Stands given first events s (screens ++ shown given s)
+    → GoesOn given first events' screens notes) where
+  begun : Sources kept first events s now now
+  begun = sources_begun kept first s events now same none
+
+  here_unopened : s.turn.stage ≡ Unopened
+  here_unopened = ap (λ (t : State). t.turn.stage) same ∙ unopened
+
+  pub begun_off : SourcesOff kept' first events' now next
+  begun_off = sources_broken mails first s events events' notes now now next here_unopened reads
+      more on begun
+
+  pub begun_read : (t : State) → t.window ≡ s.window
+      → ((given : Given) → IsLent s.turn.stage mails kept' given → (first : State)
+      → after_events given first events ≡ s → after_events given first events' ≡ t)
+      → Sources kept' first events' t now next
+  begun_read t window to = sources_read mails first s events events' notes now now next
+      here_unopened reads more on begun t window to
+
+-- A moment that is the same.
+
+pub sources_at : {kept : List PlainJudged} {events : List Happening} {s : State}
+    {before now : Seen} (setup : PlainSetup) (a b : ℤ) → a ≡ b
+    → Sources kept (first_state setup a) events s before now
+    → Sources kept (first_state setup b) events s before now
+sources_at {kept} {events} {s} {before} {now} setup a b same sources =
+    subst (λ (m : ℤ). Sources kept (first_state setup m) events s before now) same sources
+
+pub off_at : {kept : List PlainJudged} {events : List Happening} {before now : Seen}
+    (setup : PlainSetup) (a b : ℤ) → a ≡ b → SourcesOff kept (first_state setup a) events before now
+    → SourcesOff kept (first_state setup b) events before now
+off_at {kept} {events} {before} {now} setup a b same off =
+    subst (λ (m : ℤ). SourcesOff kept (first_state setup m) events before now) same off

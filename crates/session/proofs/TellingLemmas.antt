@@ -1,9 +1,9 @@
 -- How what the events say of the disk goes on by one event.
 use Rattle.std.proofs.Common.{◌≡◌, ◌≤◌, ℕ, ℤ, List, [], ◌∷◌, ◌++◌, Option, Some, None, IfSome}
 use Rattle.std.proofs.Common.{length}
-use Rattle.std.proofs.Common.{take, refl, sym, ◌∙◌, ap, subst, arith}
+use Rattle.std.proofs.Common.{take, refl, sym, ◌∙◌, ap, subst, arith, append_assoc}
 use Rattle.std.proofs.Math.Seq.{take-length, take-append_seam}
-use Rattle.std.proofs.lemmas.List.{take-append-le}
+use Rattle.std.proofs.lemmas.List.{append-nil, take-append-le}
 use Rattle.mail_base.specs.declared.kind.Kind.{Kind}
 use Rattle.disk_model.specs.Journal.{Past, Entry}
 use Rattle.disk_model.specs.Judge.{GoesOn}
@@ -24,6 +24,7 @@ use Rattle.session_events.specs.Happened.{HasCause, past_at}
 use Rattle.session.specs.Given.{Given}
 use Rattle.session.specs.Runs.{State, after, after_events}
 use Rattle.session_events.specs.Telling.{HasFileCause, Tells, TellsFile}
+use Rattle.session.specs.Steps.{ReadsFiles, TellsEach}
 use Rattle.session.specs.Telling.{IsTold, Witnessed}
 
 -- Pasts at marks.
@@ -253,6 +254,21 @@ module _ (Has : Kind → Type 0) where
     tells_file empty (FolderOpened path kind moment came kept) old new h = absurd h.cause
     tells_file empty (FolderRefused path why kept) old new h = absurd h.cause
 
+    -- events of files tell of it one after the other
+    pub witnessed_each : (s : State) (events files : List Happening) (first now next : Seen)
+        → TellsEach files now next → Witnessed Has given s events first now
+        → Witnessed Has given s (events ++ files) first next
+    witnessed_each s events [] first now next each h =
+        subst (λ (l : List Happening). Witnessed Has given s l first next)
+        (sym (append-nil events))
+        (subst (λ (n : Seen). Witnessed Has given s events first n) (sym each) h)
+    witnessed_each s events (event ∷ files) first now next each h =
+        subst (λ (l : List Happening). Witnessed Has given s l first next)
+        (append_assoc events (event ∷ []) files)
+        (witnessed_each s (events ++ event ∷ []) files first each.0 next each.2
+        (witnessed_push s (after_events given s events) events event first now each.0 refl
+        (tells_file (kind_in (after_events given s events)) event now each.0 each.1) h))
+
 -- the event of a file is one
 pub file_is : (event : Happening) (marks : Marks) → HasFileCause event marks → IsFile event
 file_is (FileRead path text kept) marks h = tt
@@ -265,6 +281,45 @@ pub files_append : (events : List Happening) (event : Happening) → AreFiles ev
     → AreFiles (events ++ event ∷ [])
 files_append [] event h k = (k, tt)
 files_append (e ∷ events) event h k = (h.0, files_append events event h.1 k)
+
+-- Events of files, one after the other.
+
+pub each_are : (files : List Happening) (old new : Seen) → TellsEach files old new → AreFiles files
+each_are [] old new each = tt
+each_are (event ∷ files) old new each =
+    (file_is event each.1.marks each.1.cause, each_are files each.0 new each.2)
+
+pub each_faults : (files : List Happening) (old new : Seen) → TellsEach files old new
+    → old.faults ≤ new.faults
+each_faults [] old new each = omega (arith, ap (λ (s : Seen). s.faults) each)
+each_faults (event ∷ files) old new each =
+    omega (arith, each.1.faults, each_faults files each.0 new each.2)
+
+each_then : (files more : List Happening) (old mid new : Seen) → TellsEach files old mid
+    → TellsEach more mid new → TellsEach (files ++ more) old new
+each_then [] more old mid new first next =
+    subst (λ (s : Seen). TellsEach more s new) first next
+each_then (event ∷ files) more old mid new first next =
+    (first.0, first.1, each_then files more first.0 mid new first.2 next)
+
+pub reads_none : (events events' : List Happening) (old new : Seen) → events' ≡ events → new ≡ old
+    → ReadsFiles events events' old new
+reads_none events events' old new same still =
+    record { files = []; added = same ∙ sym (append-nil events); each = still }
+
+pub reads_then : (a b c : List Happening) (old mid new : Seen) → ReadsFiles a b old mid
+    → ReadsFiles b c mid new → ReadsFiles a c old new
+reads_then a b c old mid new first next = record {
+  files = first.files ++ next.files;
+  added = next.added ∙ ap (λ (l : List Happening). l ++ next.files) first.added
+      ∙ append_assoc a first.files next.files;
+  each = each_then first.files next.files old mid new first.each next.each;
+}
+
+pub files_more : (events files : List Happening) → AreFiles events → AreFiles files
+    → AreFiles (events ++ files)
+files_more [] files are more = more
+files_more (event ∷ events) files are more = (are.0, files_more events files are.1 more)
 
 -- Files of commands need no driver.
 module _ (Has Other : Kind → Type 0) where

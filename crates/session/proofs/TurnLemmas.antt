@@ -18,9 +18,10 @@ use Rattle.session.specs.Core.{CoreState, Ground}
 use Rattle.session.specs.Keys.{Steps, behind, run_keys, settled, stage_after, stop_by, stopped}
 use Rattle.session.specs.Keys.{turn_of, with_begun, with_put}
 use Rattle.session_state.specs.declared.stage.Stage.{Stage}
-use Rattle.session_state.specs.declared.stage.Stage.TheVariants.{Idle}
+use Rattle.session_state.specs.declared.stage.Stage.TheVariants.{Idle, Reading}
 use Rattle.session.proofs.KeysLemmas.{IsLess, by_pressed, less_is, none_left, press_is}
-use Rattle.session.proofs.KeysLemmas.{put_drops, put_is, type_is}
+use Rattle.session.proofs.KeysLemmas.{put_drops, put_is, type_is, wait_is}
+use Rattle.std.specs.Prelude.{MatchOption}
 
 abbrev answered : Press → PlainRules → PlainQueue → Pressed
 answered press rules queue =
@@ -82,16 +83,41 @@ module _ (g : Ground) (core next : CoreState) (rules : PlainRules) (queue queue'
   steps_on None none at = goes_on (sym at)
 
 -- the prompt that stands took the first key
-pub typed_on : (g : Ground) (core next : CoreState) (queue queue' : PlainQueue) (key : Key)
-    → core.rules.put ≡ [] → ¬ (core.desk.prompt ≡ None) → queue.items ≡ key ∷ queue'.items
-    → queue'.replaced ≡ queue.replaced → next ≡ prompted g key core
-    → settled g next queue' ≡ settled g core queue
-typed_on g core next queue queue' key empty some items replaced acts =
-    ap (λ (c : CoreState). settled g c queue') acts
-    ∙ ap (λ (n : ℕ). run_keys g (1024 - n) n queue'.items (prompted g key core)) replaced
-    ∙ type_is g (1024 - queue.replaced) queue.replaced key queue'.items core empty some
-    ∙ ap (λ (keys : List Key). run_keys g (1024 - queue.replaced) queue.replaced keys core)
-    (sym items)
+module _ (g : Ground) (core next : CoreState) (queue queue' : PlainQueue) (key : Key)
+    (empty : core.rules.put ≡ []) (some : ¬ (core.desk.prompt ≡ None))
+    (items : queue.items ≡ key ∷ queue'.items) (replaced : queue'.replaced ≡ queue.replaced)
+    (acts : next ≡ prompted g key core) where
+  abbrev frames_are : next.frames ≡ (prompted g key core).frames
+  frames_are = ap (λ (c : CoreState). c.frames) acts
+
+  pub typed_on : next.frames ≡ [] → settled g next queue' ≡ settled g core queue
+  typed_on read =
+      ap (λ (c : CoreState). settled g c queue') acts
+      ∙ ap (λ (n : ℕ). run_keys g (1024 - n) n queue'.items (prompted g key core)) replaced
+      ∙ type_is g (1024 - queue.replaced) queue.replaced key queue'.items core empty some
+      (sym frames_are ∙ read)
+      ∙ ap (λ (keys : List Key). run_keys g (1024 - queue.replaced) queue.replaced keys core)
+      (sym items)
+
+  -- and the keys wait for a file
+  pub typed_off : (last : CoreState) → ¬ (next.frames ≡ []) → last ≡ granted next
+      → turn_of Reading last queue' ≡ settled g core queue
+  typed_off last unread grants =
+      ap (λ (c : CoreState). turn_of Reading c queue') (grants ∙ ap granted acts)
+      ∙ ap (λ (n : ℕ). stopped Reading n queue'.items (prompted g key core)) replaced
+      ∙ wait_is g (1024 - queue.replaced) queue.replaced key queue'.items core empty some
+      (λ none. unread (frames_are ∙ none))
+      ∙ ap (λ (keys : List Key). run_keys g (1024 - queue.replaced) queue.replaced keys core)
+      (sym items)
+
+  -- whether they wait or not
+  pub typed_so : (waits : Option Stage) (last : CoreState)
+      → MatchOption waits ((last ≡ next) × (next.frames ≡ []))
+      (λ stage. (stage ≡ Reading) × (¬ (next.frames ≡ [])) × (last ≡ granted next))
+      → Steps waits g core last queue queue'
+  typed_so None last h = ap (λ (c : CoreState). settled g c queue') h.0 ∙ typed_on h.1
+  typed_so (Some stage) last h =
+      ap (λ (t : Stage). turn_of t last queue') h.0 ∙ typed_off last h.1 h.2
 
 -- keys that a command has put stand first
 pub put_on : (g : Ground) (core next : CoreState) (queue queue' : PlainQueue) (text : List Key)

@@ -11,7 +11,6 @@ use Rattle.prompts.specs.declared.asking.Asking.{Asking}
 use Rattle.prompts.specs.declared.asking.Asking.TheVariants as asking
 use Rattle.rc_lang.specs.Settings.{outcome}
 use Rattle.rc_lang.specs.Values.{PlainValue}
-use Rattle.rc_lang_words.specs.Words.{lines_of}
 use Rattle.session_index.specs.Answering.{answered, chosen, limited}
 use Rattle.session_index.specs.Desk.{PlainWanted, ToAnswer, ToChoose, ToEnd, Unasked}
 use Rattle.session_index.specs.Effects.{with_index}
@@ -20,10 +19,11 @@ use Rattle.session_index.specs.Opening.{tuned as tuned_desk}
 use Rattle.session.specs.Core.{CoreState, Ground, instant_of, with_desk}
 use Rattle.session.specs.Rules.{rule_of}
 use Rattle.session_state.specs.Days.{reading_of}
+use Rattle.session_state.specs.Frames.{Script, typed_script}
+use Rattle.session_state.specs.Told.{nothing_told}
 use Rattle.session_state.specs.Lessons.{Kept, Named, Person, PlainLesson, Scored}
 use Rattle.session_screen.specs.Sorting.{sort_words}
 use Rattle.session_screen.specs.Tuning.{options_of}
-use Rattle.session_state.specs.Typed.{Typed, typed_run}
 use Rattle.session_screen.specs.declared.window.Window.{Window}
 
 -- Patterns.
@@ -69,8 +69,10 @@ abbrev pub shown_on : Option (List ℕ) → CoreState → CoreState
 shown_on None c = c
 shown_on (Some text) c = with_desk (record c.desk { message = text }) c
 
-abbrev pub told : Typed → CoreState → CoreState
-told t c = shown_on t.shown (record c { rules = t.rules })
+-- commands have set this, and these files are still to be read
+abbrev pub ran_to : Script → CoreState → CoreState
+ran_to script c =
+    shown_on script.told.shown (record c { rules = script.rules; frames = script.frames })
 
 abbrev pub with_scores : List Mail → List PlainEntry → PlainIndex → PlainIndex
 with_scores mails entries i = given_index mails (record i.facts { scores = entries }) i
@@ -95,11 +97,15 @@ learnt mails c = record c {
   desk = with_index (with_lessons mails c.rules.lessons c.desk.index) c.desk;
 }
 
--- a line of commands was typed: they are run, and the index learns what they tell it and stands by
--- the variables
+-- the index learns what commands tell it, and stands by the variables
+abbrev pub caught_up : List Mail → CoreState → CoreState
+caught_up mails c = tuned mails (learnt mails c)
+
+-- a line of commands was typed: they are run, up to one that names a file; what they tell stands on
+-- the last line alone
 abbrev pub commanded : Ground → List ℕ → CoreState → CoreState
-commanded g text c = tuned g.given.mails (learnt g.given.mails (told
-    (typed_run (instant_of g.window g.moment) g.given.verdicts None (lines_of text) c.rules) c))
+commanded g text c = caught_up g.given.mails (ran_to (typed_script (instant_of g.window g.moment)
+    g.given.verdicts text c.frames c.rules nothing_told) c)
 
 -- Texts.
 

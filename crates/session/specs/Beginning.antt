@@ -94,7 +94,7 @@ pub record Fails (Has : Kind → Type 0) (given : Given) (first : State) (moment
 -- Files of commands were read to their ends, and each name has a line.
 pub record AnswersNames (given : Given) (first : State) (events : List Happening)
     (names lines : List (List ℕ)) (notes : List (List ℕ)) : Type 0 where
-  pub read : (after_events given first events).frames ≡ []
+  pub read : (after_events given first events).turn.core.frames ≡ []
   pub noted : (after_events given first events).notes ≡ notes
   pub lines_are : lines
       ≡ map (answer_line (after_events given first events).turn.core.rules.settings) names

@@ -8,6 +8,7 @@ use Rattle.session_index.specs.Desk.{PlainDesk, Unasked, plain_desk}
 use Rattle.session_index.specs.Index.{index_of}
 use Rattle.session_index.specs.Effects.{said as said_on}
 use Rattle.session_index.specs.declared.notice.Notice.{Notice}
+use Rattle.session_state.specs.Frames.{PlainFrame, plain_frames}
 use Rattle.session_state.specs.Rules.{PlainRules, first_rules}
 use Rattle.session_screen.specs.Tuning.{options_of}
 use Rattle.session.specs.Given.{Given, given_of}
@@ -15,22 +16,25 @@ use Rattle.session.specs.declared.core_state.Core.{Core}
 use Rattle.session_screen.specs.declared.window.Window.{Window}
 use Rattle.session_state.specs.declared.instant.Instant.{Instant}
 
--- what muttrc has set, what the index shows, and the text of its limit
+-- what muttrc has set, what the index shows, the text of its limit, and the files of commands that
+-- are not at their ends
 pub record CoreState : Type 0 where
   pub rules : PlainRules
   pub desk : PlainDesk
   pub limit : Option (List ℕ)
+  pub frames : List PlainFrame
 
 abbrev pub plain_core : Core → CoreState
 plain_core core = record {
   rules = core.rules;
   desk = plain_desk core.desk;
   limit = option_map (λ text. text.items) core.limit;
+  frames = plain_frames core.frames;
 }
 
--- before a muttrc is read and a folder is open
-abbrev pub first_core : Bool → CoreState
-first_core read_only = record {
+-- before these files of commands are read and a folder is open
+abbrev pub first_core : Bool → List PlainFrame → CoreState
+first_core read_only frames = record {
   rules = first_rules;
   desk = record {
     index = index_of (first_view (options_of first_rules.settings) no_people []);
@@ -42,6 +46,7 @@ first_core read_only = record {
     wanted = Unasked;
   };
   limit = None;
+  frames = frames;
 }
 
 -- a core that is this one, over these letters

@@ -16,8 +16,9 @@ use Rattle.session_index.specs.Desk.{PlainWanted, ToAnswer, ToChoose, ToEnd, Una
 use Rattle.session.specs.Acting.{acted, prompted}
 use Rattle.session.specs.Answers.{granted}
 use Rattle.session.specs.Core.{CoreState, Ground}
+use Rattle.session_state.specs.Frames.{PlainFrame}
 use Rattle.session_state.specs.declared.stage.Stage.{Stage}
-use Rattle.session_state.specs.declared.stage.Stage.TheVariants.{Idle, Over}
+use Rattle.session_state.specs.declared.stage.Stage.TheVariants.{Idle, Over, Reading}
 
 -- what keys act on, the keys that wait, how many replacements were made, and what is wanted next
 pub record TurnState : Type 0 where
@@ -74,10 +75,20 @@ step g replaced again keys rest begun None Begun c = rest (with_begun begun c)
 step g replaced again keys rest begun None Unbound c =
     behind g press.Unbound replaced keys rest (with_begun [] c)
 
+-- the keys wait while files are read that commands have named
+abbrev pub read_first : List PlainFrame → ℕ → List Key → (CoreState → TurnState) → CoreState
+    → TurnState
+read_first [] replaced keys rest c = rest c
+read_first (frame ∷ frames) replaced keys rest c = stopped Reading replaced keys c
+
+abbrev pub behind_prompt : ℕ → List Key → (CoreState → TurnState) → CoreState → TurnState
+behind_prompt replaced keys rest c = read_first c.frames replaced keys rest c
+
 -- the first key: a prompt that stands takes it
 abbrev pub step_at : Ground → ℕ → (List Key → CoreState → TurnState) → Key → List Key
     → (CoreState → TurnState) → Option PlainPrompt → CoreState → TurnState
-step_at g replaced again key keys rest (Some prompt) c = rest (prompted g key c)
+step_at g replaced again key keys rest (Some prompt) c =
+    behind_prompt replaced keys rest (prompted g key c)
 step_at g replaced again key keys rest None c =
     step g replaced again keys rest (c.rules.keymap.begun ++ key ∷ []) (called key)
     (found_in c.rules.keymap Index (c.rules.keymap.begun ++ key ∷ [])) c
@@ -108,6 +119,11 @@ unfoldable pub run_keys : Ground → ℕ → ℕ → List Key → CoreState → 
 run_keys g zero replaced keys c = keys_by g replaced (drop_all g replaced) keys c
 run_keys g (suc left) replaced keys c =
     keys_by g replaced (run_keys g left (replaced + 1)) keys c
+
+-- the keys that wait act
+abbrev pub run_on : Ground → TurnState → TurnState
+run_on g turn =
+    run_keys g (most_replacements - turn.replaced) turn.replaced turn.queue turn.core
 
 -- the keys of a queue act
 abbrev pub settled : Ground → CoreState → PlainQueue → TurnState

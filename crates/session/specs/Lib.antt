@@ -12,3 +12,4 @@ pub mod Starting
 pub mod Steps
 pub mod Beginning
 pub mod Fitting
+pub mod Calls

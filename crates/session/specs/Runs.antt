@@ -5,7 +5,6 @@ use Rattle.mail_base.specs.declared.kind.Kind.{Kind}
 use Rattle.disk_model.specs.declared.answers.DiskError.{DiskError}
 use Rattle.folder_core.specs.Letters.{Mail}
 use Rattle.folder_core.specs.declared.listing.Listed.{Listed}
-use Rattle.keymap.specs.Queue.{most_replacements}
 use Rattle.keymap.specs.declared.key.Key.{Key}
 use Rattle.people.specs.Judged.{PlainJudged}
 use Rattle.session_events.specs.Events.{Happening, FileRead, FileRefused, KeyPressed, FolderOpened}
@@ -13,29 +12,31 @@ use Rattle.session_events.specs.Events.{FolderRefused}
 use Rattle.session_events.specs.Wishes.{Nothing, Open, Press, Source, Wish, answered, moment_of}
 use Rattle.session_state.specs.declared.stage.Stage.{Stage}
 use Rattle.session_state.specs.declared.stage.Stage.TheVariants.{Unopened, Pushing, Idle, Ready}
-use Rattle.session_state.specs.declared.stage.Stage.TheVariants.{Over}
+use Rattle.session_state.specs.declared.stage.Stage.TheVariants.{Over, Reading}
 use Rattle.session_screen.specs.declared.window.Window.{Window}
-use Rattle.session_state.specs.Frames.{PlainFrame, Script, plain_frames, read_script, skip_script}
+use Rattle.session_state.specs.Frames.{PlainFrame, Script, read_script, skip_script}
 use Rattle.session_screen.specs.Places.{folder_path}
 use Rattle.session_state.specs.Rules.{put_all, without_puts}
+use Rattle.session_state.specs.Told.{nothing_told}
+use Rattle.session.specs.Answers.{caught_up, ran_to}
 use Rattle.session.specs.Core.{CoreState, Ground, instant_of, plain_core, with_desk}
 use Rattle.session.specs.Given.{Given}
-use Rattle.session.specs.Keys.{TurnState, run_keys}
+use Rattle.session.specs.Keys.{TurnState, run_on}
 use Rattle.session.specs.Opening.{opened}
 use Rattle.session.specs.Screen.{Folder, screen}
 use Rattle.session.specs.declared.session_type.Session.{Session}
 
--- what keys act on; the files of commands that are not at their ends, and what was told of them;
--- the screen's size; the open folder, its listing and the moment of its last check, before its
--- opening that of the start; and the folder that the words name
+-- what keys act on; what was told of files of commands; the screen's size; the open folder, its
+-- listing and the moment of its last check, before its opening that of the start; the moment at
+-- which commands run and keys act; and the folder that the words name
 pub record State : Type 0 where
   pub turn : TurnState
-  pub frames : List PlainFrame
   pub notes : List (List ℕ)
   pub window : Window
   pub folder : Folder
   pub listing : List Listed
   pub checked : ℤ
+  pub moment : ℤ
   pub named : Option (List ℕ)
 
 abbrev pub plain_session : Session → Held (Held ℕ) → State
@@ -46,27 +47,29 @@ plain_session session notes = record {
     replaced = session.queue.replaced;
     stage = session.stage;
   };
-  frames = plain_frames session.frames;
   notes = plain_texts notes;
   window = session.window;
   folder = record { path = session.path.items; kind = session.kind };
   listing = session.listing.items;
   checked = session.checked.0;
+  moment = session.moment.0;
   named = option_map (λ path. path.items) session.named;
 }
 
 -- Wishes.
 
--- first the files of commands, and then the folder
-abbrev pub first_wish : List PlainFrame → State → Wish
-first_wish [] s = Open (folder_path s.turn.core.rules.settings s.named)
-first_wish (frame ∷ frames) s = Source frame.place.file
+-- the files of commands come first
+abbrev pub file_wish : List PlainFrame → Wish → Wish
+file_wish [] other = other
+file_wish (frame ∷ frames) other = Source frame.place.file
 
 abbrev pub wish_at : Stage → State → ℤ → Wish
-wish_at Unopened s moment = first_wish s.frames s
+wish_at Unopened s moment = file_wish s.turn.core.frames
+    (Open (folder_path s.turn.core.rules.settings s.named))
 wish_at Pushing s moment = Nothing
 wish_at Idle s moment = Press moment
 wish_at Ready s moment = Press moment
+wish_at Reading s moment = file_wish s.turn.core.frames Nothing
 wish_at Over s moment = Nothing
 
 -- what is wished at this moment
@@ -81,12 +84,12 @@ Answers s event = wish s (moment_of event) ≡ answered event
 abbrev pub at_stage : Stage → State → State
 at_stage stage s = record s { turn = record s.turn { stage = stage } }
 
+abbrev pub with_core : CoreState → State → State
+with_core c s = record s { turn = record s.turn { core = c } }
+
 abbrev pub with_script : Script → State → State
-with_script script s = record s {
-  turn = record s.turn { core = record s.turn.core { rules = script.rules } };
-  frames = script.frames;
-  notes = script.notes;
-}
+with_script script s = with_core (ran_to script s.turn.core)
+    (record s { notes = s.notes ++ script.told.notes })
 
 -- a key was taken: the message line is empty
 abbrev pub quiet : CoreState → CoreState
@@ -97,25 +100,32 @@ taken_at Idle s = record s { turn = record s.turn { core = quiet s.turn.core; st
 taken_at Unopened s = s
 taken_at Pushing s = s
 taken_at Ready s = s
+taken_at Reading s = s
 taken_at Over s = s
 
 abbrev pub taken : State → State
 taken s = taken_at s.turn.stage s
 
--- what keys are lent at a moment
-abbrev pub ground : Given → ℤ → State → Ground
-ground given moment s = record { given = given; window = s.window; moment = moment }
+-- what keys are lent
+abbrev pub ground : Given → State → Ground
+ground given s = record { given = given; window = s.window; moment = s.moment }
 
--- these keys act at a moment, of which none was replaced yet
-abbrev pub acting : Given → ℤ → List Key → CoreState → State → State
-acting given moment keys c s =
-    record s { turn = run_keys (ground given moment s) most_replacements 0 keys c }
+-- the keys that wait act
+abbrev pub acting : Given → State → State
+acting given s = record s { turn = run_on (ground given s) s.turn }
 
--- the keys that commands have put act, at the moment of the opening
+-- these keys wait, of which none was replaced yet
+abbrev pub waiting : List Key → State → State
+waiting keys s = record s { turn = record s.turn { queue = keys; replaced = 0 } }
+
+-- the keys that commands have put wait alone
+abbrev pub putting : State → State
+putting s = waiting (put_all s.turn.core.rules.put)
+    (with_core (record s.turn.core { rules = without_puts s.turn.core.rules }) s)
+
+-- they act, at the moment of the opening
 abbrev pub pushed : Given → State → State
-pushed given s =
-    acting given s.checked (put_all s.turn.core.rules.put)
-    (record s.turn.core { rules = without_puts s.turn.core.rules }) s
+pushed given s = acting given (putting s)
 
 abbrev pub opened_by : List Mail → List ℕ → Kind → ℤ → List Listed → State → State
 opened_by mails path kind moment came s = record s {
@@ -123,26 +133,50 @@ opened_by mails path kind moment came s = record s {
   folder = record { path = path; kind = kind };
   listing = came;
   checked = moment;
+  moment = moment;
 }
 
 -- the text of the file that was wished was read
 abbrev pub read_in : List PlainJudged → List ℕ → State → State
-read_in verdicts text s = with_script (read_script (instant_of s.window s.checked) verdicts text
-    s.frames s.turn.core.rules s.notes) s
+read_in verdicts text s = with_script (read_script (instant_of s.window s.moment) verdicts text
+    s.turn.core.frames s.turn.core.rules nothing_told) s
 
 -- the file that was wished was not read
 abbrev pub skipped : List PlainJudged → DiskError → State → State
-skipped verdicts why s = with_script (skip_script (instant_of s.window s.checked) verdicts why
-    s.frames s.turn.core.rules s.notes) s
+skipped verdicts why s = with_script (skip_script (instant_of s.window s.moment) verdicts why
+    s.turn.core.frames s.turn.core.rules nothing_told) s
+
+-- behind the last file the keys go on that have named it
+abbrev pub going_on : Given → List PlainFrame → State → State
+going_on given [] s = acting given s
+going_on given (frame ∷ frames) s = s
+
+-- behind a file that keys have named, the index learns what its commands tell it
+abbrev pub reading_on : Given → State → State
+reading_on given s = going_on given (caught_up given.mails s.turn.core).frames
+    (with_core (caught_up given.mails s.turn.core) s)
+
+-- behind a file
+abbrev pub read_at : Stage → Given → State → State
+read_at Unopened given s = s
+read_at Pushing given s = s
+read_at Idle given s = s
+read_at Ready given s = s
+read_at Reading given s = reading_on given s
+read_at Over given s = s
+
+abbrev pub read_on : Given → State → State
+read_on given s = read_at s.turn.stage given s
 
 -- a key was typed
 abbrev pub typed : Given → Key → ℤ → State → State
-typed given key moment s = acting given moment (s.turn.queue ++ key ∷ []) s.turn.core s
+typed given key moment s =
+    acting given (waiting (s.turn.queue ++ key ∷ []) (record s { moment = moment }))
 
 -- the state that an event leads to, in which keys may still wait behind an opening
 abbrev pub arrived : Given → State → Happening → State
-arrived given s (FileRead path text marks) = read_in given.verdicts text s
-arrived given s (FileRefused path why marks) = skipped given.verdicts why s
+arrived given s (FileRead path text marks) = read_on given (read_in given.verdicts text s)
+arrived given s (FileRefused path why marks) = read_on given (skipped given.verdicts why s)
 arrived given s (KeyPressed key moment) = typed given key moment (taken s)
 arrived given s (FolderOpened path kind moment came marks) =
     opened_by given.mails path kind moment came s
@@ -176,6 +210,7 @@ stage_screens given Unopened s = []
 stage_screens given Pushing s = []
 stage_screens given Idle s = screen_in given.mails s ∷ []
 stage_screens given Ready s = []
+stage_screens given Reading s = []
 stage_screens given Over s = []
 
 abbrev pub shown : Given → State → List (List (List ℕ))

@@ -33,16 +33,16 @@ plain_setup setup = record {
 abbrev pub first_state : PlainSetup → ℤ → State
 first_state setup moment = record {
   turn = record {
-    core = first_core setup.read_only;
+    core = first_core setup.read_only (first_frames setup.rc setup.commands setup.kind);
     queue = [];
     replaced = 0;
     stage = Unopened;
   };
-  frames = first_frames setup.rc setup.commands setup.kind;
   notes = [];
   window = setup.window;
   folder = record { path = []; kind = Mbox };
   listing = [];
   checked = moment;
+  moment = moment;
   named = setup.path;
 }

@@ -1,5 +1,5 @@
 -- How a session stands in its run.
-use Rattle.std.specs.Prelude.{◌≡◌, ◌≤◌, ℕ, ℤ, List, [], ◌∷◌, ◌++◌}
+use Rattle.std.specs.Prelude.{◌≡◌, ◌≢◌, ◌≤◌, ℕ, ℤ, List, [], ◌∷◌, ◌++◌}
 use Rattle.mail_base.specs.declared.kind.Kind.{Kind}
 use Rattle.disk_model.specs.Seen.{Seen}
 use Rattle.folder_core.specs.Letters.{Mail}
@@ -8,12 +8,14 @@ use Rattle.patterns.specs.Causes.{Keeps}
 use Rattle.people.specs.Judged.{PlainJudged}
 use Rattle.session_state.specs.declared.stage.Stage.{Stage}
 use Rattle.session_state.specs.declared.stage.Stage.TheVariants.{Unopened, Pushing, Idle, Ready}
-use Rattle.session_state.specs.declared.stage.Stage.TheVariants.{Over}
+use Rattle.session_state.specs.declared.stage.Stage.TheVariants.{Over, Reading}
 use Rattle.session_events.specs.declared.setup.Next.{Next}
 use Rattle.session_events.specs.declared.setup.Next.TheVariants.{Go, Quit}
 use Rattle.session_events.specs.Events.{AreFiles, Happening, KeyPressed}
+use Rattle.session_events.specs.Telling.{TellsFile}
 use Rattle.session.specs.Given.{Given, IsGiven}
 use Rattle.session.specs.Runs.{IsRunFrom, State, after_events, pushed, screens_from, shown, taken}
+use Rattle.session_state.specs.Frames.{PlainFrame}
 use Rattle.session.specs.Telling.{Driverless, Witnessed}
 
 -- The events are a run from the first state; they lead to this state and show these screens.
@@ -43,28 +45,76 @@ abbrev pub IsNext : Next → Stage → Type 0
 IsNext Go stage = stage ≡ Idle
 IsNext Quit stage = stage ≡ Over
 
--- What a key does to a run: its event is last, and the run stands so behind it.
-pub record PressesKey (mails : List Mail) (kept : List PlainJudged) (key : Key) (moment : ℤ)
-    (old new : State) (events events' : List Happening) : Type 0 where
-  pub pressed : events' ≡ events ++ KeyPressed key moment ∷ []
-  pub window : new.window ≡ old.window
-  pub stood : (given : Given) → IsGiven mails kept given → (first : State)
-      → (screens : List (List (List ℕ))) → IsTaken given first events old screens
-      → Stands given first events' new (screens ++ shown given new)
+-- The events are a run, which shows these screens and then, if it shows one, the state to which they
+-- lead; so many notes stood before.
+pub record GoesOn (given : Given) (first : State) (events : List Happening)
+    (screens : List (List (List ℕ))) (notes : List (List ℕ)) : Type 0 where
+  pub run : IsRunFrom given first events
+  pub screens_are : screens_from given first events
+      ≡ screens ++ shown given (after_events given first events)
+  pub more : List (List ℕ)
+  pub noted : (after_events given first events).notes ≡ notes ++ more
 
--- What holds of a run also where a key is broken off: its events are a run, and what they say of
--- the disk stays true.
-pub record StaysRun (Has : Kind → Type 0) (mails : List Mail) (kept : List PlainJudged)
-    (old : State) (events events' : List Happening) : Type 0 where
-  pub run : (given : Given) → IsGiven mails kept given → (first : State)
-      → (screens : List (List (List ℕ))) → IsTaken given first events old screens
-      → IsRunFrom given first events'
-  pub told : (given : Given) → (first : State) → (before now : Seen)
-      → Witnessed Has given first events before now
-      → Witnessed Has given first events' before now
+-- A key was pressed, and files of commands were read that it came to.
+pub record PressesKey (key : Key) (moment : ℤ) (events events' : List Happening) : Type 0 where
+  pub files : List Happening
+  pub are : AreFiles files
+  pub pressed : events' ≡ events ++ KeyPressed key moment ∷ files
 
--- Files of commands are read: the events are a run up to this state, no screen was shown, and what
--- they say of the disk is true, for every list that keeps these verdicts.
+-- The same without a key.
+pub record AddsFiles (events events' : List Happening) : Type 0 where
+  pub files : List Happening
+  pub are : AreFiles files
+  pub added : events' ≡ events ++ files
+
+-- What the events say of the disk stays true.
+abbrev pub StaysTold : (Kind → Type 0) → List Happening → List Happening → Seen → Seen → Type 0
+StaysTold Has events events' now next = (given : Given) → (first : State) → (before : Seen)
+    → Witnessed Has given first events before now → Witnessed Has given first events' before next
+
+-- Files of commands.
+
+-- before a folder is open the letters have no say
+abbrev pub IsLent : Stage → List Mail → List PlainJudged → Given → Type 0
+IsLent Unopened mails kept given = Keeps kept given.verdicts
+IsLent Pushing mails kept given = IsGiven mails kept given
+IsLent Idle mails kept given = IsGiven mails kept given
+IsLent Ready mails kept given = IsGiven mails kept given
+IsLent Reading mails kept given = IsGiven mails kept given
+IsLent Over mails kept given = IsGiven mails kept given
+
+-- one event of a file after the other, in which the device went from one view to the next
+abbrev pub TellsEach : List Happening → Seen → Seen → Type 0
+TellsEach [] old new = new ≡ old
+TellsEach (event ∷ events) old new =
+    (mid : Seen) × TellsFile event old mid × TellsEach events mid new
+
+-- Files of commands were read.
+pub record ReadsFiles (events events' : List Happening) (old new : Seen) : Type 0 where
+  pub files : List Happening
+  pub added : events' ≡ events ++ files
+  pub each : TellsEach files old new
+
+-- no file of commands is wished
+abbrev pub IsFileless : Stage → List PlainFrame → Type 0
+IsFileless Unopened frames = frames ≡ []
+IsFileless Pushing frames = Unit {0}
+IsFileless Idle frames = Unit {0}
+IsFileless Ready frames = Unit {0}
+IsFileless Reading frames = frames ≡ []
+IsFileless Over frames = Unit {0}
+
+-- keys have acted: one is wanted, or a file that they came to, or the run is over
+abbrev pub IsSettled : Stage → List PlainFrame → Type 0
+IsSettled Unopened frames = ⊥
+IsSettled Pushing frames = ⊥
+IsSettled Idle frames = Unit {0}
+IsSettled Ready frames = ⊥
+IsSettled Reading frames = frames ≢ []
+IsSettled Over frames = Unit {0}
+
+-- Files of commands were read before a folder is open: the events are a run up to this state, no screen
+-- was shown, and what they say of the disk is true, for every list that keeps these verdicts.
 pub record Sources (kept : List PlainJudged) (first : State) (events : List Happening)
     (state : State) (before now : Seen) : Type 0 where
   pub are : AreFiles events
@@ -93,4 +143,5 @@ next_of Unopened = Go
 next_of Pushing = Go
 next_of Idle = Go
 next_of Ready = Go
+next_of Reading = Go
 next_of Over = Quit

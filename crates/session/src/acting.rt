@@ -5,20 +5,34 @@ use folder_core::Archive;
 use keymap::{Key, Press};
 use mail_base::NoMemory;
 use people::Verdicts;
-use session_index::Notice;
-use session_screen::Window;
+use rc_lang::Variable;
+use session_index::{Notice, Rule};
+use session_screen::{Window, is_set};
 use session_state::Moment;
 
 impl Core {
-    ghost use Rattle.std.specs.Prelude.{◌≡◌, ℤ, List, map, OnOk};
+    ghost use Rattle.std.specs.Prelude.{◌≡◌, ◌<◌, ℤ, List, map, OnOk};
     ghost use Rattle.folder_core.specs.Letters.{plain_letter};
     ghost use Rattle.index_view.specs.View.{IsOf};
     ghost use Rattle.people.specs.Judged.{PlainJudged};
     ghost use Rattle.session.specs.Acting as spec;
     ghost use Rattle.session.specs.Core.{Stands, ground_of, plain_core};
+    ghost use Rattle.session.specs.Rules.{rule_of};
     ghost use Rattle.session_screen.specs.Window.{IsWindow};
     ghost use Rattle.session_state.specs.Instants.{IsMoment};
     ghost use Rattle.patterns.specs.Causes.{Keeps};
+
+    /// What the settings and the window say of functions.
+    pub fn rule(&self, window: Window) -> Rule
+        requires { IsWindow window }
+        ensures rule { result ≡ rule_of self.now.rules.settings window }
+        ensures page { 0 < result.page }
+    {
+        Rule {
+            resolves: is_set(self.rules.settings(), Variable::Resolve),
+            page: window.rows as usize - 2,
+        }
+    }
 
     /// Does what keys have come to.
     #[tactic(auto, unfolding(crate::specs::Acting::acted))]

@@ -11,7 +11,7 @@ use people::Verdicts;
 use prompts::Asking;
 use session_index::{Message, Wanted};
 use session_screen::{Window, options_of, sort_words, text_of};
-use session_state::{Instant, Moment, read_at};
+use session_state::{Instant, Moment, Told, read_at, run_typed};
 use std::alloc::Global;
 
 // Whether a text takes the limit away.
@@ -22,7 +22,7 @@ fn is_no_limit(text: &[u8]) -> bool
 }
 
 impl Core {
-    ghost use Rattle.std.specs.Prelude.{◌≡◌, None, Some, List, map, OnOk};
+    ghost use Rattle.std.specs.Prelude.{◌≡◌, Some, List, map, OnOk};
     ghost use Rattle.folder_core.specs.Letters.{plain_letter};
     ghost use Rattle.index_view.specs.Limit.{plain_limit};
     ghost use Rattle.index_view.specs.View.{IsOf};
@@ -33,8 +33,9 @@ impl Core {
     ghost use Rattle.session_screen.specs.Window.{IsWindow};
     ghost use Rattle.session_state.specs.Instants.{IsInstant, IsMoment};
     ghost use Rattle.patterns.specs.Causes.{Keeps};
-    ghost use Rattle.rc_lang_words.specs.Words.{lines_of};
-    ghost use Rattle.session_state.specs.Typed.{typed_run};
+    ghost use Rattle.rc_lang.specs.Settings.{plain_shown};
+    ghost use Rattle.session_state.specs.Frames.{typed_script};
+    ghost use Rattle.session_state.specs.Told.{nothing_told};
 
     // Tells that a text is no pattern.
     fn refuse_pattern(&mut self, text: &Line) -> Result<(), NoMemory>
@@ -141,8 +142,19 @@ impl Core {
         }
     }
 
-    // Runs the commands that were typed.
-    fn run_typed(
+    /// The last line shows this, if anything.
+    pub fn show(&mut self, shown: Option<Line>)
+        ensures core { plain_core self.new
+            ≡ spec.shown_on (plain_shown shown) (plain_core self.old) }
+        ensures view { self.new.desk.view ≡ self.old.desk.view }
+    {
+        if let Some(line) = shown {
+            self.desk.message = Message::Text(line);
+        }
+    }
+
+    // Runs the commands that were typed, up to one that names a file.
+    fn run_text(
         &mut self,
         time: Instant,
         verdicts: &mut Verdicts,
@@ -151,18 +163,26 @@ impl Core {
         requires { IsInstant time }
         ensures keeps { Keeps verdicts.old.kept verdicts.new.kept }
         ensures core { OnOk result ((later : List PlainJudged) → Keeps verdicts.new.kept later
-            → plain_core self.new ≡ spec.told
-            (typed_run time later None (lines_of text.now.items) (plain_core self.old).rules)
+            → plain_core self.new ≡ spec.ran_to (typed_script time later text.now.items
+            (plain_core self.old).frames (plain_core self.old).rules nothing_told)
             (plain_core self.old)) }
         ensures view { self.new.desk.view ≡ self.old.desk.view }
     {
-        match self.rules.run_typed(time, verdicts, text.as_slice())? {
-            None => Ok(()),
-            Some(line) => {
-                self.desk.message = Message::Text(line);
-                Ok(())
-            }
-        }
+        let alloc = self.desk.alloc;
+        let mut told = Told::new(alloc);
+        let frames = &mut self.frames;
+        let text = text.as_slice();
+        run_typed(
+            alloc,
+            &mut self.rules,
+            time,
+            verdicts,
+            frames,
+            &mut told,
+            text,
+        )?;
+        self.show(told.shown);
+        Ok(())
     }
 
     // Does what commands do that were typed.
@@ -183,7 +203,17 @@ impl Core {
             (ground_of (map plain_letter archive.now.items) later window moment.0) text.now.items
             (plain_core self.old)) self.new) }
     {
-        self.run_typed(moment.with_offset(window.offset), verdicts, text)?;
+        self.run_text(moment.with_offset(window.offset), verdicts, text)?;
+        self.catch_up(archive)
+    }
+
+    /// The index learns what commands have told it, and stands by the variables.
+    pub fn catch_up(&mut self, archive: &Archive) -> Result<(), NoMemory>
+        requires { IsOf (map plain_letter archive.now.items) self.old.desk.view }
+        ensures { OnOk result (Stands (map plain_letter archive.now.items)
+            (spec.caught_up (map plain_letter archive.now.items) (plain_core self.old))
+            self.new) }
+    {
         self.learn(archive)?;
         self.tune(archive)
     }

@@ -1,35 +1,37 @@
 //! How a session begins.
 
+use crate::core_state::Core;
 use crate::session_type::Session;
 use disk_model::Device;
-use folder_core::{Archive, Drivers};
-use mail_base::{Bytes, Lines, NoMemory, Words};
+use folder_core::{Archive, Drivers, Listing};
+use keymap::KeyQueue;
+use mail_base::{Bytes, Kind, Lines, NoMemory, Words};
 use session_events::{Event, Setup, StartError, Trace, open_event};
-use session_screen::{folder_path as path_in, new_kind as kind_in, text_of};
-use session_state::Moment;
+use session_screen::{Window, folder_path as path_in, new_kind as kind_in, text_of};
+use session_state::{Moment, Stage, first_frames};
 use std::alloc::Global;
 
 impl Session {
-    ghost use Rattle.std.specs.Prelude.{◌≡◌, [], Any, IfOk, IfErr, OnErr, OnOk};
+    ghost use Rattle.std.specs.Prelude.{◌≡◌, [], ℕ, Any, IfOk, IfErr, OnErr, OnOk};
     ghost use Rattle.std.specs.Prelude.{map, option_map};
-    ghost use Rattle.mail_base.specs.Series.{plain_texts};
+    ghost use Rattle.mail_base.specs.Series.{Held, plain_texts};
     ghost use Rattle.disk_model.specs.Seen.{Seen};
     ghost use Rattle.patterns.specs.Causes.{Keeps};
     ghost use Rattle.folder_core.specs.Letters.{plain_letter};
-    ghost use Rattle.session_state.specs.Frames.{plain_frames};
     ghost use Rattle.session_screen.specs.Places.{folder_path, new_kind};
-    ghost use Rattle.session_state.specs.declared.stage.Stage.TheVariants.{Unopened};
-    ghost use Rattle.session.specs.Beginning.{AnswersNames, Fails, Starts};
-    ghost use Rattle.session_events.specs.Events.{plain_event, plain_events};
+    ghost use Rattle.session.specs.Beginning.{AnswersNames};
+    ghost use Rattle.session.specs.Calls.{FailsIn, IsSourced, IsUnopened, StartsIn, events_in};
+    ghost use Rattle.session.specs.Calls.{letters_in};
     ghost use Rattle.session.specs.Core.{IsEmpty};
+    ghost use Rattle.session_events.specs.Events.{plain_event};
     ghost use Rattle.session_screen.specs.Window.{IsWindow};
     ghost use Rattle.session_state.specs.Instants.{IsMoment};
-    ghost use Rattle.session.specs.Fitting.{CanRead, Fits};
-    ghost use Rattle.session.specs.Given.{Given, IsGiven};
+    ghost use Rattle.session.specs.Fitting.{Fits};
+    ghost use Rattle.session.specs.Given.{Given};
     ghost use Rattle.session_events.specs.Opening.{OpensPath};
     ghost use Rattle.session.specs.Runs.{State, plain_session};
     ghost use Rattle.session.specs.Starting.{first_state, plain_setup};
-    ghost use Rattle.session.specs.Steps.{Sources, SourcesOff};
+    ghost use Rattle.session.specs.Steps.{SourcesOff};
 
     /// Reads the files of commands, and then opens the folder. The keys that commands have put wait
     /// for `pushed`.
@@ -46,25 +48,19 @@ impl Session {
         requires notes { trace.old.notes.items ≡ [] }
         requires window { IsWindow (plain_setup setup).window }
         requires moment { IsMoment moment }
-        ensures fits { IfOk result
-            (λ session. Fits (map plain_letter trace.new.archive.items) session) }
-        ensures ok { IfOk result (λ session. (given : Given)
-            → IsGiven (map plain_letter trace.new.archive.items) trace.new.verdicts.kept given
-            → Starts (λ kind. Any (λ d. sort (d.vtable, d.value) ≡ kind) drivers.now.list.items)
-            given (first_state (plain_setup setup) moment) moment
-            (plain_events trace.new.events.items) (plain_session session trace.new.notes)
+        ensures fits { IfOk result (Fits (letters_in trace.new)) }
+        ensures ok { IfOk result (λ session. StartsIn
+            (λ kind. Any (λ d. sort (d.vtable, d.value) ≡ kind) drivers.now.list.items)
+            (first_state (plain_setup setup) moment) moment session trace.new
             (seen (dev.old.disk.vtable, dev.old.disk.value))
             (seen (dev.new.disk.vtable, dev.new.disk.value))) }
-        ensures err { IfErr result (λ why. (given : Given)
-            → IsGiven (map plain_letter trace.new.archive.items) trace.new.verdicts.kept given
-            → Fails (λ kind. Any (λ d. sort (d.vtable, d.value) ≡ kind) drivers.now.list.items)
-            given (first_state (plain_setup setup) moment) moment
-            why (plain_texts trace.new.notes) (plain_events trace.new.events.items)
+        ensures err { IfErr result (λ why. FailsIn
+            (λ kind. Any (λ d. sort (d.vtable, d.value) ≡ kind) drivers.now.list.items)
+            (first_state (plain_setup setup) moment) moment why trace.new
             (seen (dev.old.disk.vtable, dev.old.disk.value))
             (seen (dev.new.disk.vtable, dev.new.disk.value))) }
     {
-        let mut session = Session::first(alloc, setup, Moment(moment))?;
-        session.source_all(dev, trace)?;
+        let mut session = Session::sourced(alloc, setup, moment, dev, trace)?;
         session.open_wished(dev, drivers, moment, trace)?;
         Ok(session)
     }
@@ -85,18 +81,69 @@ impl Session {
         requires moment { IsMoment moment }
         ensures ok { IfOk result (λ lines. (given : Given)
             → Keeps trace.new.verdicts.kept given.verdicts
-            → AnswersNames given (first_state (plain_setup setup) moment)
-            (plain_events trace.new.events.items) (plain_texts names.now) (plain_texts lines)
-            (plain_texts trace.new.notes)) }
+            → AnswersNames given (first_state (plain_setup setup) moment) (events_in trace.new)
+            (plain_texts names.now) (plain_texts lines) (plain_texts trace.new.notes)) }
         ensures sources { SourcesOff trace.new.verdicts.kept
-            (first_state (plain_setup setup) moment) (plain_events trace.new.events.items)
+            (first_state (plain_setup setup) moment) (events_in trace.new)
+            (seen (dev.old.disk.vtable, dev.old.disk.value))
+            (seen (dev.new.disk.vtable, dev.new.disk.value)) }
+        ensures archive { trace.new.archive ≡ trace.old.archive }
+    {
+        let session = Session::sourced(alloc, setup, moment, dev, trace)?;
+        session.core.rules.answers(alloc, names.as_slice())
+    }
+
+    // What a session stands on before anything happened.
+    fn first(alloc: Global, setup: Setup, moment: Moment) -> Result<Session, NoMemory>
+        ensures state { IfOk result (λ session. (notes : Held (Held ℕ)) → notes.items ≡ []
+            → plain_session session notes ≡ first_state (plain_setup setup) moment.0) }
+        ensures empty { IfOk result (λ session. IsEmpty session.core.desk.view) }
+    {
+        let commands = setup.commands.as_slice();
+        let frames = first_frames(alloc, &setup.rc, commands, setup.kind)?;
+        Ok(Session {
+            alloc,
+            core: Core::new(alloc, setup.read_only, frames)?,
+            queue: KeyQueue::new(alloc),
+            stage: Stage::Unopened,
+            window: Window {
+                rows: setup.rows,
+                cols: setup.cols,
+                offset: setup.offset,
+            },
+            path: Bytes::new(alloc),
+            kind: Kind::Mbox,
+            listing: Listing::new(alloc),
+            checked: moment,
+            moment,
+            named: setup.path,
+        })
+    }
+
+    // A session that has read its files of commands.
+    fn sourced(
+        alloc: Global,
+        setup: Setup,
+        moment: i64,
+        dev: &mut Device,
+        trace: &mut Trace,
+    ) -> Result<Session, NoMemory>
+        requires events { trace.old.events.items ≡ [] }
+        requires notes { trace.old.notes.items ≡ [] }
+        requires window { IsWindow (plain_setup setup).window }
+        requires moment { IsMoment moment }
+        ensures sourced { IfOk result (λ session. IsSourced (first_state (plain_setup setup) moment)
+            session trace.new (seen (dev.old.disk.vtable, dev.old.disk.value))
+            (seen (dev.new.disk.vtable, dev.new.disk.value))) }
+        ensures off { SourcesOff trace.new.verdicts.kept
+            (first_state (plain_setup setup) moment) (events_in trace.new)
             (seen (dev.old.disk.vtable, dev.old.disk.value))
             (seen (dev.new.disk.vtable, dev.new.disk.value)) }
         ensures archive { trace.new.archive ≡ trace.old.archive }
     {
         let mut session = Session::first(alloc, setup, Moment(moment))?;
         session.source_all(dev, trace)?;
-        session.core.rules.answers(alloc, names.as_slice())
+        Ok(session)
     }
 
     // Opens the folder that is wished.
@@ -107,33 +154,19 @@ impl Session {
         moment: i64,
         trace: &mut Trace,
     ) -> Result<(), StartError>
-        requires unopened { self.old.stage ≡ Unopened }
-        requires read { plain_frames self.old.frames ≡ [] }
         requires archive { trace.old.archive.items ≡ [] }
-        requires fits { CanRead self.old }
         requires moment { IsMoment moment }
-        requires empty { IsEmpty self.old.core.desk.view }
-        ensures fits { OnOk result (Fits (map plain_letter trace.new.archive.items) self.new) }
-        ensures ok { OnOk result ((first : State) → (before : Seen)
-            → Sources trace.old.verdicts.kept first (plain_events trace.old.events.items)
-            (plain_session self.old trace.old.notes) before
-            (seen (dev.old.disk.vtable, dev.old.disk.value))
-            → (given : Given)
-            → IsGiven (map plain_letter trace.new.archive.items) trace.new.verdicts.kept given
-            → Starts (λ kind. Any (λ d. sort (d.vtable, d.value) ≡ kind) drivers.now.list.items)
-            given first moment
-            (plain_events trace.new.events.items) (plain_session self.new trace.new.notes) before
+        requires ready { IsUnopened self.old }
+        ensures fits { OnOk result (Fits (letters_in trace.new) self.new) }
+        ensures ok { OnOk result ((first : State) → (before : Seen) → IsSourced first self.old
+            trace.old before (seen (dev.old.disk.vtable, dev.old.disk.value))
+            → StartsIn (λ kind. Any (λ d. sort (d.vtable, d.value) ≡ kind) drivers.now.list.items)
+            first moment self.new trace.new before
             (seen (dev.new.disk.vtable, dev.new.disk.value))) }
-        ensures err { IfErr result (λ why. (first : State) → (before : Seen)
-            → Sources trace.old.verdicts.kept first (plain_events trace.old.events.items)
-            (plain_session self.old trace.old.notes) before
-            (seen (dev.old.disk.vtable, dev.old.disk.value))
-            → (given : Given)
-            → IsGiven (map plain_letter trace.new.archive.items) trace.new.verdicts.kept given
-            → Fails (λ kind. Any (λ d. sort (d.vtable, d.value) ≡ kind) drivers.now.list.items)
-            given first moment why
-            (plain_texts trace.new.notes) (plain_events trace.new.events.items) before
-            (seen (dev.new.disk.vtable, dev.new.disk.value))) }
+        ensures err { IfErr result (λ why. (first : State) → (before : Seen) → IsSourced first
+            self.old trace.old before (seen (dev.old.disk.vtable, dev.old.disk.value))
+            → FailsIn (λ kind. Any (λ d. sort (d.vtable, d.value) ≡ kind) drivers.now.list.items)
+            first moment why trace.new before (seen (dev.new.disk.vtable, dev.new.disk.value))) }
     {
         trace.events.reserve(1)?;
         let event = self.look(dev, drivers, moment, &mut trace.archive)?;

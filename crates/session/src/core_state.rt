@@ -6,24 +6,28 @@ use patterns_match::Scores;
 use people::People;
 use session_index::{Desk, Message, Wanted};
 use session_screen::options_of;
-use session_state::Rules;
+use session_state::{Frame, Rules};
 use std::alloc::Global;
 
-/// What keys act on: what muttrc has set, the index, and the text of its limit.
+/// What keys act on: what muttrc has set, the index, the text of its limit, and the files of
+/// commands that are not at their ends.
 #[derive(Drop)]
 pub struct Core {
     pub rules: Rules,
     pub desk: Desk,
     pub limit: Option<Line>,
+    pub frames: Vec<Frame>,
 }
 
 impl Core {
-    ghost use Rattle.std.specs.Prelude.{◌≡◌, IfOk};
+    ghost use Rattle.std.specs.Prelude.{◌≡◌, [], IfOk, true, false};
+    ghost use Rattle.session_state.specs.Frames.{plain_frames};
     ghost use Rattle.session.specs.Core.{IsEmpty, first_core, plain_core};
 
-    /// What keys act on before a muttrc is read and a folder is open.
-    pub fn new(alloc: Global, read_only: bool) -> Result<Core, NoMemory>
-        ensures core { IfOk result (λ core. plain_core core ≡ first_core read_only) }
+    /// What keys act on before these files of commands are read and a folder is open.
+    pub fn new(alloc: Global, read_only: bool, frames: Vec<Frame>) -> Result<Core, NoMemory>
+        ensures core { IfOk result
+            (λ core. plain_core core ≡ first_core read_only (plain_frames frames)) }
         ensures empty { IfOk result (λ core. IsEmpty core.desk.view) }
     {
         let rules = Rules::new(alloc)?;
@@ -41,6 +45,15 @@ impl Core {
                 wanted: Wanted::Unasked,
             },
             limit: None,
+            frames,
         })
+    }
+
+    /// Whether a file of commands is still to be read.
+    pub fn waits_for_file(&self) -> bool
+        ensures some { result ≡ true → (plain_core self.now).frames ≡ [] → ⊥ }
+        ensures none { result ≡ false → (plain_core self.now).frames ≡ [] }
+    {
+        !self.frames.is_empty()
     }
 }

@@ -13,11 +13,9 @@ mod core_state;
 mod learning;
 mod opening;
 mod pressing;
-mod ruling;
 mod screen;
 mod session_type;
 mod source;
-mod start;
 mod turn;
 
 pub use session_type::Session;

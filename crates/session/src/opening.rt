@@ -1,28 +1,13 @@
 //! What an opened folder makes of the index.
 
-ghost use Rattle.std.specs.Prelude.{◌≡◌, [], IfOk};
-
 use crate::core_state::Core;
-use folder_core::{Archive, Found, Listing};
+use folder_core::{Archive, Listing};
 use index_view::first_folder_is_taken;
-use mail_base::{Ids, NoMemory};
-use std::alloc::Global;
-
-// What was found where these messages came.
-fn first_found(alloc: Global, came: &Listing) -> Result<Found, NoMemory>
-    ensures gone { IfOk result (λ found. found.gone.items ≡ []) }
-    ensures reflagged { IfOk result (λ found. found.reflagged.items ≡ []) }
-    ensures came { IfOk result (λ found. found.came.items ≡ came.now.items) }
-{
-    Ok(Found {
-        gone: Ids::new(alloc),
-        reflagged: Listing::new(alloc),
-        came: Listing::from_vec(came.as_slice().to_vec(alloc)?),
-    })
-}
+use mail_base::NoMemory;
+use session_index::first_found;
 
 impl Core {
-    ghost use Rattle.std.specs.Prelude.{◌≡◌, map, OnOk};
+    ghost use Rattle.std.specs.Prelude.{map, OnOk};
     ghost use Rattle.folder_core.specs.Letters.{plain_letter};
     ghost use Rattle.session_events.specs.Happened.{IsFresh};
     ghost use Rattle.session.specs.Core.{IsEmpty, Stands, plain_core};

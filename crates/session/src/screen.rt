@@ -41,8 +41,7 @@ fn last_line(alloc: Global, core: &Core, cols: usize) -> Result<Line, NoMemory>
 }
 
 impl Core {
-    ghost use Rattle.std.specs.Prelude.{◌≡◌, option_map, IfOk};
-    ghost use Rattle.folder_core.specs.Letters.{plain_letter};
+    ghost use Rattle.std.specs.Prelude.{◌≡◌, option_map};
     ghost use Rattle.session.specs.Core.{plain_core};
     ghost use Rattle.session.specs.Screen as spec;
     ghost use Rattle.session_screen.specs.Status.{plain_banner};

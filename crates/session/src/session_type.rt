@@ -1,5 +1,11 @@
 //! A session, and how it takes in what happened.
 
+ghost use Rattle.std.specs.Prelude.{◌≡◌, [], MatchOption, map};
+ghost use Rattle.session_events.specs.Wishes as wish;
+ghost use Rattle.session_events.specs.Wishes.{Wish};
+ghost use Rattle.session_state.specs.Frames.{plain_frame};
+ghost use Rattle.session.specs.Runs as spec;
+
 use crate::core_state::Core;
 use crate::turn::settle;
 use disk_model::DiskError;
@@ -10,7 +16,7 @@ use people::Verdicts;
 use session_events::{Event, Trace};
 use session_index::Message;
 use session_screen::Window;
-use session_state::{Frame, Moment, Stage, read_first, skip_first};
+use session_state::{Frame, Moment, Stage, Told, add_notes, read_first, skip_first};
 use std::alloc::Global;
 
 /// What a run stands on between its events.
@@ -20,34 +26,39 @@ pub struct Session {
     pub core: Core,
     pub queue: KeyQueue,
     pub stage: Stage,
-    pub frames: Vec<Frame>,
     pub window: Window,
     pub path: Bytes,
     pub kind: Kind,
     pub listing: Listing,
     /// The moment of the folder's last check: its opening at first, and before that the start.
     pub checked: Moment,
+    /// The moment at which commands run and keys act: that of the last key, or of the opening or
+    /// the start.
+    pub moment: Moment,
     pub named: Option<Bytes>,
 }
 
 impl Session {
-    ghost use Rattle.std.specs.Prelude.{◌≡◌, ◌<◌, ◌++◌, ◌∷◌, [], ℕ, List, OnOk, MatchOption};
+    ghost use Rattle.std.specs.Prelude.{◌≡◌, ◌<◌, ◌++◌, ℕ, ℤ, List, OnOk, MatchOption};
     ghost use Rattle.std.specs.Prelude.{map};
-    ghost use Rattle.mail_base.specs.Series.{Held};
+    ghost use Rattle.mail_base.specs.Series.{Held, plain_texts};
     ghost use Rattle.folder_core.specs.Letters.{plain_letter};
     ghost use Rattle.index_view.specs.View.{IsOf};
     ghost use Rattle.patterns.specs.Causes.{Keeps};
     ghost use Rattle.people.specs.Judged.{PlainJudged};
-    ghost use Rattle.session_events.specs.Events.{plain_event, plain_events};
+    ghost use Rattle.session_events.specs.Events.{plain_event};
     ghost use Rattle.session_events.specs.Happened.{IsFresh};
     ghost use Rattle.session_events.specs.Wishes as wish;
-    ghost use Rattle.session.specs.Core.{IsEmpty};
+    ghost use Rattle.session.specs.Answers.{shown_on};
+    ghost use Rattle.session.specs.Calls.{Becomes, Happens, TakesIn, letters_in};
+    ghost use Rattle.session.specs.Core.{IsEmpty, plain_core};
     ghost use Rattle.session_screen.specs.Window.{IsWindow};
     ghost use Rattle.session_state.specs.Instants.{IsMoment};
-    ghost use Rattle.session.specs.Fitting.{CanRead, CanTake, IsLeft};
+    ghost use Rattle.session.specs.Fitting.{CanRead, CanTake, Fits, IsLeft, IsReadIn, StaysUnopened};
     ghost use Rattle.session.specs.Given.{Given, IsGiven};
-    ghost use Rattle.session.specs.Runs.{State};
+    ghost use Rattle.session.specs.Steps.{IsFileless};
     ghost use Rattle.session_state.specs.Frames.{plain_frames};
+    ghost use Rattle.session_state.specs.Told.{plain_told};
     ghost use Rattle.session_state.specs.declared.stage.Stage.TheVariants.{Idle, Ready};
     ghost use Rattle.session.specs.Runs as spec;
 
@@ -72,8 +83,14 @@ impl Session {
         ensures kept { Keeps verdicts.old.kept verdicts.new.kept }
     {
         match event {
-            Event::Sourced { text, .. } => self.read(verdicts, notes, text.as_slice()),
-            Event::NotSourced { why, .. } => self.skip(verdicts, notes, *why),
+            Event::Sourced { text, .. } => {
+                self.read(verdicts, notes, text.as_slice())?;
+                self.read_on(archive, verdicts)
+            }
+            Event::NotSourced { why, .. } => {
+                self.skip(verdicts, notes, *why)?;
+                self.read_on(archive, verdicts)
+            }
             Event::Pressed { key, moment } => {
                 self.take_key();
                 self.type_in(*key, Moment(*moment), archive, verdicts)
@@ -96,20 +113,10 @@ impl Session {
     pub fn happen(&mut self, event: Event, trace: &mut Trace) -> Result<(), NoMemory>
         requires room { 0 < trace.old.events.room }
         requires read { CanRead self.old }
-        requires fits { CanTake (map plain_letter trace.old.archive.items)
-            self.old.core.desk.view (plain_event event) }
-        ensures events { plain_events trace.new.events.items
-            ≡ plain_events trace.old.events.items ++ plain_event event ∷ [] }
-        ensures arrived { OnOk result ((given : Given)
-            → IsGiven (map plain_letter trace.new.archive.items) trace.new.verdicts.kept given
-            → spec.plain_session self.new trace.new.notes
-            ≡ spec.arrived given (spec.plain_session self.old trace.old.notes)
-            (plain_event event)) }
-        ensures left { OnOk result (IsLeft (map plain_letter trace.new.archive.items) self.old
-            self.new (plain_event event)) }
-        ensures window { self.new.window ≡ self.old.window }
-        ensures archive { trace.new.archive ≡ trace.old.archive }
-        ensures kept { Keeps trace.old.verdicts.kept trace.new.verdicts.kept }
+        requires fits { CanTake (letters_in trace.old) self.old.core.desk.view (plain_event event) }
+        ensures happens { Happens (plain_event event) self.old self.new trace.old trace.new }
+        ensures taken { OnOk result
+            (TakesIn (plain_event event) self.old self.new trace.old trace.new) }
     {
         let verdicts = &mut trace.verdicts;
         let taken = self.take(&trace.archive, verdicts, &mut trace.notes, &event);
@@ -119,13 +126,14 @@ impl Session {
 
     /// The file of commands that is wished.
     pub fn wished_file(&self) -> Option<&Line>
-        ensures { MatchOption result (plain_frames self.now.frames ≡ [])
-            (λ file. (s : State) → spec.first_wish (plain_frames self.now.frames) s
+        ensures { MatchOption result (IsFileless self.now.stage (plain_frames self.now.core.frames))
+            (λ file. (notes : Held (Held ℕ)) → (moment : ℤ)
+            → spec.wish (spec.plain_session self.now notes) moment
             ≡ wish.Source file.now.items) }
     {
-        match self.frames.as_slice().split_first() {
-            Some((frame, _)) => Some(&frame.file),
-            None => None,
+        match self.stage {
+            Stage::Unopened | Stage::Reading => first_file(self.core.frames.as_slice()),
+            _ => None,
         }
     }
 
@@ -140,21 +148,23 @@ impl Session {
             → spec.plain_session self.new notes.new
             ≡ spec.read_in later text.now (spec.plain_session self.old notes.old)) }
         ensures kept { Keeps verdicts.old.kept verdicts.new.kept }
-        ensures view { self.new.core.desk.view ≡ self.old.core.desk.view }
-        ensures window { self.new.window ≡ self.old.window }
-        ensures checked { self.new.checked ≡ self.old.checked }
+        ensures rest { IsReadIn self.old self.new }
+        ensures stage { self.new.stage ≡ self.old.stage }
     {
-        let start = self.checked.with_offset(self.window.offset);
-        let rules = &mut self.core.rules;
+        let time = self.moment.with_offset(self.window.offset);
+        let mut told = Told::new(self.alloc);
+        let core = &mut self.core;
+        let frames = &mut core.frames;
         read_first(
             self.alloc,
-            rules,
-            start,
+            &mut core.rules,
+            time,
             verdicts,
-            &mut self.frames,
-            notes,
+            frames,
+            &mut told,
             text,
-        )
+        )?;
+        self.tell(notes, told)
     }
 
     fn skip(
@@ -168,30 +178,77 @@ impl Session {
             → spec.plain_session self.new notes.new
             ≡ spec.skipped later why (spec.plain_session self.old notes.old)) }
         ensures kept { Keeps verdicts.old.kept verdicts.new.kept }
-        ensures view { self.new.core.desk.view ≡ self.old.core.desk.view }
-        ensures window { self.new.window ≡ self.old.window }
-        ensures checked { self.new.checked ≡ self.old.checked }
+        ensures rest { IsReadIn self.old self.new }
+        ensures stage { self.new.stage ≡ self.old.stage }
     {
-        let start = self.checked.with_offset(self.window.offset);
-        let rules = &mut self.core.rules;
+        let time = self.moment.with_offset(self.window.offset);
+        let mut told = Told::new(self.alloc);
+        let core = &mut self.core;
+        let frames = &mut core.frames;
         skip_first(
             self.alloc,
-            rules,
-            start,
+            &mut core.rules,
+            time,
             verdicts,
-            &mut self.frames,
-            notes,
+            frames,
+            &mut told,
             why,
-        )
+        )?;
+        self.tell(notes, told)
+    }
+
+    // Takes up what commands of files have told.
+    fn tell(&mut self, notes: &mut Lines, told: Told) -> Result<(), NoMemory>
+        ensures notes { OnOk result
+            (plain_texts notes.new ≡ plain_texts notes.old ++ (plain_told told).notes) }
+        ensures core { OnOk result (plain_core self.new.core
+            ≡ shown_on (plain_told told).shown (plain_core self.old.core)) }
+        ensures view { self.new.core.desk.view ≡ self.old.core.desk.view }
+        ensures same { self.new ≡ record self.old { core = self.new.core } }
+    {
+        add_notes(self.alloc, notes, &told.notes)?;
+        self.core.show(told.shown);
+        Ok(())
+    }
+
+    // Behind a file that keys have named, the index learns what its commands tell it, and behind
+    // the last one the keys go on.
+    fn read_on(&mut self, archive: &Archive, verdicts: &mut Verdicts) -> Result<(), NoMemory>
+        requires { Fits (map plain_letter archive.now.items) self.old }
+        ensures on { OnOk result (Becomes (map plain_letter archive.now.items) verdicts.new.kept
+            spec.read_on self.old self.new) }
+        ensures fits { OnOk result (Fits (map plain_letter archive.now.items) self.new) }
+        ensures unopened { StaysUnopened self.old self.new }
+        ensures window { self.new.window ≡ self.old.window }
+        ensures kept { Keeps verdicts.old.kept verdicts.new.kept }
+    {
+        match self.stage {
+            Stage::Reading => self.go_on(archive, verdicts),
+            _ => Ok(()),
+        }
+    }
+
+    // The index learns, and where no file is left the keys go on.
+    fn go_on(&mut self, archive: &Archive, verdicts: &mut Verdicts) -> Result<(), NoMemory>
+        requires { Fits (map plain_letter archive.now.items) self.old }
+        ensures on { OnOk result (Becomes (map plain_letter archive.now.items) verdicts.new.kept
+            spec.reading_on self.old self.new) }
+        ensures fits { OnOk result (Fits (map plain_letter archive.now.items) self.new) }
+        ensures window { self.new.window ≡ self.old.window }
+        ensures kept { Keeps verdicts.old.kept verdicts.new.kept }
+    {
+        self.core.catch_up(archive)?;
+        if self.core.waits_for_file() {
+            return Ok(());
+        }
+        self.settle(archive, verdicts)
     }
 
     /// A key was taken: the message line is empty.
     pub fn take_key(&mut self)
         ensures taken { (notes : Held (Held ℕ)) → spec.plain_session self.new notes
             ≡ spec.taken (spec.plain_session self.old notes) }
-        ensures view { self.new.core.desk.view ≡ self.old.core.desk.view }
-        ensures window { self.new.window ≡ self.old.window }
-        ensures checked { self.new.checked ≡ self.old.checked }
+        ensures rest { IsReadIn self.old self.new }
         ensures stage { self.old.stage ≡ Idle → self.new.stage ≡ Ready }
     {
         if let Stage::Idle = self.stage {
@@ -210,43 +267,27 @@ impl Session {
         requires window { IsWindow self.old.window }
         requires moment { IsMoment moment.0 }
         requires is_of { IsOf (map plain_letter archive.now.items) self.old.core.desk.view }
-        ensures typed { OnOk result ((given : Given)
-            → IsGiven (map plain_letter archive.now.items) verdicts.new.kept given
-            → (notes : Held (Held ℕ)) → spec.plain_session self.new notes
-            ≡ spec.typed given key moment.0 (spec.plain_session self.old notes)) }
-        ensures is_of { OnOk result
-            (IsOf (map plain_letter archive.now.items) self.new.core.desk.view) }
+        ensures typed { OnOk result (Becomes (map plain_letter archive.now.items) verdicts.new.kept
+            (λ given. spec.typed given key moment.0) self.old self.new) }
+        ensures fits { OnOk result (Fits (map plain_letter archive.now.items) self.new) }
         ensures window { self.new.window ≡ self.old.window }
-        ensures checked { self.new.checked ≡ self.old.checked }
         ensures kept { Keeps verdicts.old.kept verdicts.new.kept }
     {
+        self.moment = moment;
         self.queue.typed(key)?;
-        self.settle_at(moment, archive, verdicts)
+        self.settle(archive, verdicts)
     }
 
-    // Lets the keys that wait act at a moment.
-    fn settle_at(
-        &mut self,
-        moment: Moment,
-        archive: &Archive,
-        verdicts: &mut Verdicts,
-    ) -> Result<(), NoMemory>
-        requires window { IsWindow self.old.window }
-        requires moment { IsMoment moment.0 }
-        requires is_of { IsOf (map plain_letter archive.now.items) self.old.core.desk.view }
-        requires first { self.old.queue.replaced ≡ 0 }
-        ensures settled { OnOk result ((given : Given)
-            → IsGiven (map plain_letter archive.now.items) verdicts.new.kept given
-            → (notes : Held (Held ℕ)) → spec.plain_session self.new notes
-            ≡ spec.acting given moment.0 self.old.queue.items
-            (spec.plain_session self.old notes).turn.core (spec.plain_session self.old notes)) }
-        ensures is_of { OnOk result
-            (IsOf (map plain_letter archive.now.items) self.new.core.desk.view) }
+    // Lets the keys that wait act.
+    fn settle(&mut self, archive: &Archive, verdicts: &mut Verdicts) -> Result<(), NoMemory>
+        requires { Fits (map plain_letter archive.now.items) self.old }
+        ensures acting { OnOk result (Becomes (map plain_letter archive.now.items) verdicts.new.kept
+            spec.acting self.old self.new) }
+        ensures fits { OnOk result (Fits (map plain_letter archive.now.items) self.new) }
         ensures window { self.new.window ≡ self.old.window }
-        ensures checked { self.new.checked ≡ self.old.checked }
         ensures kept { Keeps verdicts.old.kept verdicts.new.kept }
     {
-        let window = self.window;
+        let (window, moment) = (self.window, self.moment);
         let queue = &mut self.queue;
         self.stage = settle(&mut self.core, queue, window, moment, archive, verdicts)?;
         Ok(())
@@ -260,42 +301,47 @@ impl Session {
         came: &Listing,
         archive: &Archive,
     ) -> Result<(), NoMemory>
+        requires read { CanRead self.old }
         requires empty { IsEmpty self.old.core.desk.view }
         requires fresh { IsFresh (map plain_letter archive.now.items) came.now.items }
+        requires moment { IsMoment moment.0 }
         ensures opened { OnOk result ((notes : Held (Held ℕ)) → spec.plain_session self.new notes
             ≡ spec.opened_by (map plain_letter archive.now.items) path.now.items kind moment.0
             came.now.items (spec.plain_session self.old notes)) }
-        ensures is_of { OnOk result
-            (IsOf (map plain_letter archive.now.items) self.new.core.desk.view) }
+        ensures fits { OnOk result (Fits (map plain_letter archive.now.items) self.new) }
         ensures window { self.new.window ≡ self.old.window }
-        ensures checked { OnOk result (self.new.checked ≡ moment) }
     {
         self.core.open(archive, came)?;
         self.listing = Listing::from_vec(came.as_slice().to_vec(self.alloc)?);
         self.path = Bytes::copy_of(self.alloc, path.as_slice())?;
         self.kind = kind;
         self.checked = moment;
+        self.moment = moment;
         self.stage = Stage::Pushing;
         Ok(())
     }
 
     /// Lets the keys act that commands have put, at the moment of the opening.
     pub fn push_keys(&mut self, archive: &Archive, verdicts: &mut Verdicts) -> Result<(), NoMemory>
-        requires window { IsWindow self.old.window }
-        requires moment { IsMoment self.old.checked.0 }
-        requires is_of { IsOf (map plain_letter archive.now.items) self.old.core.desk.view }
-        ensures pushed { OnOk result ((given : Given)
-            → IsGiven (map plain_letter archive.now.items) verdicts.new.kept given
-            → (notes : Held (Held ℕ)) → spec.plain_session self.new notes
-            ≡ spec.pushed given (spec.plain_session self.old notes)) }
-        ensures is_of { OnOk result
-            (IsOf (map plain_letter archive.now.items) self.new.core.desk.view) }
+        requires { Fits (map plain_letter archive.now.items) self.old }
+        ensures pushed { OnOk result (Becomes (map plain_letter archive.now.items) verdicts.new.kept
+            spec.pushed self.old self.new) }
+        ensures fits { OnOk result (Fits (map plain_letter archive.now.items) self.new) }
         ensures window { self.new.window ≡ self.old.window }
-        ensures checked { self.new.checked ≡ self.old.checked }
         ensures kept { Keeps verdicts.old.kept verdicts.new.kept }
     {
         self.queue = KeyQueue::new(self.alloc);
         self.core.rules.put_into(&mut self.queue)?;
-        self.settle_at(self.checked, archive, verdicts)
+        self.settle(archive, verdicts)
+    }
+}
+
+fn first_file(frames: &[Frame]) -> Option<&Line>
+    ensures { MatchOption result (map plain_frame frames.now ≡ []) (λ file. (other : Wish)
+        → spec.file_wish (map plain_frame frames.now) other ≡ wish.Source file.now.items) }
+{
+    match frames.split_first() {
+        Some((frame, _)) => Some(&frame.file),
+        None => None,
     }
 }

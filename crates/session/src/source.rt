@@ -7,28 +7,27 @@ use session_events::{Event, Trace, source_event};
 use session_screen::text_of;
 
 impl Session {
-    ghost use Rattle.std.specs.Prelude.{◌≡◌, [], false};
-    ghost use Rattle.std.specs.Prelude.{IfOk, IfSome, MatchOption, OnOk};
-    ghost use Rattle.disk_model.specs.Seen.{Seen};
-    ghost use Rattle.patterns.specs.Causes.{Keeps};
-    ghost use Rattle.session.specs.Fitting.{CanRead};
-    ghost use Rattle.session.specs.Runs.{State, first_wish, plain_session};
+    ghost use Rattle.std.specs.Prelude.{◌≡◌, ℕ, ℤ, false, IfOk, IfSome, MatchOption, OnOk};
+    ghost use Rattle.mail_base.specs.Series.{Held};
+    ghost use Rattle.session.specs.Calls.{Reads, ReadsWhole, letters_in};
+    ghost use Rattle.session.specs.Fitting.{Fits};
+    ghost use Rattle.session.specs.Runs.{plain_session, wish};
     ghost use Rattle.session_events.specs.Wishes.{answered};
-    ghost use Rattle.session_events.specs.Events.{plain_event, plain_events};
-    ghost use Rattle.session.specs.Steps.{Sources, SourcesOff};
+    ghost use Rattle.session_events.specs.Events.{plain_event};
+    ghost use Rattle.session.specs.Steps.{IsFileless};
     ghost use Rattle.session.specs.Telling.{OnNoFile};
     ghost use Rattle.session_events.specs.Telling.{TellsFile};
     ghost use Rattle.session_state.specs.Frames.{plain_frames};
-    ghost use Rattle.session_state.specs.declared.stage.Stage.TheVariants.{Unopened};
 
     /// Reads the file of commands that is wished, if there is one, and tells what happened.
     pub fn source(&self, dev: &mut Device) -> Result<Option<Event>, NoMemory>
         ensures ok { IfOk result (λ sourced. MatchOption sourced
-            (plain_frames self.now.frames ≡ [])
+            (IsFileless self.now.stage (plain_frames self.now.core.frames))
             (λ event. TellsFile (plain_event event) (seen (dev.old.disk.vtable, dev.old.disk.value))
             (seen (dev.new.disk.vtable, dev.new.disk.value)))) }
-        ensures wish { IfOk result (λ sourced. IfSome sourced (λ event. (s : State)
-            → first_wish (plain_frames self.now.frames) s ≡ answered (plain_event event))) }
+        ensures wish { IfOk result (λ sourced. IfSome sourced (λ event. (notes : Held (Held ℕ))
+            → (moment : ℤ) → wish (plain_session self.now notes) moment
+            ≡ answered (plain_event event))) }
         ensures still { OnNoFile result (seen (dev.old.disk.vtable, dev.old.disk.value))
             (seen (dev.new.disk.vtable, dev.new.disk.value)) }
     {
@@ -39,30 +38,15 @@ impl Session {
         Ok(Some(source_event(self.alloc, dev, text_of(file), name)))
     }
 
-    /// Reads all files of commands, each with those that it names.
+    /// Reads all files of commands that are wished, each with those that it names.
     pub fn source_all(&mut self, dev: &mut Device, trace: &mut Trace) -> Result<(), NoMemory>
-        requires unopened { self.old.stage ≡ Unopened }
-        requires fits { CanRead self.old }
-        ensures sources { OnOk result ((first : State) → (before : Seen)
-            → Sources trace.old.verdicts.kept first (plain_events trace.old.events.items)
-            (plain_session self.old trace.old.notes) before
+        requires { Fits (letters_in trace.old) self.old }
+        ensures reads { Reads self.old self.new trace.old trace.new
             (seen (dev.old.disk.vtable, dev.old.disk.value))
-            → Sources trace.new.verdicts.kept first (plain_events trace.new.events.items)
-            (plain_session self.new trace.new.notes) before
-            (seen (dev.new.disk.vtable, dev.new.disk.value))) }
-        ensures off { (first : State) → (before : Seen)
-            → Sources trace.old.verdicts.kept first (plain_events trace.old.events.items)
-            (plain_session self.old trace.old.notes) before
-            (seen (dev.old.disk.vtable, dev.old.disk.value))
-            → SourcesOff trace.new.verdicts.kept first (plain_events trace.new.events.items) before
             (seen (dev.new.disk.vtable, dev.new.disk.value)) }
-        ensures unopened { OnOk result (self.new.stage ≡ Unopened) }
-        ensures read { OnOk result (plain_frames self.new.frames ≡ []) }
-        ensures view { OnOk result (self.new.core.desk.view ≡ self.old.core.desk.view) }
-        ensures fits { OnOk result (CanRead self.new) }
-        ensures window { self.new.window ≡ self.old.window }
-        ensures archive { trace.new.archive ≡ trace.old.archive }
-        ensures kept { Keeps trace.old.verdicts.kept trace.new.verdicts.kept }
+        ensures whole { OnOk result (ReadsWhole self.old self.new trace.old trace.new) }
+        ensures read { OnOk result
+            (IsFileless self.new.stage (plain_frames self.new.core.frames)) }
     {
         // There is an event for each file, and a trace has room for fewer.
         for _turn in 0..u64::MAX {
@@ -75,28 +59,13 @@ impl Session {
 
     // Reads the file of commands that is wished and takes it in, if there is one.
     fn source_next(&mut self, dev: &mut Device, trace: &mut Trace) -> Result<bool, NoMemory>
-        requires unopened { self.old.stage ≡ Unopened }
-        requires fits { CanRead self.old }
-        ensures sources { OnOk result ((first : State) → (before : Seen)
-            → Sources trace.old.verdicts.kept first (plain_events trace.old.events.items)
-            (plain_session self.old trace.old.notes) before
+        requires { Fits (letters_in trace.old) self.old }
+        ensures reads { Reads self.old self.new trace.old trace.new
             (seen (dev.old.disk.vtable, dev.old.disk.value))
-            → Sources trace.new.verdicts.kept first (plain_events trace.new.events.items)
-            (plain_session self.new trace.new.notes) before
-            (seen (dev.new.disk.vtable, dev.new.disk.value))) }
-        ensures off { (first : State) → (before : Seen)
-            → Sources trace.old.verdicts.kept first (plain_events trace.old.events.items)
-            (plain_session self.old trace.old.notes) before
-            (seen (dev.old.disk.vtable, dev.old.disk.value))
-            → SourcesOff trace.new.verdicts.kept first (plain_events trace.new.events.items) before
             (seen (dev.new.disk.vtable, dev.new.disk.value)) }
-        ensures unopened { OnOk result (self.new.stage ≡ Unopened) }
-        ensures read { IfOk result (λ more. more ≡ false → plain_frames self.new.frames ≡ []) }
-        ensures view { OnOk result (self.new.core.desk.view ≡ self.old.core.desk.view) }
-        ensures fits { OnOk result (CanRead self.new) }
-        ensures window { self.new.window ≡ self.old.window }
-        ensures archive { trace.new.archive ≡ trace.old.archive }
-        ensures kept { Keeps trace.old.verdicts.kept trace.new.verdicts.kept }
+        ensures whole { OnOk result (ReadsWhole self.old self.new trace.old trace.new) }
+        ensures read { IfOk result (λ more. more ≡ false
+            → IsFileless self.new.stage (plain_frames self.new.core.frames)) }
     {
         trace.events.reserve(1)?;
         match self.source(dev)? {

@@ -1,18 +1,20 @@
 //! The keys that wait, one after the other.
 
 ghost use Rattle.std.specs.Prelude.{◌≡◌, ◌≢◌, ◌≤◌, ◌<◌, ◌^◌, ◌+◌, ℤ, None, List, [], nat_lt};
-ghost use Rattle.std.specs.Prelude.{IfOk, OnOk, length, map};
+ghost use Rattle.std.specs.Prelude.{IfOk, MatchOption, OnOk, length, map};
 ghost use Rattle.folder_core.specs.Letters.{plain_letter};
 ghost use Rattle.index_view.specs.View.{IsOf};
 ghost use Rattle.keymap.specs.Queue.{most_replacements};
 ghost use Rattle.people.specs.Judged.{PlainJudged};
 ghost use Rattle.session_index.specs.Desk.{plain_wanted};
+ghost use Rattle.session.specs.Answers.{granted};
 ghost use Rattle.session.specs.Core.{ground_of, plain_core};
 ghost use Rattle.session_screen.specs.Window.{IsWindow};
 ghost use Rattle.session_state.specs.Instants.{IsMoment};
 ghost use Rattle.patterns.specs.Causes.{Keeps};
 ghost use Rattle.session.specs.Keys.{Steps, fuel, settled, turn_of};
 ghost use Rattle.session.specs.Keys.{stage_after as stage_after_press};
+ghost use Rattle.session_state.specs.declared.stage.Stage.TheVariants.{Reading};
 
 use crate::core_state::Core;
 use folder_core::Archive;
@@ -38,6 +40,7 @@ pub fn settle(
     requires few { queue.old.replaced ≤ most_replacements }
     ensures keeps { Keeps verdicts.old.kept verdicts.new.kept }
     ensures is_of { OnOk result (IsOf (map plain_letter archive.now.items) core.new.desk.view) }
+    ensures few { OnOk result (queue.new.replaced ≤ most_replacements) }
     ensures settled { IfOk result (λ stage. (later : List PlainJudged)
         → Keeps verdicts.new.kept later
         → turn_of stage (plain_core core.new) queue.new ≡ settled
@@ -156,6 +159,21 @@ fn drop_keys(
     Ok(Some(Stage::Idle))
 }
 
+// The keys wait where a file is still to be read that commands have named.
+fn wait_for_file(core: &mut Core) -> Option<Stage>
+    ensures waits { MatchOption result
+        ((plain_core core.new ≡ plain_core core.old) × ((plain_core core.old).frames ≡ []))
+        (λ stage. (stage ≡ Reading) × ((plain_core core.old).frames ≢ [])
+        × (plain_core core.new ≡ granted (plain_core core.old))) }
+    ensures view { core.new.desk.view ≡ core.old.desk.view }
+{
+    if core.frames.is_empty() {
+        return None;
+    }
+    core.grant();
+    Some(Stage::Reading)
+}
+
 // The prompt that stands takes the first key.
 fn type_next(
     core: &mut Core,
@@ -181,10 +199,13 @@ fn type_next(
     ensures few { queue.new.replaced ≤ most_replacements }
     ensures falls { IfOk result (λ stopped. fuel queue.new < fuel queue.old) }
 {
-    if let Some(key) = queue.take_first() {
-        core.type_key(window, moment, archive, verdicts, key)?;
+    match queue.take_first() {
+        None => Ok(None),
+        Some(key) => {
+            core.type_key(window, moment, archive, verdicts, key)?;
+            Ok(wait_for_file(core))
+        }
     }
-    Ok(None)
 }
 
 // Presses keys up to an answer, and acts on it.

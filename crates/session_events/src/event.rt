@@ -59,8 +59,15 @@ pub enum Event {
 
 impl Event {
     ghost use Rattle.std.specs.Prelude.{◌≡◌};
-    ghost use Rattle.session_events.specs.Events.{plain_event};
+    ghost use Rattle.session_events.specs.Events.{KeyPressed, plain_event};
     ghost use Rattle.session_events.specs.Opening.{refusal_of};
+
+    /// A key was pressed.
+    pub fn pressed(key: Key, moment: i64) -> Event
+        ensures { plain_event result ≡ KeyPressed key moment }
+    {
+        Event::Pressed { key, moment }
+    }
 
     /// Why the folder was not opened, where it was not.
     pub fn refusal(&self) -> Option<OpenFault>

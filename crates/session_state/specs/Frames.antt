@@ -1,17 +1,14 @@
 -- Files of commands, each inside of the one that names it, and what they make of the rules.
-use Rattle.std.specs.Prelude.{◌+◌, ◌<◌, ℕ, Bool, false, List, [], ◌∷◌, ◌++◌, Option, Some, None, true}
+use Rattle.std.specs.Prelude.{◌+◌, ◌<◌, ℕ, Bool, false, List, [], ◌∷◌, Option, Some, None, true}
 use Rattle.std.specs.Prelude.{Result}
 use Rattle.std.specs.Prelude.{Ok, Err}
-use Rattle.std.specs.Prelude.{codes, drop, map, nat_lt, if◌then◌else◌, Vec}
+use Rattle.std.specs.Prelude.{drop, map, nat_lt, if◌then◌else◌, Vec}
 use Rattle.std.specs.declared.alloc.Global.{Global}
-use Rattle.std.specs.Fmt.{decimal}
 use Rattle.disk_model.specs.declared.answers.DiskError.{DiskError}
 use Rattle.disk_model.specs.declared.answers.DiskError.TheVariants as disk
-use Rattle.mail_base.specs.Series.{Held, plain_texts}
-use Rattle.mail_base.specs.Shown.{utf8_text}
 use Rattle.people.specs.Judged.{PlainJudged}
 use Rattle.rc_lang.specs.Settings.{fault_of}
-use Rattle.rc_lang_words.specs.Faults.{Fault, fault_text}
+use Rattle.rc_lang_words.specs.Faults.{Fault}
 use Rattle.rc_lang_words.specs.Words.{PlainLine, lines_of, plain_line}
 use Rattle.rc_lang_words.specs.declared.fault.RcFault.{RcFault}
 use Rattle.rc_lang_words.specs.declared.fault.RcFault.TheVariants.{NoMemory, NotRead, TooMuchSource}
@@ -20,10 +17,13 @@ use Rattle.session_state.specs.declared.commands.Obeyed.{Obeyed}
 use Rattle.session_state.specs.declared.commands.Obeyed.TheVariants.{Answered, Refused}
 use Rattle.session_state.specs.declared.frame.Frame.{Frame}
 use Rattle.session_state.specs.declared.frame.Origin.{Origin}
-use Rattle.session_state.specs.declared.frame.Origin.TheVariants.{Default, Named, Typed}
+use Rattle.session_state.specs.declared.frame.Origin.TheVariants.{Asked, Default, Named, Prompt, Typed}
 use Rattle.session_state.specs.Commands.{PlainAnswer, Quiet, Ran, ToRead, ToShow, ran, refused}
 use Rattle.session_state.specs.Rules.{PlainRules}
+use Rattle.session_state.specs.Told.{PlainTold, answer_told, fault_told, line_number, plain_told}
+use Rattle.session_state.specs.Told.{unread_told}
 use Rattle.session_state.specs.declared.instant.Instant.{Instant}
+use Rattle.session_state.specs.declared.told.Told.{Told}
 
 -- a file, why it is read, and how deep it is nested
 pub record Place : Type 0 where
@@ -63,19 +63,6 @@ with_left commands frame = record frame { left = Some commands }
 abbrev pub with_text : List ℕ → PlainFrame → PlainFrame
 with_text text frame = with_left (lines_of text) frame
 
--- Notes.
-
--- a command of the command line has line 1
-abbrev pub line_number : Origin → ℕ → ℕ
-line_number Default line = line
-line_number Named line = line
-line_number Typed line = 1
-
--- what is told of a faulty command: FILE:LINE: CAUSE
-abbrev pub note_of : List ℕ → ℕ → Fault → List ℕ
-note_of file line fault =
-    utf8_text (file ++ codes ":" ++ decimal line ++ codes ": " ++ fault_text fault)
-
 -- Commands, one after the other.
 
 -- a command as it was read
@@ -97,28 +84,28 @@ judged depth (Err fault) = Err fault
 -- commands were run up to one that names a file, or to the last one
 pub record Half : Type 0 where
   pub rules : PlainRules
-  pub notes : List (List ℕ)
+  pub told : PlainTold
   pub left : List PlainLine
   pub source : Option (List ℕ)
 
--- behind a command the others, unless it names a file; a line to be shown is dropped
-abbrev pub behind_line : Place → ℕ → List PlainLine → (PlainRules → List (List ℕ) → Half)
-    → PlainRules → List (List ℕ) → Result PlainAnswer Fault → Half
-behind_line place line lines more rules notes (Ok Quiet) = more rules notes
-behind_line place line lines more rules notes (Ok (ToShow shown)) = more rules notes
-behind_line place line lines more rules notes (Ok (ToRead path)) =
-    record { rules = rules; notes = notes; left = lines; source = Some path }
-behind_line place line lines more rules notes (Err fault) =
-    more rules (notes ++ note_of place.file (line_number place.origin line) fault ∷ [])
+-- behind a command the others, unless it names a file
+abbrev pub behind_line : Place → ℕ → List PlainLine → (PlainRules → PlainTold → Half)
+    → PlainRules → PlainTold → Result PlainAnswer Fault → Half
+behind_line place line lines more rules told (Ok Quiet) = more rules told
+behind_line place line lines more rules told (Ok (ToShow shown)) =
+    more rules (answer_told place.origin shown told)
+behind_line place line lines more rules told (Ok (ToRead path)) =
+    record { rules = rules; told = told; left = lines; source = Some path }
+behind_line place line lines more rules told (Err fault) =
+    more rules (fault_told place.origin place.file (line_number place.origin line) fault told)
 
-abbrev pub file_run : Instant → List PlainJudged → Place → List PlainLine → PlainRules
-    → List (List ℕ)
+abbrev pub file_run : Instant → List PlainJudged → Place → List PlainLine → PlainRules → PlainTold
     → Half
-file_run time verdicts place [] rules notes =
-    record { rules = rules; notes = notes; left = []; source = None }
-file_run time verdicts place (line ∷ lines) rules notes =
+file_run time verdicts place [] rules told =
+    record { rules = rules; told = told; left = []; source = None }
+file_run time verdicts place (line ∷ lines) rules told =
     behind_line place line.line lines (file_run time verdicts place lines)
-    (ran_line time verdicts line rules).rules notes
+    (ran_line time verdicts line rules).rules told
     (judged place.depth (ran_line time verdicts line rules).answer)
 
 -- Files, the one that is read now first.
@@ -127,47 +114,64 @@ file_run time verdicts place (line ∷ lines) rules notes =
 pub record Script : Type 0 where
   pub rules : PlainRules
   pub frames : List PlainFrame
-  pub notes : List (List ℕ)
+  pub told : PlainTold
+
+-- where a file comes from that is named there
+abbrev pub inner_origin : Origin → Origin
+inner_origin Default = Named
+inner_origin Named = Named
+inner_origin Typed = Named
+inner_origin Prompt = Asked
+inner_origin Asked = Named
 
 -- behind a file those around it, unless it names one
-abbrev pub behind_file : Place → List PlainFrame → (PlainRules → List (List ℕ) → Script) → Half
+abbrev pub behind_file : Place → List PlainFrame → (PlainRules → PlainTold → Script) → Half
     → Option (List ℕ) → Script
-behind_file place frames rest half None = rest half.rules half.notes
+behind_file place frames rest half None = rest half.rules half.told
 behind_file place frames rest half (Some path) = record {
   rules = half.rules;
-  frames = unread path Named (place.depth + 1)
+  frames = unread path (inner_origin place.origin) (place.depth + 1)
       ∷ record { place = place; left = Some half.left } ∷ frames;
-  notes = half.notes;
+  told = half.told;
 }
 
-abbrev pub with_half : Place → List PlainFrame → (PlainRules → List (List ℕ) → Script) → Half
-    → Script
+abbrev pub with_half : Place → List PlainFrame → (PlainRules → PlainTold → Script) → Half → Script
 with_half place frames rest half = behind_file place frames rest half half.source
 
 abbrev pub frame_run : Instant → List PlainJudged → PlainFrame → List PlainFrame
-    → (PlainRules → List (List ℕ) → Script)
-    → Option (List PlainLine) → PlainRules → List (List ℕ) → Script
-frame_run time verdicts frame frames rest None rules notes =
-    record { rules = rules; frames = frame ∷ frames; notes = notes }
-frame_run time verdicts frame frames rest (Some lines) rules notes =
-    with_half frame.place frames rest (file_run time verdicts frame.place lines rules notes)
+    → (PlainRules → PlainTold → Script) → Option (List PlainLine) → PlainRules → PlainTold
+    → Script
+frame_run time verdicts frame frames rest None rules told =
+    record { rules = rules; frames = frame ∷ frames; told = told }
+frame_run time verdicts frame frames rest (Some lines) rules told =
+    with_half frame.place frames rest (file_run time verdicts frame.place lines rules told)
 
 -- the commands of these files are run by the verdicts on expressions, up to one that is still to be
 -- read
-abbrev pub frames_run : Instant → List PlainJudged → List PlainFrame → PlainRules → List (List ℕ)
+abbrev pub frames_run : Instant → List PlainJudged → List PlainFrame → PlainRules → PlainTold
     → Script
-frames_run time verdicts [] rules notes = record { rules = rules; frames = []; notes = notes }
-frames_run time verdicts (frame ∷ frames) rules notes =
-    frame_run time verdicts frame frames (frames_run time verdicts frames) frame.left rules notes
+frames_run time verdicts [] rules told = record { rules = rules; frames = []; told = told }
+frames_run time verdicts (frame ∷ frames) rules told =
+    frame_run time verdicts frame frames (frames_run time verdicts frames) frame.left rules told
+
+-- what was typed at the prompt `:`
+abbrev pub prompt_frame : List ℕ → PlainFrame
+prompt_frame text = with_text text (unread [] Prompt 0)
+
+-- commands were typed, which stand before these files
+abbrev pub typed_script : Instant → List PlainJudged → List ℕ → List PlainFrame → PlainRules
+    → PlainTold → Script
+typed_script time verdicts text frames rules told =
+    frames_run time verdicts (prompt_frame text ∷ frames) rules told
 
 -- What was read, or not.
 
 -- the first file has this text
 abbrev pub read_script : Instant → List PlainJudged → List ℕ → List PlainFrame → PlainRules
-    → List (List ℕ) → Script
-read_script time verdicts text [] rules notes = record { rules = rules; frames = []; notes = notes }
-read_script time verdicts text (frame ∷ frames) rules notes =
-    frames_run time verdicts (with_text text frame ∷ frames) rules notes
+    → PlainTold → Script
+read_script time verdicts text [] rules told = record { rules = rules; frames = []; told = told }
+read_script time verdicts text (frame ∷ frames) rules told =
+    frames_run time verdicts (with_text text frame ∷ frames) rules told
 
 -- nothing stands at the path
 abbrev pub is_missing : DiskError → Bool
@@ -182,26 +186,23 @@ read_fault _ = NotRead
 -- a file that need not be there may be missing
 abbrev pub is_quiet : Origin → Bool → Bool
 is_quiet Default is_missing = is_missing
-is_quiet Named is_missing = false
-is_quiet Typed is_missing = false
+is_quiet _ is_missing = false
 
--- what is told of a file that was not read, which has no line
-abbrev pub skip_notes : Place → DiskError → List (List ℕ)
-skip_notes place why =
-    if is_quiet place.origin (is_missing why) then []
-    else note_of place.file 0 (fault_of (read_fault why) []) ∷ []
+abbrev pub skip_told : Place → DiskError → PlainTold → PlainTold
+skip_told place why told =
+    if is_quiet place.origin (is_missing why) then told
+    else unread_told place.origin place.file (fault_of (read_fault why) []) told
 
 -- the first file was not read, for this cause
 abbrev pub skip_script : Instant → List PlainJudged → DiskError → List PlainFrame → PlainRules
-    → List (List ℕ) → Script
-skip_script time verdicts why [] rules notes =
-    record { rules = rules; frames = []; notes = notes }
-skip_script time verdicts why (frame ∷ frames) rules notes =
-    frames_run time verdicts frames rules (notes ++ skip_notes frame.place why)
+    → PlainTold → Script
+skip_script time verdicts why [] rules told = record { rules = rules; frames = []; told = told }
+skip_script time verdicts why (frame ∷ frames) rules told =
+    frames_run time verdicts frames rules (skip_told frame.place why told)
 
-abbrev pub script_of : PlainRules → Vec Frame Global → Held (Held ℕ) → Script
-script_of rules frames notes =
-    record { rules = rules; frames = plain_frames frames; notes = plain_texts notes }
+abbrev pub script_of : PlainRules → Vec Frame Global → Told → Script
+script_of rules frames told =
+    record { rules = rules; frames = plain_frames frames; told = plain_told told }
 
 -- For the code alone.
 

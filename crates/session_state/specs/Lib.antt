@@ -7,4 +7,4 @@ pub mod Days
 pub mod Lessons
 pub mod Scoring
 pub mod Codes
-pub mod Typed
+pub mod Told

@@ -3,19 +3,18 @@
 ghost use Rattle.std.specs.Prelude.{◌≡◌, ◌<◌, ◌+◌, ◌∷◌, [], List, IfOk, OnOk, MatchOption};
 ghost use Rattle.patterns.specs.Causes.{Keeps};
 ghost use Rattle.people.specs.Judged.{PlainJudged};
-ghost use Rattle.mail_base.specs.Series.{plain_texts};
 ghost use Rattle.rc_lang_words.specs.Words.{plain_line};
 ghost use Rattle.session_state.specs.Commands.{plain_obeyed};
 ghost use Rattle.session_state.specs.Frames as spec;
 ghost use Rattle.session_state.specs.Instants.{IsInstant};
-ghost use Rattle.session_state.specs.declared.frame.Origin.TheVariants.{Named};
+ghost use Rattle.session_state.specs.Told.{plain_told};
 
 use crate::commands::{Answer, Obeyed, refusal};
 use crate::instant::Instant;
-use crate::note::add_note;
 use crate::rules::Rules;
+use crate::told::Told;
 use disk_model::DiskError;
-use mail_base::{Bytes, Line, Lines, NoMemory};
+use mail_base::{Bytes, Line, NoMemory};
 use people::Verdicts;
 use rc_lang::{RcError, RcFault, RcLine, RcLines, read_rc};
 use std::alloc::Global;
@@ -31,6 +30,10 @@ pub enum Origin {
     Named,
     /// A word of the command line.
     Typed,
+    /// What was typed at the prompt `:`.
+    Prompt,
+    /// A file that is named there.
+    Asked,
 }
 
 /// A file of commands, or a command of the command line.
@@ -49,10 +52,10 @@ impl Frame {
     ghost use Rattle.std.specs.Prelude.{◌≡◌, ◌<◌, true, List, IfOk, OnOk, IfSome};
     ghost use Rattle.patterns.specs.Causes.{Keeps};
     ghost use Rattle.people.specs.Judged.{PlainJudged};
-    ghost use Rattle.mail_base.specs.Series.{plain_texts};
     ghost use Rattle.rc_lang.specs.Settings.{plain_shown};
     ghost use Rattle.session_state.specs.Frames as spec;
     ghost use Rattle.session_state.specs.Instants.{IsInstant};
+    ghost use Rattle.session_state.specs.Told.{plain_told};
 
     /// A file that is still to be read.
     pub fn unread(alloc: Global, file: Line, origin: Origin, depth: u8) -> Frame
@@ -86,18 +89,18 @@ impl Frame {
         rules: &mut Rules,
         time: Instant,
         verdicts: &mut Verdicts,
-        notes: &mut Lines,
+        told: &mut Told,
     ) -> Result<Option<Line>, NoMemory>
         requires { IsInstant time }
         ensures keeps { Keeps verdicts.old.kept verdicts.new.kept }
         ensures half { IfOk result (λ source. (later : List PlainJudged)
             → Keeps verdicts.new.kept later → record {
               rules = rules.new;
-              notes = plain_texts notes.new;
+              told = plain_told told.new;
               left = spec.commands_left self.new;
               source = plain_shown source;
             } ≡ spec.file_run time later (spec.place_of self.old) (spec.commands_left self.old)
-            rules.old (plain_texts notes.old)) }
+            rules.old (plain_told told.old)) }
         ensures place { spec.place_of self.new ≡ spec.place_of self.old }
         ensures read { self.new.is_read ≡ self.old.is_read }
         ensures nested { IfOk result (λ source. IfSome source (λ _. self.old.depth < 16)) }
@@ -110,11 +113,10 @@ impl Frame {
                 Obeyed::Answered(answer) => match answer {
                     Answer::Source(path) => return Ok(Some(path)),
                     Answer::Quiet => {}
-                    Answer::Show(_line) => {}
+                    Answer::Show(line) => told.answer(self.origin, line),
                 },
                 Obeyed::Refused(error) => {
-                    let number = line_number(self.origin, line.line);
-                    add_note(alloc, notes, &self.file, number, &error)?;
+                    told.fault(alloc, self.origin, &self.file, line.line, &error)?;
                 }
             }
         }
@@ -122,17 +124,8 @@ impl Frame {
     }
 }
 
-fn line_number(origin: Origin, line: u32) -> u32
-    ensures { result ≡ spec.line_number origin line }
-{
-    match origin {
-        Origin::Typed => 1,
-        Origin::Default | Origin::Named => line,
-    }
-}
-
-/// Runs a command, unless it is faulty as it was read.
-pub fn run_line(
+// Runs a command, unless it is faulty as it was read.
+fn run_line(
     alloc: Global,
     rules: &mut Rules,
     time: Instant,
@@ -175,24 +168,47 @@ pub fn run_frames(
     time: Instant,
     verdicts: &mut Verdicts,
     frames: &mut Vec<Frame>,
-    notes: &mut Lines,
+    told: &mut Told,
 ) -> Result<(), NoMemory>
     requires { IsInstant time }
     ensures keeps { Keeps verdicts.old.kept verdicts.new.kept }
     ensures ran { OnOk result ((later : List PlainJudged) → Keeps verdicts.new.kept later
-        → spec.script_of rules.new frames.new notes.new ≡ spec.frames_run time later
-        (spec.plain_frames frames.old) rules.old (plain_texts notes.old)) }
+        → spec.script_of rules.new frames.new told.new ≡ spec.frames_run time later
+        (spec.plain_frames frames.old) rules.old (plain_told told.old)) }
 {
     while let Some(mut frame) = take_first(frames) {
         if !frame.is_read {
             return put_first(frames, frame);
         }
-        match frame.run(alloc, rules, time, verdicts, notes)? {
+        match frame.run(alloc, rules, time, verdicts, told)? {
             Some(path) => return put_inner(alloc, frames, frame, path),
             None => {}
         }
     }
     Ok(())
+}
+
+/// Runs the commands of a line that was typed at the prompt `:`, up to a file that is still to be
+/// read.
+pub fn run_typed(
+    alloc: Global,
+    rules: &mut Rules,
+    time: Instant,
+    verdicts: &mut Verdicts,
+    frames: &mut Vec<Frame>,
+    told: &mut Told,
+    text: &[u8],
+) -> Result<(), NoMemory>
+    requires { IsInstant time }
+    ensures keeps { Keeps verdicts.old.kept verdicts.new.kept }
+    ensures ran { OnOk result ((later : List PlainJudged) → Keeps verdicts.new.kept later
+        → spec.script_of rules.new frames.new told.new ≡ spec.typed_script time later text.now
+        (spec.plain_frames frames.old) rules.old (plain_told told.old)) }
+{
+    let mut frame = Frame::unread(alloc, Line::new(alloc), Origin::Prompt, 0);
+    frame.read(alloc, text)?;
+    put_first(frames, frame)?;
+    run_frames(alloc, rules, time, verdicts, frames, told)
 }
 
 /// Takes the text of the first file, and runs the commands up to a file that is still to be read.
@@ -202,21 +218,21 @@ pub fn read_first(
     time: Instant,
     verdicts: &mut Verdicts,
     frames: &mut Vec<Frame>,
-    notes: &mut Lines,
+    told: &mut Told,
     text: &[u8],
 ) -> Result<(), NoMemory>
     requires { IsInstant time }
     ensures keeps { Keeps verdicts.old.kept verdicts.new.kept }
     ensures read { OnOk result ((later : List PlainJudged) → Keeps verdicts.new.kept later
-        → spec.script_of rules.new frames.new notes.new ≡ spec.read_script time later text.now
-        (spec.plain_frames frames.old) rules.old (plain_texts notes.old)) }
+        → spec.script_of rules.new frames.new told.new ≡ spec.read_script time later text.now
+        (spec.plain_frames frames.old) rules.old (plain_told told.old)) }
 {
     let Some(mut frame) = take_first(frames) else {
         return Ok(());
     };
     frame.read(alloc, text)?;
     put_first(frames, frame)?;
-    run_frames(alloc, rules, time, verdicts, frames, notes)
+    run_frames(alloc, rules, time, verdicts, frames, told)
 }
 
 /// Leaves the first file, which was not read, and runs the commands up to a file that is still to
@@ -227,14 +243,14 @@ pub fn skip_first(
     time: Instant,
     verdicts: &mut Verdicts,
     frames: &mut Vec<Frame>,
-    notes: &mut Lines,
+    told: &mut Told,
     why: DiskError,
 ) -> Result<(), NoMemory>
     requires { IsInstant time }
     ensures keeps { Keeps verdicts.old.kept verdicts.new.kept }
     ensures skipped { OnOk result ((later : List PlainJudged) → Keeps verdicts.new.kept later
-        → spec.script_of rules.new frames.new notes.new ≡ spec.skip_script time later why
-        (spec.plain_frames frames.old) rules.old (plain_texts notes.old)) }
+        → spec.script_of rules.new frames.new told.new ≡ spec.skip_script time later why
+        (spec.plain_frames frames.old) rules.old (plain_told told.old)) }
 {
     let Some(frame) = take_first(frames) else {
         return Ok(());
@@ -244,9 +260,9 @@ pub fn skip_first(
             fault: read_fault(why),
             word: Bytes::new(alloc),
         };
-        add_note(alloc, notes, &frame.file, 0, &error)?;
+        told.unread(alloc, frame.origin, &frame.file, &error)?;
     }
-    run_frames(alloc, rules, time, verdicts, frames, notes)
+    run_frames(alloc, rules, time, verdicts, frames, told)
 }
 
 fn is_missing(why: DiskError) -> bool
@@ -269,7 +285,7 @@ fn is_quiet(origin: Origin, is_missing: bool) -> bool
 {
     match origin {
         Origin::Default => is_missing,
-        Origin::Named | Origin::Typed => false,
+        _ => false,
     }
 }
 
@@ -299,10 +315,21 @@ fn put_inner(
 ) -> Result<(), NoMemory>
     requires { frame.depth < 16 }
     ensures { OnOk result (spec.plain_frames frames.new
-        ≡ spec.unread path.items Named (frame.depth + 1) ∷ spec.plain_frame frame
-        ∷ spec.plain_frames frames.old) }
+        ≡ spec.unread path.items (spec.inner_origin frame.origin) (frame.depth + 1)
+        ∷ spec.plain_frame frame ∷ spec.plain_frames frames.old) }
 {
-    let inner = Frame::unread(alloc, path, Origin::Named, frame.depth + 1);
+    let origin = inner_origin(frame.origin);
+    let inner = Frame::unread(alloc, path, origin, frame.depth + 1);
     put_first(frames, frame)?;
     put_first(frames, inner)
+}
+
+// Where a file comes from that is named there.
+fn inner_origin(origin: Origin) -> Origin
+    ensures { result ≡ spec.inner_origin origin }
+{
+    match origin {
+        Origin::Prompt => Origin::Asked,
+        _ => Origin::Named,
+    }
 }

@@ -11,5 +11,7 @@ pub enum Stage {
     Idle,
     /// A key was taken.
     Ready,
+    /// Files of commands are still to be read that keys have come to; the keys behind them wait.
+    Reading,
     Over,
 }

@@ -1,66 +1,121 @@
-use Rattle.std.proofs.Common.{[], ap, inr, map, refl}
+use Rattle.std.proofs.Common.{◌∙◌, [], Err, ap, arith, inr, map, refl, sym}
+use Rattle.std.proofs.lemmas.List.{length-map}
 use Rattle.mail_base.specs.Series.{Held}
-use Rattle.mail_base.proofs.Sending.{appends_none}
 use Rattle.folder_core.specs.Letters.{plain_letter}
 use Rattle.folder_core.specs.declared.letter.Letter.{Letter}
-use Rattle.session_events.specs.Events.{plain_events}
-use Rattle.session_events.specs.declared.event.Event.{Event}
-use Rattle.session.specs.Runs.{plain_session}
-use Rattle.session.proofs.GivenLemmas.{keeps_more}
-use Rattle.mutt_run.proofs.KeysLemmas.{ends_broken, ends_over, presses_none, presses_same}
-use Rattle.mutt_run.proofs.KeysLemmas.{told_same}
-use Rattle.mutt_run.proofs.ScreensLemmas.{breaks_cut, breaks_same, breaks_unshown, cut_given}
-use Rattle.mutt_run.proofs.ScreensLemmas.{ended_broken, goes_over, goes_shown, shown_given}
-use Rattle.mutt_run.proofs.ScreensLemmas.{waits_stand}
+use Rattle.session.proofs.GivenLemmas.{keeps_more, keeps_then}
+use Rattle.mutt_run.proofs.KeysLemmas.{counts_from, counts_turned, ends_broken, ends_files}
+use Rattle.mutt_run.proofs.KeysLemmas.{ends_over, presses_files}
+use Rattle.mutt_run.proofs.ScreensLemmas.{ended_broken}
+use Rattle.mutt_run.proofs.TurnLemmas.{begins_so, runs_out}
 use Rattle.mutt_run.proofs.turning.go.Goals as goal
 
-pub returns-in-Err-clause-ended : goal.returns-in-Err-clause-ended
-returns-in-Err-clause-ended g c = λ given is first waits.
-    breaks_same (ap (λ (e : Held Event). plain_events e.items) c.pushed.ensures.events)
-    (breaks_unshown given first _ _ [] (waits_stand given first _ _ _ waits waits.state_is) _ _
-    (appends_none _))
+pub returns-in_default-clause-ended : goal.returns-in_default-clause-ended
+returns-in_default-clause-ended g c = λ given is first start begins.
+    runs_out given first _ [] _ (c.pushed.ensures.pushes.on given is first begins.waits) start _
+    (begins_so begins)
 
-pub returns-in-Err-clause-pressed : goal.returns-in-Err-clause-pressed
-returns-in-Err-clause-pressed g c =
-    ends_broken _ _ _ _ _ _ _ (presses_same _ _ _ _ _ _ _ _ (presses_none _ _ _)
-    (ap (λ (e : Held Event). plain_events e.items) c.pushed.ensures.events)) _ _ (inr refl)
+pub returns-in_default-clause-pressed : goal.returns-in_default-clause-pressed
+returns-in_default-clause-pressed g c =
+    ends_broken _ _ _ _ _ _ _ (presses_files _ _ _ _ c.pushed.ensures.pushes.files) _ _ (inr refl)
 
-pub returns-in-Ok-Quit-clause-ended : goal.returns-in-Ok-Quit-clause-ended
-returns-in-Ok-Quit-clause-ended g c = λ given is first waits.
-    goes_over given first _ _ [] (c.in-Ok-Quit.ensures.stood given is first waits) _ _
-    (appends_none _) (rw c.in-Ok-Quit.field-0-is at c.in-Ok-Quit.ensures.next)
-
-pub returns-in-Ok-Quit-clause-pressed : goal.returns-in-Ok-Quit-clause-pressed
-returns-in-Ok-Quit-clause-pressed g c =
-    ends_over _ _ _ _ _ _ _ (presses_same _ _ _ _ _ _ _ _ (presses_none _ _ _)
-    (ap (λ (e : Held Event). plain_events e.items) c.pushed.ensures.events)) _
-    (rw c.in-Ok-Quit.field-0-is at c.in-Ok-Quit.ensures.next)
-
-pub returns-in-Err-show-clause-ended : goal.returns-in-Err-show-clause-ended
-returns-in-Err-show-clause-ended g c = λ given is first waits.
-    ended_broken _ _ c.in-Err-show.ensures.which (breaks_cut given first _ _ []
-    (c.in-Ok-Go.ensures.stood given is first waits) _ _ (appends_none _) _
-    (rw c.in-Ok-Go.field-0-is at c.in-Ok-Go.ensures.next)
-    (cut_given given _ (plain_session c.pushed.new.self c.pushed.new.trace.notes) _ _ is.mails_are c.in-Err-show.ensures.err))
-
-pub returns-in-Err-show-clause-pressed : goal.returns-in-Err-show-clause-pressed
-returns-in-Err-show-clause-pressed g c =
-    ends_broken _ _ _ _ _ _ _ (presses_same _ _ _ _ _ _ _ _ (presses_none _ _ _)
-    (ap (λ (e : Held Event). plain_events e.items) c.pushed.ensures.events)) _ _
-    c.in-Err-show.ensures.which
-
-pub returns-clause-ended : goal.returns-clause-ended
-returns-clause-ended g c = λ given is first waits.
+pub returns-in-Ok-Go-clause-ended : goal.returns-in-Ok-Go-clause-ended
+returns-in-Ok-Go-clause-ended g c = λ given is first start begins.
     let before = keeps_more
     (ap (λ (a : Held Letter). map plain_letter a.items) c.press_all.ensures.archive)
     c.press_all.ensures.kept is in
-    c.press_all.ensures.ended given is first _ (goes_shown given first _ _ []
-    (c.in-Ok-Go.ensures.stood given before first waits) _ _ (appends_none _) _
-    (rw c.in-Ok-Go.field-0-is at c.in-Ok-Go.ensures.next)
-    (shown_given given _ (plain_session c.pushed.new.self c.pushed.new.trace.notes) _ _
-    before.mails_are c.in_default.ensures.ok))
+    c.press_all.ensures.ended given is first start
+    (c.in-Ok-Go.ensures.answered given before.mails_are first [] _
+    (c.pushed.ensures.pushes.on given before first begins.waits)
+    (c.in-Ok.ensures.whole.to given before first begins.waits)
+    (c.len-told.ensures ∙ sym (length-map c.args.trace.now.notes.items (λ l. l.items))) start
+    (begins_so begins))
 
-pub returns-clause-told : goal.returns-clause-told
-returns-clause-told g c = λ given first before seen h.
-    c.press_all.ensures.told given first before seen
-    (told_same (ap (λ (e : Held Event). plain_events e.items) c.pushed.ensures.events) h)
+pub returns-in-Ok-Go-clause-pressed : goal.returns-in-Ok-Go-clause-pressed
+returns-in-Ok-Go-clause-pressed g c =
+    ends_files _ _ _ _ _ _ _ _ _ c.pushed.ensures.pushes.files c.press_all.ensures.pressed
+
+pub returns-in-Ok-Go-clause-told : goal.returns-in-Ok-Go-clause-told
+returns-in-Ok-Go-clause-told g c = λ given first before h.
+    c.press_all.ensures.told given first before (c.pushed.ensures.pushes.told given first before h)
+
+pub returns-in-Ok-Go-clause-faults : goal.returns-in-Ok-Go-clause-faults
+returns-in-Ok-Go-clause-faults g c = counts_from c.tell_and_show.ensures.later.0
+    c.tell_and_show.ensures.later.1 c.press_all.ensures.faults
+
+pub returns-in-Ok-Quit-clause-ended : goal.returns-in-Ok-Quit-clause-ended
+returns-in-Ok-Quit-clause-ended g c = λ given is first start begins.
+    c.in-Ok-Quit.ensures.answered given is.mails_are first [] _
+    (c.pushed.ensures.pushes.on given is first begins.waits)
+    (c.in-Ok.ensures.whole.to given is first begins.waits)
+    (c.len-told.ensures ∙ sym (length-map c.args.trace.now.notes.items (λ l. l.items))) start
+    (begins_so begins)
+
+pub returns-in-Ok-Quit-clause-pressed : goal.returns-in-Ok-Quit-clause-pressed
+returns-in-Ok-Quit-clause-pressed g c =
+    ends_over _ _ _ _ _ _ _ (presses_files _ _ _ _ c.pushed.ensures.pushes.files) _
+    (rw c.in-Ok-Quit.field-0-is at c.in-Ok-Quit.ensures.to)
+
+pub returns-in-Err-clause-ended : goal.returns-in-Err-clause-ended
+returns-in-Err-clause-ended g c = λ given is first start begins.
+    ended_broken _ _ c.in-Err.ensures.to
+    (c.in-Err.ensures.answered given is.mails_are first [] _
+    (c.pushed.ensures.pushes.on given is first begins.waits)
+    (c.in-Ok.ensures.whole.to given is first begins.waits)
+    (c.len-told.ensures ∙ sym (length-map c.args.trace.now.notes.items (λ l. l.items))) start
+    (begins_so begins))
+
+pub returns-in-Err-clause-pressed : goal.returns-in-Err-clause-pressed
+returns-in-Err-clause-pressed g c =
+    ends_broken _ _ _ _ _ _ _ (presses_files _ _ _ _ c.pushed.ensures.pushes.files) _ _
+    c.in-Err.ensures.to
+
+pub returns-in-Err-clause-faults : goal.returns-in-Err-clause-faults
+returns-in-Err-clause-faults g c =
+    counts_turned _ _ _ _ _ _ _ _ _ c.in-Err.ensures.to
+    (λ is. c.in-Err.ensures.cause (ap Err is)) (omega arith) (omega arith)
+    c.tell_and_show.ensures.later.1
+
+pub returns-in_default-clause-told : goal.returns-in_default-clause-told
+returns-in_default-clause-told g c = c.pushed.ensures.pushes.told
+
+pub returns-in_default-clause-archive : goal.returns-in_default-clause-archive
+returns-in_default-clause-archive g c = c.pushed.ensures.pushes.archive
+
+pub returns-in_default-clause-kept : goal.returns-in_default-clause-kept
+returns-in_default-clause-kept g c = c.pushed.ensures.pushes.kept
+
+pub returns-in-Ok-Quit-clause-told : goal.returns-in-Ok-Quit-clause-told
+returns-in-Ok-Quit-clause-told g c = c.pushed.ensures.pushes.told
+
+pub returns-in-Ok-Quit-clause-archive : goal.returns-in-Ok-Quit-clause-archive
+returns-in-Ok-Quit-clause-archive g c = c.pushed.ensures.pushes.archive
+
+pub returns-in-Ok-Quit-clause-kept : goal.returns-in-Ok-Quit-clause-kept
+returns-in-Ok-Quit-clause-kept g c = c.pushed.ensures.pushes.kept
+
+pub returns-in-Err-clause-told : goal.returns-in-Err-clause-told
+returns-in-Err-clause-told g c = c.pushed.ensures.pushes.told
+
+pub returns-in-Err-clause-archive : goal.returns-in-Err-clause-archive
+returns-in-Err-clause-archive g c = c.pushed.ensures.pushes.archive
+
+pub returns-in-Err-clause-kept : goal.returns-in-Err-clause-kept
+returns-in-Err-clause-kept g c = c.pushed.ensures.pushes.kept
+
+pub returns-in-Ok-Go-clause-archive : goal.returns-in-Ok-Go-clause-archive
+returns-in-Ok-Go-clause-archive g c =
+    c.press_all.ensures.archive ∙ c.pushed.ensures.pushes.archive
+
+pub returns-in-Ok-Go-clause-kept : goal.returns-in-Ok-Go-clause-kept
+returns-in-Ok-Go-clause-kept g c =
+    keeps_then c.pushed.ensures.pushes.kept c.press_all.ensures.kept
+
+pub tell_and_show-requires-clause-fits : goal.tell_and_show-requires-clause-fits
+tell_and_show-requires-clause-fits g c = c.in-Ok.ensures.whole.fits
+
+pub tell_and_show-requires-clause-next : goal.tell_and_show-requires-clause-next
+tell_and_show-requires-clause-next g c = c.in-Ok.ensures.whole.next_is
+
+pub press_all-requires-clause-fits : goal.press_all-requires-clause-fits
+press_all-requires-clause-fits g c = c.in-Ok.ensures.whole.fits

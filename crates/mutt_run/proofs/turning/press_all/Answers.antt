@@ -10,8 +10,9 @@ use Rattle.session_events.specs.Events.{plain_events}
 use Rattle.session.proofs.GivenLemmas.{keeps_more, keeps_same, keeps_then}
 use Rattle.mutt_run.proofs.KeysLemmas.{counted_key, counts_turned, ends_broken, ends_fault}
 use Rattle.mutt_run.proofs.KeysLemmas.{ends_limit, ends_over, presses_key, presses_new}
-use Rattle.mutt_run.proofs.KeysLemmas.{presses_stop, pushed_on, told_same}
-use Rattle.mutt_run.proofs.ScreensLemmas.{ended_broken, goes_broken, goes_same}
+use Rattle.mutt_run.proofs.KeysLemmas.{presses_stop, pressed_on}
+use Rattle.mutt_run.proofs.ScreensLemmas.{ended_broken, out_broken, out_same}
+use Rattle.session.proofs.StepsLemmas.{told_same}
 use Rattle.mutt_run.proofs.turning.press_all.Goals as goal
 
 pub loop-turn-init : goal.loop-turn-init
@@ -21,22 +22,23 @@ loop-turn-init g c = record {
   count = omega (arith, ap (λ (r : PlainReader). length r.pending) c.new-reader.ensures);
   idle = c.requires.idle;
   fits = c.requires.fits;
-  told = λ given first before seen h. h;
+  told = λ given first before h. h;
   archive = refl;
   kept = keeps_same _;
   keys = omega arith;
   out = omega arith;
+  errs = omega arith;
 }
 
 pub loop-turn-preserved : goal.loop-turn-preserved
 loop-turn-preserved g c = record {
   goes = λ given is first start h. c.in-Ok-Go.ensures.turned given is first start
-      (goes_same (ap plain_events c.reserve.ensures.items) (c.loop-turn.invariant.goes given
+      (out_same (ap plain_events c.reserve.ensures.items) (c.loop-turn.invariant.goes given
       (keeps_more (ap (λ (a : Held Letter). map plain_letter a.items) c.turn.ensures.archive)
       c.turn.ensures.kept is) first start h));
   presses = presses_key _ _ _ _ _ _ _ _ c.loop-turn.invariant.presses _ c.next_key.ensures.ahead
       _ _ _ _ (rw c.in-Ok-Some.field-0-is at c.in-Ok-Some.ensures.key) c.now-moment.ensures.gives
-      (pushed_on _ _ _ _ _ _
+      (pressed_on _ _ _ _ _ _
       (ap plain_events c.reserve.ensures.items) (let fits : FitsSigned w64 c.now-moment.result =
       omega (arith, signed_arith, c.now-moment.ensures.range) in simp to_z-of_z)
       c.turn.ensures.pressed);
@@ -44,29 +46,30 @@ loop-turn-preserved g c = record {
       c.loop-turn.invariant.count;
   idle = rw c.in-Ok-Go.field-0-is at c.in-Ok-Go.ensures.to;
   fits = c.in-Ok-Go.ensures.fits;
-  told = λ given first before seen h. c.turn.ensures.told given first before seen
+  told = λ given first before h. c.turn.ensures.told given first before
       (told_same (ap plain_events c.reserve.ensures.items)
-      (c.loop-turn.invariant.told given first before seen h));
+      (c.loop-turn.invariant.told given first before h));
   archive = c.turn.ensures.archive ∙ c.loop-turn.invariant.archive;
   kept = keeps_then c.loop-turn.invariant.kept c.turn.ensures.kept;
   keys = omega (arith, c.loop-turn.invariant.keys, c.next_key.ensures.later);
-  out = omega (arith, c.loop-turn.invariant.out, c.turn.ensures.later);
+  out = omega (arith, c.loop-turn.invariant.out, c.turn.ensures.later.0);
+  errs = omega (arith, c.loop-turn.invariant.errs, c.turn.ensures.later.1);
 }
 
 pub returns-then-is_err-clause-ended : goal.returns-then-is_err-clause-ended
 returns-then-is_err-clause-ended g c = λ given is first start h.
-    goes_broken (ap plain_events c.reserve.ensures.items)
+    out_broken (ap plain_events c.reserve.ensures.items)
     (c.loop-turn.invariant.goes given is first start h)
 
 pub returns-then-is_err-clause-told : goal.returns-then-is_err-clause-told
-returns-then-is_err-clause-told g c = λ given first before seen h.
+returns-then-is_err-clause-told g c = λ given first before h.
     told_same (ap plain_events c.reserve.ensures.items)
-    (c.loop-turn.invariant.told given first before seen h)
+    (c.loop-turn.invariant.told given first before h)
 
 pub returns-in-Ok-None-clause-told : goal.returns-in-Ok-None-clause-told
-returns-in-Ok-None-clause-told g c = λ given first before seen h.
+returns-in-Ok-None-clause-told g c = λ given first before h.
     told_same (ap plain_events c.reserve.ensures.items)
-    (c.loop-turn.invariant.told given first before seen h)
+    (c.loop-turn.invariant.told given first before h)
 
 pub returns-in-Err-ReadFault-clause-pressed : goal.returns-in-Err-ReadFault-clause-pressed
 returns-in-Err-ReadFault-clause-pressed g c =
@@ -76,9 +79,9 @@ returns-in-Err-ReadFault-clause-pressed g c =
     (rw c.in-Err-ReadFault.field-0-is at c.in-Err-ReadFault.ensures.stops.cause)
 
 pub returns-in-Err-ReadFault-clause-told : goal.returns-in-Err-ReadFault-clause-told
-returns-in-Err-ReadFault-clause-told g c = λ given first before seen h.
+returns-in-Err-ReadFault-clause-told g c = λ given first before h.
     told_same (ap plain_events c.reserve.ensures.items)
-    (c.loop-turn.invariant.told given first before seen h)
+    (c.loop-turn.invariant.told given first before h)
 
 pub returns-in-Err-TooManyKeys-clause-pressed : goal.returns-in-Err-TooManyKeys-clause-pressed
 returns-in-Err-TooManyKeys-clause-pressed g c =
@@ -88,14 +91,14 @@ returns-in-Err-TooManyKeys-clause-pressed g c =
     (rw c.in-Err-TooManyKeys.field-0-is at c.in-Err-TooManyKeys.ensures.stops.cause)
 
 pub returns-in-Err-TooManyKeys-clause-told : goal.returns-in-Err-TooManyKeys-clause-told
-returns-in-Err-TooManyKeys-clause-told g c = λ given first before seen h.
+returns-in-Err-TooManyKeys-clause-told g c = λ given first before h.
     told_same (ap plain_events c.reserve.ensures.items)
-    (c.loop-turn.invariant.told given first before seen h)
+    (c.loop-turn.invariant.told given first before h)
 
 pub returns-in-Ok-Quit-clause-ended : goal.returns-in-Ok-Quit-clause-ended
 returns-in-Ok-Quit-clause-ended g c = λ given is first start h.
     c.in-Ok-Quit.ensures.turned given is first start
-    (goes_same (ap plain_events c.reserve.ensures.items) (c.loop-turn.invariant.goes given
+    (out_same (ap plain_events c.reserve.ensures.items) (c.loop-turn.invariant.goes given
     (keeps_more (ap (λ (a : Held Letter). map plain_letter a.items) c.turn.ensures.archive)
     c.turn.ensures.kept is) first start h))
 
@@ -103,22 +106,22 @@ pub returns-in-Ok-Quit-clause-pressed : goal.returns-in-Ok-Quit-clause-pressed
 returns-in-Ok-Quit-clause-pressed g c =
     ends_over _ _ _ _ _ _ _ (presses_key _ _ _ _ _ _ _ _ c.loop-turn.invariant.presses _
     c.next_key.ensures.ahead _ _ _ _ (rw c.in-Ok-Some.field-0-is at c.in-Ok-Some.ensures.key)
-    c.now-moment.ensures.gives (pushed_on _ _ _ _ _ _
+    c.now-moment.ensures.gives (pressed_on _ _ _ _ _ _
     (ap plain_events c.reserve.ensures.items) (let fits : FitsSigned w64 c.now-moment.result =
     omega (arith, signed_arith, c.now-moment.ensures.range) in simp to_z-of_z)
     c.turn.ensures.pressed)) _
     (rw c.in-Ok-Quit.field-0-is at c.in-Ok-Quit.ensures.to)
 
 pub returns-in-Ok-Quit-clause-told : goal.returns-in-Ok-Quit-clause-told
-returns-in-Ok-Quit-clause-told g c = λ given first before seen h.
-    c.turn.ensures.told given first before seen (told_same (ap plain_events
+returns-in-Ok-Quit-clause-told g c = λ given first before h.
+    c.turn.ensures.told given first before (told_same (ap plain_events
     c.reserve.ensures.items)
-    (c.loop-turn.invariant.told given first before seen h))
+    (c.loop-turn.invariant.told given first before h))
 
 pub returns-in-Err-clause-ended : goal.returns-in-Err-clause-ended
 returns-in-Err-clause-ended g c = λ given is first start h.
     ended_broken _ _ c.in-Err.ensures.to (c.in-Err.ensures.turned given is first start
-    (goes_same (ap plain_events c.reserve.ensures.items) (c.loop-turn.invariant.goes given
+    (out_same (ap plain_events c.reserve.ensures.items) (c.loop-turn.invariant.goes given
     (keeps_more (ap (λ (a : Held Letter). map plain_letter a.items) c.turn.ensures.archive)
     c.turn.ensures.kept is) first start h)))
 
@@ -126,16 +129,16 @@ pub returns-in-Err-clause-pressed : goal.returns-in-Err-clause-pressed
 returns-in-Err-clause-pressed g c =
     ends_broken _ _ _ _ _ _ _ (presses_key _ _ _ _ _ _ _ _ c.loop-turn.invariant.presses _
     c.next_key.ensures.ahead _ _ _ _ (rw c.in-Ok-Some.field-0-is at c.in-Ok-Some.ensures.key)
-    c.now-moment.ensures.gives (pushed_on _ _ _ _ _ _
+    c.now-moment.ensures.gives (pressed_on _ _ _ _ _ _
     (ap plain_events c.reserve.ensures.items) (let fits : FitsSigned w64 c.now-moment.result =
     omega (arith, signed_arith, c.now-moment.ensures.range) in simp to_z-of_z)
     c.turn.ensures.pressed)) _ _ c.in-Err.ensures.to
 
 pub returns-in-Err-clause-told : goal.returns-in-Err-clause-told
-returns-in-Err-clause-told g c = λ given first before seen h.
-    c.turn.ensures.told given first before seen (told_same (ap plain_events
+returns-in-Err-clause-told g c = λ given first before h.
+    c.turn.ensures.told given first before (told_same (ap plain_events
     c.reserve.ensures.items)
-    (c.loop-turn.invariant.told given first before seen h))
+    (c.loop-turn.invariant.told given first before h))
 
 pub returns-in-Ok-Quit-clause-kept : goal.returns-in-Ok-Quit-clause-kept
 returns-in-Ok-Quit-clause-kept g c = keeps_then c.loop-turn.invariant.kept c.turn.ensures.kept
@@ -145,5 +148,11 @@ returns-in-Err-clause-kept g c = keeps_then c.loop-turn.invariant.kept c.turn.en
 
 pub returns-in-Err-clause-faults : goal.returns-in-Err-clause-faults
 returns-in-Err-clause-faults g c =
-    counts_turned _ _ _ _ _ _ c.in-Err.ensures.to (λ is. c.in-Err.ensures.cause (ap Err is))
-    c.loop-turn.invariant.out c.turn.ensures.later
+    counts_turned _ _ _ _ _ _ _ _ _ c.in-Err.ensures.to
+    (λ is. c.in-Err.ensures.cause (ap Err is)) c.loop-turn.invariant.out
+    c.loop-turn.invariant.errs c.turn.ensures.later.1
+
+pub returns-in-Err-ReadFault-clause-ended : goal.returns-in-Err-ReadFault-clause-ended
+returns-in-Err-ReadFault-clause-ended g c = λ given is first start h.
+    out_same (ap plain_events c.reserve.ensures.items)
+    (c.loop-turn.invariant.goes given is first start h)

@@ -1,57 +1,44 @@
-use Rattle.std.proofs.Common.{[], ap, refl, subst, sym}
+use Rattle.std.proofs.Common.{subst, sym}
 use Rattle.std.proofs.Math.Facts.{to_z-of_z}
-use Rattle.session_events.specs.Events.{plain_events}
-use Rattle.session_screen.specs.Window.{IsWindow}
+use Rattle.session.specs.Runs.{plain_session}
 use Rattle.session_state.specs.Instants.{IsMoment}
-use Rattle.session.specs.Runs.{State, plain_session}
 use Rattle.session.specs.Starting.{first_state, plain_setup}
-use Rattle.session.proofs.BeginningLemmas.{answers_from, no_answer, ok_at}
-use Rattle.session.proofs.StepsLemmas.{sources_begun, sources_off}
+use Rattle.session.proofs.BeginningLemmas.{answers_at, no_answer}
+use Rattle.session.proofs.StepsLemmas.{off_at, sources_at}
 use Rattle.session.proofs.session_type.Session.answers.Goals as goal
 
 pub returns-in_err-session-clause-sources : goal.returns-in_err-session-clause-sources
-returns-in_err-session-clause-sources g c =
-    sources_off (first_state (plain_setup c.args.setup) c.args.moment) (first_state (plain_setup c.args.setup) c.args.moment)
-    _ _ _ _ _ refl refl (sources_begun _ (first_state (plain_setup c.args.setup) c.args.moment)
-    (first_state (plain_setup c.args.setup) c.args.moment) _ _ refl (ap plain_events c.requires.events))
-
-pub source_all-requires : goal.source_all-requires
-source_all-requires g c =
-    let is = (rw (to_z-of_z c.ranges.moment) at c.in_ok-session.ensures.state) (record { items = []; room = 0 }) refl in
-    record {
-      unopened = ap (λ (s : State). s.turn.stage) is;
-      fits = record {
-        window = subst IsWindow (sym (ap (λ (s : State). s.window) is)) c.requires.window;
-        checked = subst IsMoment (sym (ap (λ (s : State). s.checked) is)) c.requires.moment;
-      };
-    }
-
-pub returns-in_err-source_all-clause-sources : goal.returns-in_err-source_all-clause-sources
-returns-in_err-source_all-clause-sources g c =
-    let first = first_state (plain_setup c.args.setup) c.args.moment in
-    c.source_all.ensures.off first _
-    (sources_begun _ first (plain_session c.in_ok-session.session c.args.trace.now.notes) _ _
-    ((rw (to_z-of_z c.ranges.moment) at c.in_ok-session.ensures.state) c.args.trace.now.notes c.requires.notes)
-    (ap plain_events c.requires.events))
+returns-in_err-session-clause-sources g c = off_at (plain_setup c.args.setup) _ _ (to_z-of_z c.ranges.moment) c.sourced.ensures.off
 
 pub returns-clause-sources : goal.returns-clause-sources
-returns-clause-sources g c =
-    let first = first_state (plain_setup c.args.setup) c.args.moment in
-    c.source_all.ensures.off first _
-    (sources_begun _ first (plain_session c.in_ok-session.session c.args.trace.now.notes) _ _
-    ((rw (to_z-of_z c.ranges.moment) at c.in_ok-session.ensures.state) c.args.trace.now.notes c.requires.notes)
-    (ap plain_events c.requires.events))
+returns-clause-sources g c = off_at (plain_setup c.args.setup) _ _ (to_z-of_z c.ranges.moment) c.sourced.ensures.off
 
 pub returns-clause-ok : goal.returns-clause-ok
 returns-clause-ok g c =
-    let first = first_state (plain_setup c.args.setup) c.args.moment in
-    ok_at _ _ _ (answers_from _ (plain_session c.source_all.new.self c.source_all.new.trace.notes) _ _ _ _
-    c.in_ok-source_all.ensures.sources c.in_ok-source_all.ensures.read
-    (rw c.as_slice.ensures at c.answers.ensures)) first _
-    (sources_begun _ first (plain_session c.in_ok-session.session c.args.trace.now.notes) _ _
-    ((rw (to_z-of_z c.ranges.moment) at c.in_ok-session.ensures.state) c.args.trace.now.notes c.requires.notes)
-    (ap plain_events c.requires.events))
+    answers_at (first_state (plain_setup c.args.setup) c.args.moment)
+    (plain_session c.in_ok-session.session c.sourced.new.trace.notes) _ _ _ _ _
+    (sources_at (plain_setup c.args.setup) _ _ (to_z-of_z c.ranges.moment)
+    c.in_ok-session.ensures.sourced.sources)
+    c.in_ok-session.ensures.sourced.ready.read (rw c.as_slice.ensures at c.answers.ensures)
 
-pub returns-in_err-source_all-clause-ok : goal.returns-in_err-source_all-clause-ok
-returns-in_err-source_all-clause-ok g c =
-    no_answer c.from_residual-in_err-source_all.result _ _ c.from_residual-in_err-source_all.ensures.1
+pub returns-in_err-session-clause-ok : goal.returns-in_err-session-clause-ok
+returns-in_err-session-clause-ok g c = no_answer c.from_residual.result _ _ c.from_residual.ensures.1
+
+pub returns-in_err-session-clause-archive : goal.returns-in_err-session-clause-archive
+returns-in_err-session-clause-archive g c = c.sourced.ensures.archive
+
+pub returns-clause-archive : goal.returns-clause-archive
+returns-clause-archive g c = c.sourced.ensures.archive
+
+pub sourced-requires-clause-events : goal.sourced-requires-clause-events
+sourced-requires-clause-events g c = c.requires.events
+
+pub sourced-requires-clause-notes : goal.sourced-requires-clause-notes
+sourced-requires-clause-notes g c = c.requires.notes
+
+pub sourced-requires-clause-window : goal.sourced-requires-clause-window
+sourced-requires-clause-window g c = c.requires.window
+
+pub sourced-requires-clause-moment : goal.sourced-requires-clause-moment
+sourced-requires-clause-moment g c =
+    subst IsMoment (sym (to_z-of_z c.ranges.moment)) c.requires.moment

@@ -1,42 +1,56 @@
-use Rattle.std.proofs.Common.{ℤ, ap, refl, subst, sym, ◌∙◌}
+use Rattle.std.proofs.Common.{◌∙◌, ap, refl, ℤ}
 use Rattle.std.proofs.Math.Facts.{to_z-of_z}
-use Rattle.session_events.specs.Events.{Happening, KeyPressed}
+use Rattle.std.proofs.lemmas.Bool.{false≢true}
+use Rattle.session_events.specs.Events.{KeyPressed, plain_events}
 use Rattle.session.specs.Runs.{arrived, plain_session}
-use Rattle.session.specs.Steps.{IsNext}
-use Rattle.session_events.specs.declared.setup.Next.{Next}
-use Rattle.session.proofs.StepsLemmas.{key_next, key_presses, key_stays, put_plain}
+use Rattle.mail_base.specs.declared.kind.Kind.{Kind}
+use Rattle.session.proofs.CallsLemmas.{presses, presses_none, presses_off, presses_whole}
+use Rattle.session.proofs.StepsLemmas.{put_plain}
 use Rattle.session.proofs.session_type.Session.key.Goals as goal
 
-pub returns-in_err-taken-clause-stays : goal.returns-in_err-taken-clause-stays
-returns-in_err-taken-clause-stays g c =
-    let is = c.pressed_event-event.ensures
-    ∙ ap (λ (m : ℤ). KeyPressed c.args.key m) (to_z-of_z c.ranges.moment) in
-    key_stays c.args.key c.args.moment (plain_session c.args.self.now c.args.trace.now.notes) _ _ _
-    refl (put_plain _ _ _ _ c.in_ok-push.ensures.ok is) _ _ _
+pub returns-in_err-push-clause-presses : goal.returns-in_err-push-clause-presses
+returns-in_err-push-clause-presses g c =
+    presses_none _ c.args.key c.args.moment c.args.self.now _ _ _ refl c.take-taken.ensures.kept
+    (λ room. false≢true (c.in_err-push.ensures.has_room room)) (ap plain_events c.in_err-push.ensures.err)
 
-pub returns-clause-pressed : goal.returns-clause-pressed
-returns-clause-pressed g c =
-    let is = c.pressed_event-event.ensures
+pub returns-in_err-taken-clause-presses : goal.returns-in_err-taken-clause-presses
+returns-in_err-taken-clause-presses g c =
+    let is = c.pressed-event.ensures
     ∙ ap (λ (m : ℤ). KeyPressed c.args.key m) (to_z-of_z c.ranges.moment) in
-    key_presses c.args.key c.args.moment (plain_session c.args.self.now c.args.trace.now.notes) _ _
-    _ refl (put_plain _ _ _ _ c.in_ok-push.ensures.ok is) _ _
-    (plain_session c.take-taken.new.self c.take-taken.new.notes) c.requires.ready
+    let put = put_plain _ _ _ _ c.in_ok-push.ensures.ok is in
+    presses_off _ c.args.key c.args.moment c.args.self.now _ _ _ refl c.take-taken.ensures.kept
+    c.requires.ready put
+
+pub returns-in_err-source_all-clause-presses : goal.returns-in_err-source_all-clause-presses
+returns-in_err-source_all-clause-presses g c =
+    let is = c.pressed-event.ensures
+    ∙ ap (λ (m : ℤ). KeyPressed c.args.key m) (to_z-of_z c.ranges.moment) in
+    let put = put_plain _ _ _ _ c.in_ok-push.ensures.ok is in
+    presses _ c.args.key c.args.moment c.args.self.now _ _ _ refl c.take-taken.ensures.kept
+    c.requires.ready put c.take-taken.new.self c.source_all.new.self _ _
     (λ given h. c.in_ok-taken.ensures.arrived given h
-    ∙ ap (λ (e : Happening). arrived given (plain_session c.args.self.now c.args.trace.now.notes) e)
-    is)
+    ∙ ap (arrived given (plain_session c.args.self.now c.args.trace.now.notes)) is)
+    c.source_all.ensures.reads
 
-pub returns-clause-stays : goal.returns-clause-stays
-returns-clause-stays g c =
-    let is = c.pressed_event-event.ensures
+pub returns-clause-presses : goal.returns-clause-presses
+returns-clause-presses g c =
+    let is = c.pressed-event.ensures
     ∙ ap (λ (m : ℤ). KeyPressed c.args.key m) (to_z-of_z c.ranges.moment) in
-    key_stays c.args.key c.args.moment (plain_session c.args.self.now c.args.trace.now.notes) _ _ _
-    refl (put_plain _ _ _ _ c.in_ok-push.ensures.ok is) _ _ _
+    let put = put_plain _ _ _ _ c.in_ok-push.ensures.ok is in
+    presses _ c.args.key c.args.moment c.args.self.now _ _ _ refl c.take-taken.ensures.kept
+    c.requires.ready put c.take-taken.new.self c.source_all.new.self _ _
+    (λ given h. c.in_ok-taken.ensures.arrived given h
+    ∙ ap (arrived given (plain_session c.args.self.now c.args.trace.now.notes)) is)
+    c.source_all.ensures.reads
 
-pub returns-clause-next : goal.returns-clause-next
-returns-clause-next g c =
-    let is = c.pressed_event-event.ensures
+pub returns-clause-whole : goal.returns-clause-whole
+returns-clause-whole g c =
+    let is = c.pressed-event.ensures
     ∙ ap (λ (m : ℤ). KeyPressed c.args.key m) (to_z-of_z c.ranges.moment) in
-    subst (λ (n : Next). IsNext n c.take-taken.new.self.stage) (sym c.next.ensures)
-    (key_next (plain_session c.args.self.now c.args.trace.now.notes)
-    (plain_session c.take-taken.new.self c.take-taken.new.notes) c.args.key c.args.moment _ is
-    c.in_ok-taken.ensures.arrived)
+    let put = put_plain _ _ _ _ c.in_ok-push.ensures.ok is in
+    presses_whole (λ (kind : Kind). ⊥) c.args.key c.args.moment c.args.self.now _ _ _ refl
+    c.take-taken.ensures.kept c.requires.ready put c.take-taken.new.self c.source_all.new.self _ _
+    (λ given h. c.in_ok-taken.ensures.arrived given h
+    ∙ ap (arrived given (plain_session c.args.self.now c.args.trace.now.notes)) is)
+    c.source_all.ensures.reads c.in_ok-source_all.ensures.whole _ c.next.ensures
+    c.in_ok-source_all.ensures.read

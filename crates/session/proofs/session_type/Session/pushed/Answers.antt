@@ -1,20 +1,30 @@
-use Rattle.std.proofs.Common.{subst, sym}
-use Rattle.session.specs.Runs.{plain_session}
-use Rattle.session.specs.Steps.{IsNext}
-use Rattle.session_events.specs.declared.setup.Next.{Next}
-use Rattle.session.proofs.BeginningLemmas.{waits_then}
-use Rattle.session.proofs.StepsLemmas.{pushed_next}
+use Rattle.std.proofs.Common.{refl}
+use Rattle.mail_base.specs.declared.kind.Kind.{Kind}
+use Rattle.session.proofs.CallsLemmas.{pushes, pushes_off, pushes_whole}
 use Rattle.session.proofs.session_type.Session.pushed.Goals as goal
 
-pub returns-clause-next : goal.returns-clause-next
-returns-clause-next g c =
-    subst (λ (n : Next). IsNext n c.push_keys.new.self.stage) (sym c.next.ensures)
-    (pushed_next (plain_session c.args.self.now c.args.trace.now.notes)
-    (plain_session c.push_keys.new.self c.args.trace.now.notes)
-    (λ given is. c.in_ok-push_keys.ensures.pushed given is c.args.trace.now.notes))
+pub returns-in_err-push_keys-clause-pushes : goal.returns-in_err-push_keys-clause-pushes
+returns-in_err-push_keys-clause-pushes g c =
+    pushes_off _ c.args.self.now c.push_keys.new.self _ _ _ refl refl refl c.push_keys.ensures.kept
 
-pub returns-clause-stood : goal.returns-clause-stood
-returns-clause-stood g c given is first waits =
-    waits_then given first (plain_session c.args.self.now c.args.trace.now.notes)
-    (plain_session c.push_keys.new.self c.args.trace.now.notes) _
-    (c.in_ok-push_keys.ensures.pushed given is c.args.trace.now.notes) waits
+pub returns-in_err-source_all-clause-pushes : goal.returns-in_err-source_all-clause-pushes
+returns-in_err-source_all-clause-pushes g c =
+    pushes _ c.args.self.now c.push_keys.new.self _ _ _ refl refl refl c.push_keys.ensures.kept
+    c.source_all.new.self _ _
+    (λ given is. c.in_ok-push_keys.ensures.pushed given is c.args.trace.now.notes)
+    c.source_all.ensures.reads
+
+pub returns-clause-pushes : goal.returns-clause-pushes
+returns-clause-pushes g c =
+    pushes _ c.args.self.now c.push_keys.new.self _ _ _ refl refl refl c.push_keys.ensures.kept
+    c.source_all.new.self _ _
+    (λ given is. c.in_ok-push_keys.ensures.pushed given is c.args.trace.now.notes)
+    c.source_all.ensures.reads
+
+pub returns-clause-whole : goal.returns-clause-whole
+returns-clause-whole g c =
+    pushes_whole (λ (kind : Kind). ⊥) c.args.self.now c.push_keys.new.self _ _ _ refl refl refl
+    c.push_keys.ensures.kept c.source_all.new.self _ _
+    (λ given is. c.in_ok-push_keys.ensures.pushed given is c.args.trace.now.notes)
+    c.source_all.ensures.reads c.in_ok-source_all.ensures.whole _ c.next.ensures
+    c.in_ok-source_all.ensures.read

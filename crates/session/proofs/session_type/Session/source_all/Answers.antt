@@ -1,54 +1,37 @@
-use Rattle.std.proofs.Common.{refl, ◌∙◌}
-use Rattle.session.specs.Runs.{plain_session}
-use Rattle.session.proofs.GivenLemmas.{keeps_then}
-use Rattle.session.proofs.StepsLemmas.{sources_off}
+use Rattle.std.proofs.Common.{refl}
+use Rattle.session.proofs.CallsLemmas.{still_reads, still_whole, then_reads, then_whole}
+use Rattle.session.proofs.GivenLemmas.{keeps_same}
 use Rattle.session.proofs.session_type.Session.source_all.Goals as goal
 
-pub returns-in_err-source_next-clause-off : goal.returns-in_err-source_next-clause-off
-returns-in_err-source_next-clause-off g c first before sources =
-    c.source_next.ensures.off first before (c.loop-turn.invariant.sources first before sources)
+pub loop-turn-init : goal.loop-turn-init
+loop-turn-init g c = record {
+  reads = still_reads c.args.self.now _ _ _ _ refl refl (keeps_same _) refl;
+  whole = still_whole c.args.self.now _ _ refl refl refl c.requires;
+}
 
 pub loop-turn-preserved : goal.loop-turn-preserved
 loop-turn-preserved g c = record {
-  unopened = c.in_ok-source_next.ensures.unopened;
-  view = c.in_ok-source_next.ensures.view ∙ c.loop-turn.invariant.view;
-  window = c.source_next.ensures.window ∙ c.loop-turn.invariant.window;
-  fits = c.in_ok-source_next.ensures.fits;
-  archive = c.source_next.ensures.archive ∙ c.loop-turn.invariant.archive;
-  kept = keeps_then c.loop-turn.invariant.kept c.source_next.ensures.kept;
-  sources = λ first before sources.
-      c.in_ok-source_next.ensures.sources first before
-      (c.loop-turn.invariant.sources first before sources);
+  reads = then_reads c.loop-turn.invariant.reads c.loop-turn.invariant.whole
+      c.source_next.ensures.reads;
+  whole = then_whole c.loop-turn.invariant.reads c.loop-turn.invariant.whole
+      c.source_next.ensures.reads c.in_ok-source_next.ensures.whole;
 }
 
-pub returns-then-not-branch-clause-sources : goal.returns-then-not-branch-clause-sources
-returns-then-not-branch-clause-sources g c first before sources =
-    c.in_ok-source_next.ensures.sources first before
-    (c.loop-turn.invariant.sources first before sources)
+pub source_next-requires : goal.source_next-requires
+source_next-requires g c = c.loop-turn.invariant.whole.fits
 
-pub returns-then-not-branch-clause-off : goal.returns-then-not-branch-clause-off
-returns-then-not-branch-clause-off g c first before sources =
-    c.source_next.ensures.off first before (c.loop-turn.invariant.sources first before sources)
+pub returns-in_err-source_next-clause-reads : goal.returns-in_err-source_next-clause-reads
+returns-in_err-source_next-clause-reads g c =
+    then_reads c.loop-turn.invariant.reads c.loop-turn.invariant.whole c.source_next.ensures.reads
 
-pub returns-clause-off : goal.returns-clause-off
-returns-clause-off g c first before sources =
-    sources_off first (plain_session c.loop-turn.self c.loop-turn.trace.notes) _ _ before _ _ refl
-    refl (c.loop-turn.invariant.sources first before sources)
+pub returns-then-not-branch-clause-reads : goal.returns-then-not-branch-clause-reads
+returns-then-not-branch-clause-reads g c =
+    then_reads c.loop-turn.invariant.reads c.loop-turn.invariant.whole c.source_next.ensures.reads
 
-pub source_next-requires-clause-fits : goal.source_next-requires-clause-fits
-source_next-requires-clause-fits g c = c.loop-turn.invariant.fits
+pub returns-then-not-branch-clause-whole : goal.returns-then-not-branch-clause-whole
+returns-then-not-branch-clause-whole g c =
+    then_whole c.loop-turn.invariant.reads c.loop-turn.invariant.whole
+    c.source_next.ensures.reads c.in_ok-source_next.ensures.whole
 
-pub returns-in_err-source_next-clause-window : goal.returns-in_err-source_next-clause-window
-returns-in_err-source_next-clause-window g c =
-    c.source_next.ensures.window ∙ c.loop-turn.invariant.window
-
-pub returns-then-not-branch-clause-view : goal.returns-then-not-branch-clause-view
-returns-then-not-branch-clause-view g c =
-    c.in_ok-source_next.ensures.view ∙ c.loop-turn.invariant.view
-
-pub returns-then-not-branch-clause-window : goal.returns-then-not-branch-clause-window
-returns-then-not-branch-clause-window g c =
-    c.source_next.ensures.window ∙ c.loop-turn.invariant.window
-
-pub returns-clause-window : goal.returns-clause-window
-returns-clause-window g c = c.loop-turn.invariant.window
+pub returns-clause-reads : goal.returns-clause-reads
+returns-clause-reads g c = c.loop-turn.invariant.reads

@@ -1,0 +1,74 @@
+-- What commands tell, on the fault stream or on the last line, by where they come from.
+use Rattle.std.specs.Prelude.{◌++◌, ℕ, List, [], ◌∷◌, Option, Some, None, codes}
+use Rattle.std.specs.Fmt.{decimal}
+use Rattle.mail_base.specs.Series.{plain_texts}
+use Rattle.mail_base.specs.Shown.{utf8_text}
+use Rattle.rc_lang.specs.Settings.{plain_shown}
+use Rattle.rc_lang_words.specs.Faults.{Fault, fault_text}
+use Rattle.session_state.specs.declared.frame.Origin.{Origin}
+use Rattle.session_state.specs.declared.frame.Origin.TheVariants.{Asked, Default, Named, Prompt, Typed}
+use Rattle.session_state.specs.declared.told.Told.{Told}
+
+-- the lines for the fault stream, and what the last line shows, if that changes
+pub record PlainTold : Type 0 where
+  pub notes : List (List ℕ)
+  pub shown : Option (List ℕ)
+
+abbrev pub plain_told : Told → PlainTold
+plain_told told = record { notes = plain_texts told.notes; shown = plain_shown told.shown }
+
+abbrev pub nothing_told : PlainTold
+nothing_told = record { notes = []; shown = None }
+
+-- On the fault stream.
+
+-- a command of the command line has line 1
+abbrev pub line_number : Origin → ℕ → ℕ
+line_number Default line = line
+line_number Named line = line
+line_number Typed line = 1
+line_number Prompt line = line
+line_number Asked line = line
+
+-- what is told of a faulty command: FILE:LINE: CAUSE
+abbrev pub note_of : List ℕ → ℕ → Fault → List ℕ
+note_of file line fault =
+    utf8_text (file ++ codes ":" ++ decimal line ++ codes ": " ++ fault_text fault)
+
+abbrev pub noted : List ℕ → ℕ → Fault → PlainTold → PlainTold
+noted file line fault told =
+    record told { notes = told.notes ++ note_of file line fault ∷ [] }
+
+-- On the last line.
+
+abbrev pub showing : List ℕ → PlainTold → PlainTold
+showing line told = record told { shown = Some line }
+
+abbrev pub fault_shown : Fault → PlainTold → PlainTold
+fault_shown fault told = showing (utf8_text (fault_text fault)) told
+
+-- By where a command comes from.
+
+-- the line that a command answers is shown where it was typed
+abbrev pub answer_told : Origin → List ℕ → PlainTold → PlainTold
+answer_told Default line told = told
+answer_told Named line told = told
+answer_told Typed line told = told
+answer_told Prompt line told = showing line told
+answer_told Asked line told = told
+
+-- a faulty command on a line of this file
+abbrev pub fault_told : Origin → List ℕ → ℕ → Fault → PlainTold → PlainTold
+fault_told Default file line fault told = noted file line fault told
+fault_told Named file line fault told = noted file line fault told
+fault_told Typed file line fault told = noted file line fault told
+fault_told Prompt file line fault told = fault_shown fault told
+fault_told Asked file line fault told = noted file line fault told
+
+-- this file was not read, which has no line
+abbrev pub unread_told : Origin → List ℕ → Fault → PlainTold → PlainTold
+unread_told Default file fault told = noted file 0 fault told
+unread_told Named file fault told = noted file 0 fault told
+unread_told Typed file fault told = noted file 0 fault told
+unread_told Prompt file fault told = fault_shown fault told
+unread_told Asked file fault told = fault_shown fault told
