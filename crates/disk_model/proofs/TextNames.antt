@@ -1,20 +1,25 @@
 -- The names of a lawful past are text.
-use Rattle.std.proofs.Common.{◌≡◌, ◌<◌, ◌==◌, ◌∷◌, ◌∙◌, [], ℕ, zero, suc, Bool, true, false, List, Option, Some}
-use Rattle.std.proofs.Common.{None, not, ◌&&◌, map, length, take, drop, get_or, if◌then◌else◌, refl, sym, ap, subst, arith}
-use Rattle.std.proofs.Common.{add-one, length-drop, drop-cons, eqb-true}
+use Rattle.std.proofs.Common.{◌≡◌, ◌<◌, ◌==◌, ◌∷◌, ◌∙◌, [], ℕ, zero, suc, Bool, true, false, List}
+use Rattle.std.proofs.Common.{Option, Some, None, not, ◌&&◌, map, length, take, drop, get_or}
+use Rattle.std.proofs.Common.{if◌then◌else◌, refl, sym, ap, subst, arith, add-one, length-drop}
+use Rattle.std.proofs.Common.{drop-cons, eqb-true}
 use Rattle.std.proofs.lemmas.Bool.{and_parts}
 use Rattle.std.proofs.lemmas.Str.{IsCharBoundary-after_ascii, IsUtf8-drop, IsUtf8-from_is_utf8}
 use Rattle.std.specs.List.{insert}
 use Rattle.std.specs.Str.{IsCharBoundary, IsUtf8, bytes_eq, is_utf8}
 use Rattle.mail_base.specs.Series.{Held}
-use Rattle.disk_model.specs.Tree.{TreeNode, are_distinct, are_placed, are_stamped, folder_of, is_first_tree, is_folder_node}
-use Rattle.disk_model.specs.Tree.{is_placed, is_root, is_tree, node_at}
-use Rattle.disk_model.specs.Journal.{Call, ListDir, StatPath, ReadFront, ReadAll, Create, WriteAt, Cut, Sync, Rename, Remove}
-use Rattle.disk_model.specs.Journal.{SyncDir, MakeDir, Done, Refused, Action, Appends, Puts, Renames, Removes, Writes}
-use Rattle.disk_model.specs.Journal.{Entry, Own, Others}
-use Rattle.disk_model.specs.State.{File, Name, State, after_action, after_done, after_entry, after_refused, can_make, can_take}
-use Rattle.disk_model.specs.State.{changed, first_names, is_file, is_folder, is_free, moved, name_at, next_number, node_of}
-use Rattle.disk_model.specs.State.{run_entries, settled, state_of, tree_of, with_made, with_names, without, written}
+use Rattle.disk_model.specs.Tree.{TreeNode, are_distinct, are_placed, are_stamped, folder_of}
+use Rattle.disk_model.specs.Tree.{is_first_tree, is_folder_node, is_placed, is_root, is_tree}
+use Rattle.disk_model.specs.Tree.{node_at}
+use Rattle.disk_model.specs.Journal.{Call, ListDir, StatPath, ReadFront, ReadAll, Create, WriteAt}
+use Rattle.disk_model.specs.Journal.{Cut, Sync, Rename, Remove, SyncDir, MakeDir, Done, Refused}
+use Rattle.disk_model.specs.Journal.{Action, Appends, Puts, Renames, Removes, Writes, Entry, Own}
+use Rattle.disk_model.specs.Journal.{Others}
+use Rattle.disk_model.specs.State.{File, Name, State, after_action, after_done, after_entry}
+use Rattle.disk_model.specs.State.{after_refused, can_make, can_take, changed, first_names, is_file}
+use Rattle.disk_model.specs.State.{is_folder, is_free, moved, name_at, next_number, node_of}
+use Rattle.disk_model.specs.State.{run_entries, settled, state_of, tree_of, with_made, with_names}
+use Rattle.disk_model.specs.State.{without, written}
 use Rattle.disk_model.specs.Lawful.{AreLawful, IsLawfulAt, is_text}
 use Rattle.disk_model.specs.Names.{behind_slash, more_names, name_of, names_in, place_of, put_name}
 use Rattle.disk_model.specs.Answers.{AreText}
@@ -28,20 +33,24 @@ AllText names = Each (λ (name : Name). is_utf8 name.path ≡ true) names
 -- Names that are left, made and moved.
 
 text_without : (path : List ℕ) (names : List Name) → AllText names → AllText (without path names)
-text_without path names texts = each_without (λ (name : Name). is_utf8 name.path ≡ true) path names texts
+text_without path names texts =
+    each_without (λ (name : Name). is_utf8 name.path ≡ true) path names texts
 
-text_changed : (at : Option (Option ℕ)) (change : ℕ → File → File) (state : State) → AllText state.names
+text_changed : (at : Option (Option ℕ)) (change : ℕ → File → File) (state : State)
+    → AllText state.names
     → AllText (changed at change state).names
 text_changed None change state texts = texts
 text_changed (Some None) change state texts = texts
 text_changed (Some (Some number)) change state texts = texts
 
-text_settled : (at : Option (Option ℕ)) (state : State) → AllText state.names → AllText (settled at state).names
+text_settled : (at : Option (Option ℕ)) (state : State) → AllText state.names
+    → AllText (settled at state).names
 text_settled None state texts = texts
 text_settled (Some None) state texts = texts
 text_settled (Some (Some number)) state texts = texts
 
-text_moved : (at : Option (Option ℕ)) (from to : List ℕ) (state : State) → is_utf8 to ≡ true → AllText state.names
+text_moved : (at : Option (Option ℕ)) (from to : List ℕ) (state : State) → is_utf8 to ≡ true
+    → AllText state.names
     → AllText (moved at from to state).names
 text_moved None from to state text texts = texts
 text_moved (Some None) from to state text texts = texts
@@ -55,16 +64,19 @@ text_done (StatPath path) state text texts = texts
 text_done (ReadFront path size) state text texts = texts
 text_done (ReadAll path limit) state text texts = texts
 text_done (Create path) state text texts = (text, texts)
-text_done (WriteAt path at piece) state text texts = text_changed (name_at state.names path) (written at piece) state texts
+text_done (WriteAt path at piece) state text texts =
+    text_changed (name_at state.names path) (written at piece) state texts
 text_done (Cut path size) state text texts = text_changed (name_at state.names path) _ state texts
 text_done (Sync path) state text texts = text_settled (name_at state.names path) state texts
 text_done (Rename from to) state text texts =
-    text_moved (name_at state.names from) from to state (and_parts (is_utf8 from) (is_utf8 to) text).1 texts
+    text_moved (name_at state.names from) from to state
+    (and_parts (is_utf8 from) (is_utf8 to) text).1 texts
 text_done (Remove path) state text texts = text_without path state.names texts
 text_done (SyncDir dir) state text texts = texts
 text_done (MakeDir path) state text texts = (text, texts)
 
-text_choice : (b : Bool) (next state : State) → AllText state.names → (b ≡ true → AllText next.names)
+text_choice : (b : Bool) (next state : State) → AllText state.names
+    → (b ≡ true → AllText next.names)
     → AllText (if b then next else state).names
 text_choice true next state texts made = made refl
 text_choice false next state texts made = texts
@@ -82,7 +94,8 @@ text_refused (ReadFront path size) wrote state texts = texts
 text_refused (ReadAll path limit) wrote state texts = texts
 text_refused (Create path) wrote state texts = texts
 text_refused (WriteAt path at piece) wrote state texts =
-    text_none (wrote == 0) (changed (name_at state.names path) (written at (take wrote piece)) state) state texts
+    text_none (wrote == 0)
+    (changed (name_at state.names path) (written at (take wrote piece)) state) state texts
     (text_changed (name_at state.names path) (written at (take wrote piece)) state texts)
 text_refused (Cut path size) wrote state texts = texts
 text_refused (Sync path) wrote state texts = texts
@@ -91,7 +104,8 @@ text_refused (Remove path) wrote state texts = texts
 text_refused (SyncDir dir) wrote state texts = texts
 text_refused (MakeDir path) wrote state texts = texts
 
-text_action : (action : Action) (state : State) → AllText state.names → AllText (after_action action state).names
+text_action : (action : Action) (state : State) → AllText state.names
+    → AllText (after_action action state).names
 text_action (Appends path piece) state texts = text_changed (name_at state.names path) _ state texts
 text_action (Puts path bytes) state texts =
     text_choice (can_make state.names path) (with_made path bytes state) state texts
@@ -102,13 +116,15 @@ text_action (Puts path bytes) state texts =
       texts,
     ))
 text_action (Renames from to) state texts =
-    text_choice (can_take state.names to) (moved (name_at state.names from) from to state) state texts
+    text_choice (can_take state.names to) (moved (name_at state.names from) from to state) state
+    texts
     (λ can. text_moved (name_at state.names from) from to state
     (and_parts (is_utf8 to) (is_folder (name_at state.names (folder_of to)))
     (and_parts (is_utf8 to && is_folder (name_at state.names (folder_of to)))
     (not (is_folder (name_at state.names to))) can).0).0 texts)
 text_action (Removes path) state texts =
-    text_choice (is_file (name_at state.names path)) (with_names (without path state.names) state) state texts
+    text_choice (is_file (name_at state.names path)) (with_names (without path state.names) state)
+    state texts
     (λ can. text_without path state.names texts)
 text_action (Writes path bytes) state texts = text_changed (name_at state.names path) _ state texts
 
@@ -118,7 +134,8 @@ text_entry (Own call Done) state lawful texts = text_done call state lawful.0 te
 text_entry (Own call (Refused why wrote)) state lawful texts = text_refused call wrote state texts
 text_entry (Others action) state lawful texts = text_action action state texts
 
-pub text_run : (entries : List Entry) (state : State) → AreLawful entries state → AllText state.names
+pub text_run : (entries : List Entry) (state : State) → AreLawful entries state
+    → AllText state.names
     → AllText (run_entries entries state).names
 text_run [] state lawful texts = texts
 text_run (entry ∷ entries) state lawful texts =
@@ -137,7 +154,8 @@ text_first tree (node ∷ nodes) number placed =
       text_first tree nodes (next_number node.bytes number) parts.1,
     )
 
-pub text_begins : (first : List TreeNode) → is_first_tree first ≡ true → AllText (state_of first).names
+pub text_begins : (first : List TreeNode) → is_first_tree first ≡ true
+    → AllText (state_of first).names
 text_begins first good =
     text_first first first 0
     (and_parts (are_distinct first) (are_placed first first)
@@ -176,7 +194,8 @@ slash_boundary path text k there slash =
     subst (λ (n : ℕ). IsCharBoundary path n) (add-one k)
     (IsCharBoundary-after_ascii path k text there (omega (arith, slash)))
 
-behind_text : (path : List ℕ) → IsUtf8 path → (rest found : List ℕ) (k : ℕ) → rest ≡ drop k path → IsUtf8 found
+behind_text : (path : List ℕ) → IsUtf8 path → (rest found : List ℕ) (k : ℕ) → rest ≡ drop k path
+    → IsUtf8 found
     → IsUtf8 (behind_slash found rest)
 behind_text path text [] found k is good = good
 behind_text path text (b ∷ rest) found k is good =
@@ -189,7 +208,8 @@ behind_text path text (b ∷ rest) found k is good =
 
 pub text_name : (path : List ℕ) → is_utf8 path ≡ true → IsUtf8 (name_of path)
 text_name path text =
-    let good : IsUtf8 path = IsUtf8-from_is_utf8 path text in behind_text path good path path 0 refl good
+    let good : IsUtf8 path =
+    IsUtf8-from_is_utf8 path text in behind_text path good path path 0 refl good
 
 -- The names in a folder are text.
 
@@ -200,19 +220,24 @@ utf8_insert : (names : List (List ℕ)) (place : ℕ) (name : List ℕ) → AllU
     → AllUtf8 (insert names place name)
 utf8_insert names zero name texts text = (text, texts)
 utf8_insert [] (suc place) name texts text = (text, tt)
-utf8_insert (other ∷ names) (suc place) name texts text = (texts.0, utf8_insert names place name texts.1 text)
+utf8_insert (other ∷ names) (suc place) name texts text =
+    (texts.0, utf8_insert names place name texts.1 text)
 
-utf8_if : (b : Bool) (found put : List (List ℕ)) → AllUtf8 found → AllUtf8 put → AllUtf8 (if b then put else found)
+utf8_if : (b : Bool) (found put : List (List ℕ)) → AllUtf8 found → AllUtf8 put
+    → AllUtf8 (if b then put else found)
 utf8_if true found put old new = new
 utf8_if false found put old new = old
 
-path-node_of : (files : List File) (path : List ℕ) (file : Option ℕ) → (node_of files path file).path ≡ path
+path-node_of : (files : List File) (path : List ℕ) (file : Option ℕ)
+    → (node_of files path file).path ≡ path
 path-node_of files path None = refl
 path-node_of files path (Some number) = refl
 
-utf8_more : (files : List File) (names : List Name) (dir : List ℕ) (found : List (List ℕ)) → AllText names
+utf8_more : (files : List File) (names : List Name) (dir : List ℕ) (found : List (List ℕ))
+    → AllText names
     → AllUtf8 found
-    → AllUtf8 (more_names found dir (map (λ (name : Name). node_of files name.path name.file) names))
+    → AllUtf8
+    (more_names found dir (map (λ (name : Name). node_of files name.path name.file) names))
 utf8_more files [] dir found texts old = old
 utf8_more files (name ∷ names) dir found texts old =
     let path : List ℕ = (node_of files name.path name.file).path in
@@ -221,10 +246,12 @@ utf8_more files (name ∷ names) dir found texts old =
     (utf8_insert found (place_of (name_of path) found) (name_of path) old
     (text_name path (ap is_utf8 (path-node_of files name.path name.file) ∙ texts.0))))
 
-pub utf8_names : (state : State) (dir : List ℕ) → AllText state.names → AllUtf8 (names_in (tree_of state) dir)
+pub utf8_names : (state : State) (dir : List ℕ) → AllText state.names
+    → AllUtf8 (names_in (tree_of state) dir)
 utf8_names state dir texts = utf8_more state.files state.names dir [] texts tt
 
-pub text_names : (names : List (Held ℕ)) (plain : List (List ℕ)) → map (λ (name : Held ℕ). name.items) names ≡ plain
+pub text_names : (names : List (Held ℕ)) (plain : List (List ℕ))
+    → map (λ (name : Held ℕ). name.items) names ≡ plain
     → AllUtf8 plain → AreText names
 text_names names plain is texts = go names (subst (λ (l : List (List ℕ)). AllUtf8 l) (sym is) texts)
   where

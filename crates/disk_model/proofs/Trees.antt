@@ -1,6 +1,6 @@
 -- What stands at a path of a state's tree, by the names.
-use Rattle.std.proofs.Common.{◌≡◌, ℕ, Bool, true, false, List, [], ◌∷◌, Option, Some, None, map, if◌then◌else◌}
-use Rattle.std.proofs.Common.{refl, sym, ◌∙◌, ap}
+use Rattle.std.proofs.Common.{◌≡◌, ℕ, Bool, true, false, List, [], ◌∷◌, Option, Some, None, map}
+use Rattle.std.proofs.Common.{if◌then◌else◌, refl, sym, ◌∙◌, ap}
 use Rattle.std.proofs.lemmas.Slice.Eq.{bytes_eq-Decides}
 use Rattle.std.specs.Str.{bytes_eq}
 use Rattle.disk_model.specs.Tree.{TreeNode, folder_node, is_root, node_at, node_in}
@@ -15,12 +15,14 @@ abbrev pub node_by : List File → List ℕ → Option (Option ℕ) → Option T
 node_by files path None = None
 node_by files path (Some file) = Some (node_of files path file)
 
-pub path-node_of : (files : List File) (path : List ℕ) (file : Option ℕ) → (node_of files path file).path ≡ path
+pub path-node_of : (files : List File) (path : List ℕ) (file : Option ℕ)
+    → (node_of files path file).path ≡ path
 path-node_of files path None = refl
 path-node_of files path (Some number) = refl
 
 -- one name more
-name_found : (files : List File) (name : Name) (path : List ℕ) (here : Bool) (found : Option TreeNode)
+name_found : (files : List File) (name : Name) (path : List ℕ) (here : Bool)
+    (found : Option TreeNode)
     (rest : Option (Option ℕ)) → bytes_eq name.path path ≡ here → found ≡ node_by files path rest
     → (if here then Some (node_of files name.path name.file) else found)
     ≡ node_by files path (if here then Some name.file else rest)
@@ -34,34 +36,42 @@ pub node_in-names : (files : List File) (names : List Name) (path : List ℕ)
 node_in-names files [] path = refl
 node_in-names files (name ∷ names) path =
     ap (λ (p : List ℕ). if bytes_eq p path then Some (node_of files name.path name.file)
-    else node_in (map (λ (n : Name). node_of files n.path n.file) names) path) (path-node_of files name.path name.file)
+    else node_in (map (λ (n : Name). node_of files n.path n.file) names) path)
+    (path-node_of files name.path name.file)
     ∙ name_found files name path (bytes_eq name.path path) _ (name_in names path) refl
     (node_in-names files names path)
 
-root_found : (files : List File) (path : List ℕ) (root : Bool) (found : Option TreeNode) (rest : Option (Option ℕ))
+root_found : (files : List File) (path : List ℕ) (root : Bool) (found : Option TreeNode)
+    (rest : Option (Option ℕ))
     → found ≡ node_by files path rest
-    → (if root then Some (folder_node path) else found) ≡ node_by files path (if root then Some None else rest)
+    → (if root then Some (folder_node path) else found)
+    ≡ node_by files path (if root then Some None else rest)
 root_found files path true found rest same = refl
 root_found files path false found rest same = same
 
 pub node_at-tree_of : (state : State) (path : List ℕ)
     → node_at (tree_of state) path ≡ node_by state.files path (name_at state.names path)
 node_at-tree_of state path =
-    root_found state.files path (is_root path) (node_in (tree_of state) path) (name_in state.names path)
+    root_found state.files path (is_root path) (node_in (tree_of state) path)
+    (name_in state.names path)
     (node_in-names state.files state.names path)
 
 -- The same by what a look at the names has told.
 
-pub nothing_at : (state : State) (path : List ℕ) (at : Option (Option ℕ)) → at ≡ name_at state.names path → at ≡ None
+pub nothing_at : (state : State) (path : List ℕ) (at : Option (Option ℕ))
+    → at ≡ name_at state.names path → at ≡ None
     → node_at (tree_of state) path ≡ None
-nothing_at state path at told is = node_at-tree_of state path ∙ ap (node_by state.files path) (sym told ∙ is)
+nothing_at state path at told is =
+    node_at-tree_of state path ∙ ap (node_by state.files path) (sym told ∙ is)
 
 pub something_at : (state : State) (path : List ℕ) (at : Option (Option ℕ)) (file : Option ℕ)
     → at ≡ name_at state.names path → at ≡ Some file
     → node_at (tree_of state) path ≡ Some (node_of state.files path file)
-something_at state path at file told is = node_at-tree_of state path ∙ ap (node_by state.files path) (sym told ∙ is)
+something_at state path at file told is =
+    node_at-tree_of state path ∙ ap (node_by state.files path) (sym told ∙ is)
 
-pub folder_at : (state : State) (path : List ℕ) (at : Option (Option ℕ)) → at ≡ name_at state.names path
+pub folder_at : (state : State) (path : List ℕ) (at : Option (Option ℕ))
+    → at ≡ name_at state.names path
     → at ≡ Some None → node_at (tree_of state) path ≡ Some (folder_node path)
 folder_at state path at told is = something_at state path at None told is
 

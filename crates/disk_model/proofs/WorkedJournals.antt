@@ -1,12 +1,13 @@
 -- What small journals leave, computed from the definitions.
 use Rattle.std.proofs.Common.{◌≡◌, ◌∷◌, [], ℕ, List, Some, None, refl, codes}
 use Rattle.disk_model.specs.Tree.{TreeNode, folder_node}
-use Rattle.disk_model.specs.Journal.{Call, Create, WriteAt, Cut, Sync, Rename, Remove, SyncDir, MakeDir, Done, Refused}
-use Rattle.disk_model.specs.Journal.{Entry, Own, Others, Appends, Removes}
+use Rattle.disk_model.specs.Journal.{Call, Create, WriteAt, Cut, Sync, Rename, Remove, SyncDir}
+use Rattle.disk_model.specs.Journal.{MakeDir, Done, Refused, Entry, Own, Others, Appends, Removes}
 use Rattle.disk_model.specs.State.{state_after, tree_after}
 use Rattle.disk_model.specs.Refusals.{refusal}
 use Rattle.disk_model.specs.Fills.{image_of}
-use Rattle.disk_model.specs.declared.answers.DiskError.TheVariants.{Missing, WrongNode, Exists, Fault}
+use Rattle.disk_model.specs.declared.answers.DiskError.TheVariants.{Missing, WrongNode, Exists}
+use Rattle.disk_model.specs.declared.answers.DiskError.TheVariants.{Fault}
 use Rattle.disk_model.specs.declared.fill.Fill.{Fill}
 use Rattle.disk_model.specs.declared.fill.Fill.TheVariants.{Kept, Written, Byte}
 
@@ -82,7 +83,8 @@ gap-seen : tree_behind (done (WriteAt old 5 (codes "Z")) ∷ [])
     ≡ folder_node box ∷ file old (97 ∷ 98 ∷ 99 ∷ 0 ∷ 0 ∷ 90 ∷ []) 2 ∷ []
 gap-seen = refl
 
-gap-garbled : image_behind (done (WriteAt old 5 (codes "Z")) ∷ []) 0 (Byte 46) ≡ box_with (codes "abc...")
+gap-garbled : image_behind (done (WriteAt old 5 (codes "Z")) ∷ []) 0 (Byte 46)
+    ≡ box_with (codes "abc...")
 gap-garbled = refl
 
 -- what was cut away may come back
@@ -111,7 +113,9 @@ followed-garbled = refl
 
 -- a file is replaced by a new one, which is synced first
 abbrev replacing : List Entry
-replacing = done (Create new) ∷ done (WriteAt new 0 (codes "xy")) ∷ done (Sync new) ∷ done (Rename new old) ∷ []
+replacing =
+    done (Create new) ∷ done (WriteAt new 0 (codes "xy")) ∷ done (Sync new) ∷ done (Rename new old)
+    ∷ []
 
 replaced-seen : tree_behind replacing ≡ file old (codes "xy") 3 ∷ folder_node box ∷ []
 replaced-seen = refl
@@ -128,10 +132,12 @@ replaced-moved = refl
 -- where the folder is synced too, no name operation is open
 abbrev replaced_whole : List Entry
 replaced_whole =
-    done (Create new) ∷ done (WriteAt new 0 (codes "xy")) ∷ done (Sync new) ∷ done (Rename new old) ∷ done (SyncDir box)
+    done (Create new) ∷ done (WriteAt new 0 (codes "xy")) ∷ done (Sync new) ∷ done (Rename new old)
+    ∷ done (SyncDir box)
     ∷ []
 
-replaced_whole-stands : image_behind replaced_whole 0 Kept ≡ file old (codes "xy") 0 ∷ folder_node box ∷ []
+replaced_whole-stands : image_behind replaced_whole 0 Kept ≡ file old (codes "xy") 0
+    ∷ folder_node box ∷ []
 replaced_whole-stands = refl
 
 -- where the new file was not synced, the rename may stand without its bytes

@@ -1,6 +1,7 @@
--- The images that a disk shows: so many name operations stand, and the open places of files are filled in one way.
-use Rattle.std.specs.Prelude.{◌≡◌, ℕ, ◌-◌, List, [], Option, Some, None, length, map, nat_lt, slice_index}
-use Rattle.std.specs.Prelude.{slice_index_or, if◌then◌else◌}
+-- The images that a disk shows: so many name operations stand, and the open places of files are
+-- filled in one way.
+use Rattle.std.specs.Prelude.{◌≡◌, ℕ, ◌-◌, List, [], Option, Some, None, length, map, nat_lt}
+use Rattle.std.specs.Prelude.{slice_index, slice_index_or, if◌then◌else◌}
 use Rattle.std.specs.List.{range_with_len}
 use Rattle.mail_base.specs.Series.{Held}
 use Rattle.disk_model.specs.Tree.{TreeNode}
@@ -20,7 +21,8 @@ names_after state count =
 
 -- the byte of a place where the touched ones hold this one
 abbrev pub filled_byte : File → ℕ → ℕ → ℕ
-filled_byte file byte place = if is_touched file.touched place then byte else slice_index file.bytes place
+filled_byte file byte place =
+    if is_touched file.touched place then byte else slice_index file.bytes place
 
 -- the bytes of a file in an image
 abbrev pub filled : Fill → File → List ℕ
@@ -36,7 +38,8 @@ filled_at fill files (Some number) = Some (filled fill (file_at files number))
 -- the names as a tree, without stamps
 abbrev pub filled_tree : Fill → List File → List Name → List TreeNode
 filled_tree fill files names =
-    map (λ name. record { path = name.path; bytes = filled_at fill files name.file; stamp = 0 }) names
+    map (λ name. record { path = name.path; bytes = filled_at fill files name.file; stamp = 0 })
+    names
 
 -- the image of a state
 abbrev pub image_of : State → ℕ → Fill → List TreeNode
@@ -46,4 +49,5 @@ image_of state count fill = filled_tree fill state.files (names_after state coun
 abbrev pub IsShown : Option Past → ℕ → Fill → Option (Held Node) → Type 0
 IsShown None count fill shown = shown ≡ None
 IsShown (Some past) count fill None = ⊥
-IsShown (Some past) count fill (Some tree) = map plain_node tree.items ≡ image_of (state_after past) count fill
+IsShown (Some past) count fill (Some tree) =
+    map plain_node tree.items ≡ image_of (state_after past) count fill

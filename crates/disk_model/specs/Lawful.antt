@@ -2,8 +2,9 @@
 use Rattle.std.specs.Prelude.{◌≡◌, ◌≤◌, ℕ, Bool, true, ◌&&◌, List, [], ◌∷◌, Some, None, length}
 use Rattle.std.specs.Str.{is_utf8}
 use Rattle.disk_model.specs.Tree.{TreeNode, is_first_tree}
-use Rattle.disk_model.specs.Journal.{Call, ListDir, StatPath, ReadFront, ReadAll, Create, WriteAt, Cut, Sync, Rename}
-use Rattle.disk_model.specs.Journal.{Remove, SyncDir, MakeDir, Answer, Done, Refused, Entry, Own, Others, Past}
+use Rattle.disk_model.specs.Journal.{Call, ListDir, StatPath, ReadFront, ReadAll, Create, WriteAt}
+use Rattle.disk_model.specs.Journal.{Cut, Sync, Rename, Remove, SyncDir, MakeDir, Answer, Done}
+use Rattle.disk_model.specs.Journal.{Refused, Entry, Own, Others, Past}
 use Rattle.disk_model.specs.State.{State, after_entry, state_of, tree_of}
 use Rattle.disk_model.specs.Refusals.{refusal}
 use Rattle.disk_model.specs.declared.answers.DiskError.TheVariants.{Fault}
@@ -38,7 +39,8 @@ most_written (Remove path) = 0
 most_written (SyncDir dir) = 0
 most_written (MakeDir path) = 0
 
--- The tree allows the answer: Ok where nothing is in the way, a refusal for the cause that stands there, and a fault at
+-- The tree allows the answer: Ok where nothing is in the way, a refusal for the cause that stands
+-- there, and a fault at
 -- any time, which wrote no more than was given.
 abbrev pub IsAllowed : Call → Answer → List TreeNode → Type 0
 IsAllowed call Done tree = refusal call tree ≡ None
@@ -53,7 +55,8 @@ IsLawfulAt (Others action) state = Unit {0}
 -- each of these entries is allowed by the state that it meets, from this state on
 abbrev pub AreLawful : List Entry → State → Type 0
 AreLawful [] state = Unit {0}
-AreLawful (entry ∷ entries) state = IsLawfulAt entry state × AreLawful entries (after_entry state entry)
+AreLawful (entry ∷ entries) state =
+    IsLawfulAt entry state × AreLawful entries (after_entry state entry)
 
 -- A past of this many entries that began with a tree and in which all is allowed.
 pub record IsLawful (marks : ℕ) (past : Past) : Type 0 where

@@ -1,7 +1,9 @@
 -- Laws of pasts and of what a stop leaves of them.
-use Rattle.std.specs.Prelude.{true, ◌≡◌, ◌<◌, ◌≤◌, ◌⊎◌, ℕ, List, [], ◌∷◌, ◌++◌, Option, Some, None, length, map}
+use Rattle.std.specs.Prelude.{true, ◌≡◌, ◌<◌, ◌≤◌, ◌⊎◌, ℕ, List, [], ◌∷◌, ◌++◌, Option, Some, None}
+use Rattle.std.specs.Prelude.{length, map}
 use Rattle.disk_model.specs.Tree.{TreeNode, is_first_tree, is_tree}
-use Rattle.disk_model.specs.Journal.{Action, Answer, Call, WriteAt, Sync, Rename, SyncDir, Done, Own, Others, Past}
+use Rattle.disk_model.specs.Journal.{Action, Answer, Call, WriteAt, Sync, Rename, SyncDir, Done}
+use Rattle.disk_model.specs.Journal.{Own, Others, Past}
 use Rattle.disk_model.specs.State.{File, Name, State, after_entry, file_at, name_at}
 use Rattle.disk_model.specs.State.{replaced, state_after, state_at, tree_after, tree_at, tree_of}
 use Rattle.disk_model.specs.Lawful.{IsLawful}
@@ -37,31 +39,38 @@ SyncedStands = (state : State) (tree : List TreeNode) → IsSynced state → IsI
 abbrev pub RenameIsWhole : Type 0
 RenameIsWhole = (state : State) (from to : List ℕ) (tree : List TreeNode)
     → IsImage (after_entry state (Own (Rename from to) Done)) tree
-    → IsImage state tree ⊎ IsTreeOf state.files (after_entry state (Own (Rename from to) Done)).names tree
+    → IsImage state tree ⊎ IsTreeOf state.files
+    (after_entry state (Own (Rename from to) Done)).names tree
 
 -- behind an action of others each image has the names of now
 abbrev pub OthersAreBarrier : Type 0
 OthersAreBarrier = (state : State) (action : Action) (tree : List TreeNode)
     → IsImage (after_entry state (Others action)) tree
-    → IsTreeOf (after_entry state (Others action)).files (after_entry state (Others action)).names tree
+    → IsTreeOf (after_entry state (Others action)).files (after_entry state (Others action)).names
+    tree
 
 -- and so behind a folder that was synced
 abbrev pub SyncDirIsBarrier : Type 0
 SyncDirIsBarrier = (state : State) (dir : List ℕ) (tree : List TreeNode)
-    → IsImage (after_entry state (Own (SyncDir dir) Done)) tree → IsTreeOf state.files state.names tree
+    → IsImage (after_entry state (Own (SyncDir dir) Done)) tree
+    → IsTreeOf state.files state.names tree
 
 -- a file that others wrote is left as they wrote it
 abbrev pub WrittenByOthersStands : Type 0
-WrittenByOthersStands = (file : File) (bytes left : List ℕ) (stamp : ℕ) → IsLeft (replaced bytes stamp file) left
+WrittenByOthersStands =
+    (file : File) (bytes left : List ℕ) (stamp : ℕ) → IsLeft (replaced bytes stamp file) left
     → left ≡ bytes
 
 -- at each mark of a lawful past the nodes are those of a tree
 abbrev pub EachMarkHasATree : Type 0
-EachMarkHasATree = (past : Past) (marks mark : ℕ) → IsLawful marks past → is_tree (tree_at past mark) ≡ true
+EachMarkHasATree =
+    (past : Past) (marks mark : ℕ) → IsLawful marks past → is_tree (tree_at past mark) ≡ true
 
 -- what a disk shows as an image is one
 abbrev pub ShownIsImage : Type 0
-ShownIsImage = (past : Past) (count : ℕ) (fill : Fill) → IsImage (state_after past) (image_of (state_after past) count fill)
+ShownIsImage =
+    (past : Past) (count : ℕ) (fill : Fill)
+    → IsImage (state_after past) (image_of (state_after past) count fill)
 
 -- Names with files of their own.
 
@@ -106,7 +115,8 @@ AreStampedOnce (file ∷ files) = IsNew file.stamp files × AreStampedOnce files
 abbrev pub Older : ℕ → List File → Type 0
 Older clock files = Each (λ (file : File). file.stamp < clock) files
 
--- Each name of a file has a file, no two have one, and no two files have one stamp, nor the next one.
+-- Each name of a file has a file, no two have one, and no two files have one stamp, nor the next
+-- one.
 pub record HasFiles (state : State) : Type 0 where
   pub below : AllBelow (length state.files) state.names
   pub once : AreNamedOnce state.names
@@ -115,7 +125,8 @@ pub record HasFiles (state : State) : Type 0 where
 
 -- so it is at each mark of a past that began with a tree
 abbrev pub EachNameHasItsFile : Type 0
-EachNameHasItsFile = (past : Past) (mark : ℕ) → is_first_tree past.first ≡ true → HasFiles (state_at past mark)
+EachNameHasItsFile =
+    (past : Past) (mark : ℕ) → is_first_tree past.first ≡ true → HasFiles (state_at past mark)
 
 -- Pieces that we put at the end of a file.
 
@@ -138,28 +149,38 @@ pub record IsTorn (before : List ℕ) (most : ℕ) (left : List ℕ) : Type 0 wh
   pub bytes : left ≡ before ++ tail
   pub within : length tail ≤ most
 
--- what was on the disk is left whatever that call answers, and of the piece any bytes, no more than it has
+-- what was on the disk is left whatever that call answers, and of the piece any bytes, no more than
+-- it has
 abbrev pub AppendedIsTorn : Type 0
-AppendedIsTorn = (state : State) (path piece left : List ℕ) (number : ℕ) (answer : Answer) → IsNamed state path number
+AppendedIsTorn =
+    (state : State) (path piece left : List ℕ) (number : ℕ) (answer : Answer)
+    → IsNamed state path number
     → IsDurable (file_at state.files number)
-    → IsLeft (file_at (after_entry state (Own (append_call state path number piece) answer)).files number) left
+    → IsLeft (file_at (after_entry state (Own (append_call state path number piece) answer)).files
+    number) left
     → IsTorn (bytes_in state number) (length piece) left
 
 -- until it is synced all of these may be left
 abbrev pub AppendedMayBeTorn : Type 0
-AppendedMayBeTorn = (state : State) (path piece left : List ℕ) (number : ℕ) → IsNamed state path number
+AppendedMayBeTorn =
+    (state : State) (path piece left : List ℕ) (number : ℕ) → IsNamed state path number
     → IsDurable (file_at state.files number) → IsTorn (bytes_in state number) (length piece) left
-    → IsLeft (file_at (after_entry state (Own (append_call state path number piece) Done)).files number) left
+    → IsLeft (file_at (after_entry state (Own (append_call state path number piece) Done)).files
+    number) left
 
 -- the state behind a piece that was put there and synced
 abbrev pub after_append : State → List ℕ → ℕ → List ℕ → State
 after_append state path number piece =
-    after_entry (after_entry state (Own (append_call state path number piece) Done)) (Own (Sync path) Done)
+    after_entry (after_entry state (Own (append_call state path number piece) Done))
+    (Own (Sync path) Done)
 
--- once the file is synced, what it had is left and the whole piece, also where the file was not on the disk before
+-- once the file is synced, what it had is left and the whole piece, also where the file was not on
+-- the disk before
 abbrev pub SyncedAppendStands : Type 0
-SyncedAppendStands = (state : State) (path piece left : List ℕ) (number : ℕ) → IsNamed state path number
-    → IsLeft (file_at (after_append state path number piece).files number) left → left ≡ bytes_in state number ++ piece
+SyncedAppendStands =
+    (state : State) (path piece left : List ℕ) (number : ℕ) → IsNamed state path number
+    → IsLeft (file_at (after_append state path number piece).files number) left
+    → left ≡ bytes_in state number ++ piece
 
 -- where each name has its file, what stands at a path by its number is so named
 abbrev pub NamesAreOfFiles : Type 0

@@ -33,7 +33,9 @@ put_name name names = insert names (place_of name names) name
 abbrev pub more_names : List (List ℕ) → List ℕ → List TreeNode → List (List ℕ)
 more_names names dir [] = names
 more_names names dir (node ∷ nodes) =
-    more_names (if bytes_eq (folder_of node.path) dir then put_name (name_of node.path) names else names) dir nodes
+    more_names
+    (if bytes_eq (folder_of node.path) dir then put_name (name_of node.path) names else names)
+    dir nodes
 
 -- the names of the nodes whose folder this is, in order
 abbrev pub names_in : List TreeNode → List ℕ → List (List ℕ)

@@ -1,10 +1,11 @@
 -- Why a call is refused at the tree that it meets.
 use Rattle.std.specs.Prelude.{ℕ, List, Option, Some, None, length, is_none, nat_lt, if◌then◌else◌}
 use Rattle.disk_model.specs.Tree.{TreeNode, folder_of, node_at}
-use Rattle.disk_model.specs.Journal.{Call, ListDir, StatPath, ReadFront, ReadAll, Create, WriteAt, Cut, Sync, Rename}
-use Rattle.disk_model.specs.Journal.{Remove, SyncDir, MakeDir}
+use Rattle.disk_model.specs.Journal.{Call, ListDir, StatPath, ReadFront, ReadAll, Create, WriteAt}
+use Rattle.disk_model.specs.Journal.{Cut, Sync, Rename, Remove, SyncDir, MakeDir}
 use Rattle.disk_model.specs.declared.answers.DiskError.{DiskError}
-use Rattle.disk_model.specs.declared.answers.DiskError.TheVariants.{Missing, WrongNode, Exists, Long}
+use Rattle.disk_model.specs.declared.answers.DiskError.TheVariants.{Missing, WrongNode, Exists}
+use Rattle.disk_model.specs.declared.answers.DiskError.TheVariants.{Long}
 
 -- the first refusal of two
 abbrev pub first_refusal : Option DiskError → Option DiskError → Option DiskError
@@ -46,7 +47,8 @@ target_refusal (Some node) = if is_none node.bytes then Some WrongNode else None
 -- at most so many bytes
 abbrev pub length_refusal : ℕ → Option (List ℕ) → Option DiskError
 length_refusal limit None = None
-length_refusal limit (Some bytes) = if nat_lt limit (length bytes) then Some (Long (length bytes)) else None
+length_refusal limit (Some bytes) =
+    if nat_lt limit (length bytes) then Some (Long (length bytes)) else None
 
 -- a file of at most so many bytes, where one must stand
 abbrev pub long_refusal : ℕ → Option TreeNode → Option DiskError

@@ -3,14 +3,14 @@ use Rattle.std.specs.Prelude.{ℕ, List, Option, Some, None, map}
 use Rattle.mail_base.specs.Series.{Held}
 use Rattle.disk_model.specs.Tree.{TreeNode}
 use Rattle.disk_model.specs.Node.{plain_bytes}
-use Rattle.disk_model.specs.State.{Patch as PlainPatch, File as PlainFile, Name as PlainName, State as PlainState}
-use Rattle.disk_model.specs.State.{appended, cut_to, replaced, written}
+use Rattle.disk_model.specs.State.{Patch as PlainPatch, File as PlainFile, Name as PlainName}
+use Rattle.disk_model.specs.State.{State as PlainState, appended, cut_to, replaced, written}
 use Rattle.disk_state.specs.declared.file.File.{File}
 use Rattle.disk_state.specs.declared.file.Patch.{Patch}
 use Rattle.disk_state.specs.declared.file.Change.{Change}
-use Rattle.disk_model.specs.Journal.{Call as PlainCall, ListDir, StatPath, ReadFront, ReadAll, Create, WriteAt, Cut, Sync}
-use Rattle.disk_model.specs.Journal.{Rename, Remove, SyncDir, MakeDir, Action as PlainAction, Appends, Puts, Renames}
-use Rattle.disk_model.specs.Journal.{Removes, Writes}
+use Rattle.disk_model.specs.Journal.{Call as PlainCall, ListDir, StatPath, ReadFront, ReadAll}
+use Rattle.disk_model.specs.Journal.{Create, WriteAt, Cut, Sync, Rename, Remove, SyncDir, MakeDir}
+use Rattle.disk_model.specs.Journal.{Action as PlainAction, Appends, Puts, Renames, Removes, Writes}
 use Rattle.disk_model.specs.Journal.{Entry as PlainEntry, Own, Others, Answer, Done, Refused}
 use Rattle.disk_model.specs.declared.answers.DiskError.{DiskError}
 use Rattle.disk_state.specs.declared.call.Call.{Call}
@@ -18,16 +18,22 @@ use Rattle.disk_state.specs.declared.call.Entry.{Entry}
 use Rattle.disk_state.specs.declared.call.Entry.TheVariants.{Own as OwnEntry, Others as OthersEntry}
 use Rattle.disk_state.specs.declared.first.First.{First}
 use Rattle.disk_state.specs.declared.first.Kept.{Kept}
-use Rattle.disk_state.specs.declared.call.Call.TheVariants.{ListDir as Listed, StatPath as Looked, ReadFront as FrontRead}
-use Rattle.disk_state.specs.declared.call.Call.TheVariants.{ReadAll as WholeRead, Create as Created, WriteAt as Written}
-use Rattle.disk_state.specs.declared.call.Call.TheVariants.{Cut as CutTo, Sync as Synced, Rename as Renamed}
-use Rattle.disk_state.specs.declared.call.Call.TheVariants.{Remove as Removed, SyncDir as DirSynced, MakeDir as DirMade}
+use Rattle.disk_state.specs.declared.call.Call.TheVariants.{ListDir as Listed, StatPath as Looked}
+use Rattle.disk_state.specs.declared.call.Call.TheVariants.{ReadFront as FrontRead}
+use Rattle.disk_state.specs.declared.call.Call.TheVariants.{ReadAll as WholeRead, Create as Created}
+use Rattle.disk_state.specs.declared.call.Call.TheVariants.{WriteAt as Written, Cut as CutTo}
+use Rattle.disk_state.specs.declared.call.Call.TheVariants.{Sync as Synced, Rename as Renamed}
+use Rattle.disk_state.specs.declared.call.Call.TheVariants.{Remove as Removed, SyncDir as DirSynced}
+use Rattle.disk_state.specs.declared.call.Call.TheVariants.{MakeDir as DirMade}
 use Rattle.disk_state.specs.declared.action.Action.{Action}
-use Rattle.disk_state.specs.declared.action.Action.TheVariants.{Append as Appending, Put as Putting, Rename as Renaming}
-use Rattle.disk_state.specs.declared.action.Action.TheVariants.{Remove as Removing, Write as Writing}
+use Rattle.disk_state.specs.declared.action.Action.TheVariants.{Append as Appending, Put as Putting}
+use Rattle.disk_state.specs.declared.action.Action.TheVariants.{Rename as Renaming}
+use Rattle.disk_state.specs.declared.action.Action.TheVariants.{Remove as Removing}
+use Rattle.disk_state.specs.declared.action.Action.TheVariants.{Write as Writing}
 use Rattle.disk_state.specs.declared.names.Name.{Name}
 use Rattle.disk_state.specs.declared.state.State.{State}
-use Rattle.disk_state.specs.declared.file.Change.TheVariants.{Write as WriteChange, Cut as CutChange, Append, Replace}
+use Rattle.disk_state.specs.declared.file.Change.TheVariants.{Write as WriteChange}
+use Rattle.disk_state.specs.declared.file.Change.TheVariants.{Cut as CutChange, Append, Replace}
 
 -- a patch of a file
 abbrev pub plain_patch : Patch → PlainPatch
@@ -101,7 +107,8 @@ plain_entry (OthersEntry action) = Others (plain_action action)
 
 -- a node of the first tree
 abbrev pub plain_kept : Kept → TreeNode
-plain_kept kept = record { path = kept.path.items; bytes = plain_bytes kept.bytes; stamp = kept.stamp }
+plain_kept kept =
+    record { path = kept.path.items; bytes = plain_bytes kept.bytes; stamp = kept.stamp }
 
 -- a first tree
 abbrev pub plain_first : First → List TreeNode

@@ -1,6 +1,6 @@
 -- Characters that are kept at the front of a text, one after the other.
-use Rattle.std.proofs.Common.{◌≡◌, ℕ, ◌+◌, ◌-◌, ◌<◌, ◌≤◌, Bool, true, false, List, [], ◌∷◌, ◌++◌, length, get_or, drop}
-use Rattle.std.proofs.Common.{map, cond, sym, ap, ◌∙◌, nat_le, arith}
+use Rattle.std.proofs.Common.{◌≡◌, ℕ, ◌+◌, ◌-◌, ◌<◌, ◌≤◌, Bool, true, false, List, [], ◌∷◌, ◌++◌}
+use Rattle.std.proofs.Common.{length, get_or, drop, map, cond, sym, ap, ◌∙◌, nat_le, arith}
 use Rattle.std.proofs.lemmas.Grind.{replicate_next}
 use Rattle.std.proofs.lemmas.List.{at_drop_more, at_drop_all, map-append}
 use Rattle.std.proofs.lemmas.Bool.Decides.{nat_tests}
@@ -25,7 +25,8 @@ lt_false a b lt = grind (arith, nat_tests)
 kept_more : (left n c : ℕ) (cs : List ℕ) → (n < length cs) × (c ≡ get_or cs n c)
     → kept_from left (drop n cs) ≡ kept_from left (c ∷ drop (n + 1) cs)
 kept_more left n c cs at =
-    at_drop_more (kept_from left) cs n c at.0 ∙ ap (λ (x : ℕ). kept_from left (x ∷ drop (n + 1) cs)) (sym at.1)
+    at_drop_more (kept_from left) cs n c at.0
+    ∙ ap (λ (x : ℕ). kept_from left (x ∷ drop (n + 1) cs)) (sym at.1)
 
 -- a character that fits
 pub kept_fit : (left n c : ℕ) (cs : List ℕ) → (n < length cs) × (c ≡ get_or cs n c)

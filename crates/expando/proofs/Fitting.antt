@@ -1,12 +1,14 @@
 -- The shape of a line: no wider than its columns, and without control characters.
-use Rattle.std.proofs.Common.{◌≡◌, ◌+◌, ◌-◌, ◌*◌, ◌/◌, ◌%◌, ◌<◌, ◌≤◌, ◌&&◌, ◌==◌, ℕ, zero, suc, Bool, true, false, not}
-use Rattle.std.proofs.Common.{List, [], ◌∷◌, ◌++◌, cond, map, replicate, nat_le, nat_lt, min, refl, ap, sym, ◌∙◌, arith}
-use Rattle.std.proofs.Common.{append_assoc}
+use Rattle.std.proofs.Common.{◌≡◌, ◌+◌, ◌-◌, ◌*◌, ◌/◌, ◌%◌, ◌<◌, ◌≤◌, ◌&&◌, ◌==◌, ℕ, zero, suc}
+use Rattle.std.proofs.Common.{Bool, true, false, not, List, [], ◌∷◌, ◌++◌, cond, map, replicate}
+use Rattle.std.proofs.Common.{nat_le, nat_lt, min, refl, ap, sym, ◌∙◌, arith, append_assoc}
 use Rattle.std.proofs.lemmas.Bool.Decides.{nat_tests}
 use Rattle.std.specs.List.{flat_map, list_all}
 use Rattle.std.specs.Str.{chars}
-use Rattle.expando.specs.Columns.{blanks, columns_in, columns_of, is_control, kept, padded, shown_char, shown_text}
-use Rattle.expando.specs.Drawing.{Texts, branch_of, drawn, drawn_leaf, drawn_piece, field_chars, shown_line}
+use Rattle.expando.specs.Columns.{blanks, columns_in, columns_of, is_control, kept, padded}
+use Rattle.expando.specs.Columns.{shown_char, shown_text}
+use Rattle.expando.specs.Drawing.{Texts, branch_of, drawn, drawn_leaf, drawn_piece, field_chars}
+use Rattle.expando.specs.Drawing.{shown_line}
 use Rattle.expando.specs.Formats.{PlainPiece, Simple, Either}
 use Rattle.expando.specs.Lines.{blank_in, filled, filler, laid, line_chars, spare}
 use Rattle.expando.specs.declared.cell.Cell.{Cell}
@@ -21,7 +23,8 @@ columns_in-append : (xs ys : List ℕ) → columns_in (xs ++ ys) ≡ columns_in 
 columns_in-append [] ys = omega arith
 columns_in-append (x ∷ xs) ys = omega (arith, columns_in-append xs ys)
 
-columns_in-replicate : (n c width : ℕ) → columns_of c ≡ width → columns_in (replicate n c) ≡ n * width
+columns_in-replicate : (n c width : ℕ) → columns_of c ≡ width
+    → columns_in (replicate n c) ≡ n * width
 columns_in-replicate zero c width is = omega arith
 columns_in-replicate (suc n) c width is =
     ap (λ w. w + columns_in (replicate n c)) is
@@ -113,7 +116,8 @@ and_split : (a b : Bool) → (a && b) ≡ true → (a ≡ true) × (b ≡ true)
 and_split true b both = (refl, both)
 and_split false b both = absurd (cc)
 
-list_all-append : {X : Type 0} (p : X → Bool) (xs ys : List X) → list_all p xs ≡ true → list_all p ys ≡ true
+list_all-append : {X : Type 0} (p : X → Bool) (xs ys : List X) → list_all p xs ≡ true
+    → list_all p ys ≡ true
     → list_all p (xs ++ ys) ≡ true
 list_all-append p [] ys first second = second
 list_all-append p (x ∷ xs) ys first second =
@@ -122,7 +126,8 @@ list_all-append p (x ∷ xs) ys first second =
 
 plain_times : (n c : ℕ) → is_plain c ≡ true → all_plain (replicate n c) ≡ true
 plain_times zero c plain = refl
-plain_times (suc n) c plain = and_both (is_plain c) (all_plain (replicate n c)) plain (plain_times n c plain)
+plain_times (suc n) c plain =
+    and_both (is_plain c) (all_plain (replicate n c)) plain (plain_times n c plain)
 
 plain_filler : (c : ℕ) → is_plain c ≡ true → is_plain (filler c) ≡ true
 plain_filler c plain = by_test (columns_of c == 0)
@@ -135,7 +140,8 @@ plain_filled : (c count : ℕ) → is_plain c ≡ true → all_plain (filled c c
 plain_filled c count plain =
     let width = columns_of (filler c) in
     list_all-append is_plain (replicate (count / width) (filler c)) (blanks (count % width))
-    (plain_times (count / width) (filler c) (plain_filler c plain)) (plain_times (count % width) 32 refl)
+    (plain_times (count / width) (filler c) (plain_filler c plain))
+    (plain_times (count % width) 32 refl)
 
 plain_blank : (left : ℕ) → all_plain (blank_in left) ≡ true
 plain_blank left = by_test (nat_lt 0 left)
@@ -159,9 +165,11 @@ laid_plain gap left (Shown c ∷ rest) all =
     let both = and_split (is_plain c) (list_all plain_cell rest) all in
     by_test (nat_le (columns_of c) left) both.0 (laid_plain gap (left - columns_of c) rest both.1)
   where
-    by_test : (t : Bool) → is_plain c ≡ true → all_plain (laid gap (left - columns_of c) rest) ≡ true
+    by_test : (t : Bool) → is_plain c ≡ true
+        → all_plain (laid gap (left - columns_of c) rest) ≡ true
         → all_plain (cond t (c ∷ laid gap (left - columns_of c) rest) (blank_in left)) ≡ true
-    by_test true first more = and_both (is_plain c) (all_plain (laid gap (left - columns_of c) rest)) first more
+    by_test true first more =
+        and_both (is_plain c) (all_plain (laid gap (left - columns_of c) rest)) first more
     by_test false first more = plain_blank left
 laid_plain gap left (Gap c ∷ rest) all =
     let both = and_split (is_plain c) (list_all plain_cell rest) all in
@@ -181,7 +189,8 @@ plain_char c = by_test (is_control c) refl
 
 plain_chars : (cs : List ℕ) → all_plain (map shown_char cs) ≡ true
 plain_chars [] = refl
-plain_chars (c ∷ rest) = and_both (is_plain (shown_char c)) (all_plain (map shown_char rest)) (plain_char c)
+plain_chars (c ∷ rest) =
+    and_both (is_plain (shown_char c)) (all_plain (map shown_char rest)) (plain_char c)
     (plain_chars rest)
 
 plain_kept : (limit : ℕ) (cs : List ℕ) → all_plain cs ≡ true → all_plain (kept limit cs) ≡ true
@@ -192,15 +201,18 @@ plain_kept limit (c ∷ rest) all =
   where
     by_test : (t : Bool) → is_plain c ≡ true → all_plain (kept (limit - columns_of c) rest) ≡ true
         → all_plain (cond t (c ∷ kept (limit - columns_of c) rest) []) ≡ true
-    by_test true first more = and_both (is_plain c) (all_plain (kept (limit - columns_of c) rest)) first more
+    by_test true first more =
+        and_both (is_plain c) (all_plain (kept (limit - columns_of c) rest)) first more
     by_test false first more = refl
 
 plain_padded : (left : Bool) (width : ℕ) (cs : List ℕ) → all_plain cs ≡ true
     → all_plain (padded left width cs) ≡ true
 plain_padded true width cs all =
-    list_all-append is_plain cs (blanks (width - columns_in cs)) all (plain_times (width - columns_in cs) 32 refl)
+    list_all-append is_plain cs (blanks (width - columns_in cs)) all
+    (plain_times (width - columns_in cs) 32 refl)
 plain_padded false width cs all =
-    list_all-append is_plain (blanks (width - columns_in cs)) cs (plain_times (width - columns_in cs) 32 refl) all
+    list_all-append is_plain (blanks (width - columns_in cs)) cs
+    (plain_times (width - columns_in cs) 32 refl) all
 
 shown_plain : (cs : List ℕ) → all_plain cs ≡ true → list_all plain_cell (map Shown cs) ≡ true
 shown_plain [] all = refl
@@ -211,23 +223,29 @@ shown_plain (c ∷ rest) all =
 one_plain : (c : ℕ) → (is_plain (shown_char c) && true) ≡ true
 one_plain c = and_both (is_plain (shown_char c)) true (plain_char c) refl
 
-leaf_plain : (texts : Texts) (leaf : Leaf (List ℕ)) → list_all plain_cell (drawn_leaf texts leaf) ≡ true
+leaf_plain : (texts : Texts) (leaf : Leaf (List ℕ))
+    → list_all plain_cell (drawn_leaf texts leaf) ≡ true
 leaf_plain texts (Text c) = one_plain c
 leaf_plain texts (Value field) =
     let text = texts field.letter.sign field.letter.inner in
-    shown_plain (field_chars texts field) (plain_padded field.left field.width (kept field.limit (shown_text text))
+    shown_plain (field_chars texts field)
+    (plain_padded field.left field.width (kept field.limit (shown_text text))
     (plain_kept field.limit (shown_text text) (plain_chars (chars text))))
 leaf_plain texts (Fill c) = one_plain c
 leaf_plain texts (ToEnd c) = one_plain c
 
-flat_plain : {X : Type 0} (f : X → List Cell) (xs : List X) → ((x : X) → list_all plain_cell (f x) ≡ true)
+flat_plain : {X : Type 0} (f : X → List Cell) (xs : List X)
+    → ((x : X) → list_all plain_cell (f x) ≡ true)
     → list_all plain_cell (flat_map f xs) ≡ true
 flat_plain f [] each = refl
-flat_plain f (x ∷ xs) each = list_all-append plain_cell (f x) (flat_map f xs) (each x) (flat_plain f xs each)
+flat_plain f (x ∷ xs) each =
+    list_all-append plain_cell (f x) (flat_map f xs) (each x) (flat_plain f xs each)
 
-piece_plain : (texts : Texts) (piece : PlainPiece) → list_all plain_cell (drawn_piece texts piece) ≡ true
+piece_plain : (texts : Texts) (piece : PlainPiece)
+    → list_all plain_cell (drawn_piece texts piece) ≡ true
 piece_plain texts (Simple leaf) = leaf_plain texts leaf
-piece_plain texts (Either choice) = flat_plain (drawn_leaf texts) (branch_of texts choice) (leaf_plain texts)
+piece_plain texts (Either choice) =
+    flat_plain (drawn_leaf texts) (branch_of texts choice) (leaf_plain texts)
 
 -- a line has no control character
 pub line_plain : (cols : ℕ) (texts : Texts) (pieces : List PlainPiece)
@@ -288,7 +306,8 @@ spare_whole left [] = sub_zero left
   where
     sub_zero : (n : ℕ) → n ≡ n - 0
     sub_zero n = omega arith
-spare_whole left (c ∷ cs) = spare_whole (left - columns_of c) cs ∙ sub_twice left (columns_of c) (columns_in cs)
+spare_whole left (c ∷ cs) =
+    spare_whole (left - columns_of c) cs ∙ sub_twice left (columns_of c) (columns_in cs)
   where
     sub_twice : (n a b : ℕ) → n - a - b ≡ n - (a + b)
     sub_twice n a b = omega arith
@@ -297,14 +316,16 @@ gap_size : (cols front back : ℕ) → front + back ≤ cols
     → min (cols - front - back) (cols - front) ≡ cols - (front + back)
 gap_size cols front back fits = omega arith
 
-back_fits : (cols front back : ℕ) → front + back ≤ cols → back ≤ cols - front - (cols - (front + back))
+back_fits : (cols front back : ℕ) → front + back ≤ cols
+    → back ≤ cols - front - (cols - (front + back))
 back_fits cols front back fits = omega arith
 
 front_fits : (cols front back : ℕ) → front + back ≤ cols → front ≤ cols
 front_fits cols front back fits = omega arith
 
 -- what follows a gap ends at the last column
-pub ends_at_the_last : (cols c : ℕ) (front back : List ℕ) → columns_in front + columns_in back ≤ cols
+pub ends_at_the_last : (cols c : ℕ) (front back : List ℕ)
+    → columns_in front + columns_in back ≤ cols
     → line_chars cols (map Shown front ++ Gap c ∷ map Shown back)
     ≡ front ++ filled c (cols - (columns_in front + columns_in back)) ++ back
 ends_at_the_last cols c front back fits =
@@ -315,7 +336,8 @@ ends_at_the_last cols c front back fits =
     ap (λ n. laid n cols (map Shown front ++ Gap c ∷ map Shown back))
     (spare_front cols front (Gap c ∷ map Shown back) ∙ spare_whole (cols - before) back)
     ∙ laid_front gap cols front (Gap c ∷ map Shown back) (front_fits cols before after fits)
-    ∙ ap (λ n. front ++ (filled c n ++ laid 0 (cols - before - n) (map Shown back))) (gap_size cols before after fits)
+    ∙ ap (λ n. front ++ (filled c n ++ laid 0 (cols - before - n) (map Shown back)))
+    (gap_size cols before after fits)
     ∙ ap (λ l. front ++ (filled c size ++ l))
     (laid_whole 0 (cols - before - size) back (back_fits cols before after fits))
     ∙ sym (append_assoc front (filled c size) back)

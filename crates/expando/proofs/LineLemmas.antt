@@ -1,6 +1,6 @@
 -- The characters of a line, one cell after the other.
-use Rattle.std.proofs.Common.{◌≡◌, ℕ, ◌+◌, ◌-◌, ◌≤◌, List, [], ◌∷◌, ◌++◌, replicate, ap, ◌∙◌, sym, refl, arith}
-use Rattle.std.proofs.Common.{append_assoc, drop, get_or, length, min, take}
+use Rattle.std.proofs.Common.{◌≡◌, ℕ, ◌+◌, ◌-◌, ◌≤◌, List, [], ◌∷◌, ◌++◌, replicate, ap, ◌∙◌, sym}
+use Rattle.std.proofs.Common.{refl, arith, append_assoc, drop, get_or, length, min, take}
 use Rattle.std.proofs.lemmas.Grind.{replicate_next}
 use Rattle.std.proofs.lemmas.List.{append-nil, take_all}
 use Rattle.std.specs.Prelude.{encode_utf8}
@@ -18,7 +18,8 @@ unfolding char_width
 blank_width = refl
 
 -- the bytes of one more character
-pub times_next : (n c : ℕ) → encode_utf8_all (replicate (n + 1) c) ≡ encode_utf8_all (replicate n c) ++ encode_utf8 c
+pub times_next : (n c : ℕ)
+    → encode_utf8_all (replicate (n + 1) c) ≡ encode_utf8_all (replicate n c) ++ encode_utf8 c
 times_next n c =
     ap encode_utf8_all (replicate_next n c)
     ∙ encodes-append (replicate n c) (c ∷ [])
@@ -56,7 +57,8 @@ gap_turn start line all cells d c gap left taken some is least grows before =
     let behind = take (length cells - 1) (drop 1 cells) in
     added_then start line (filled c taken) (laid 0 (left - taken) behind) grows
     ∙ ap (λ n. start ++ encode_utf8_all (filled c n ++ laid 0 (left - n) behind)) least
-    ∙ ap (λ l. start ++ encode_utf8_all (laid gap left l)) (sym (first_cell cells d (Gap c) some is))
+    ∙ ap (λ l. start ++ encode_utf8_all (laid gap left l))
+    (sym (first_cell cells d (Gap c) some is))
     ∙ before
 
 -- the rest of a line is filled
@@ -68,5 +70,6 @@ pub rest_turn : (start line all : List ℕ) (cells : List Cell) (d : Cell) (c ga
 rest_turn start line all cells d c gap left some is grows before =
     let behind = take (length cells - 1) (drop 1 cells) in
     added_then start line (filled c left) (laid gap 0 behind) grows
-    ∙ ap (λ l. start ++ encode_utf8_all (laid gap left l)) (sym (first_cell cells d (Rest c) some is))
+    ∙ ap (λ l. start ++ encode_utf8_all (laid gap left l))
+    (sym (first_cell cells d (Rest c) some is))
     ∙ before

@@ -34,7 +34,8 @@ past n beyond = omega arith
 within : (n : ℕ) → n < 2 ^ 64 → n ≡ min n (2 ^ 64 - 1)
 within n fits = omega arith
 
-capped : {E : Type 0} (n : ℕ) (digits : Type 0) (r : Result ℕ E) → digits → OkIff r (digits × (n < 2 ^ 64)) n
+capped : {E : Type 0} (n : ℕ) (digits : Type 0) (r : Result ℕ E) → digits
+    → OkIff r (digits × (n < 2 ^ 64)) n
     → result_unwrap_or r no_limit ≡ min n no_limit
 capped n digits (Ok m) known parsed = parsed.1 ∙ within n parsed.0.1
 capped n digits (Err e) known parsed = past n (λ fits. parsed (known, fits))

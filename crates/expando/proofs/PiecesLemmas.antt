@@ -1,6 +1,7 @@
 -- Pieces from front to back.
-use Rattle.std.proofs.Common.{◌≡◌, ℕ, zero, suc, ◌+◌, ◌-◌, ◌<◌, ◌≤◌, List, [], ◌∷◌, ◌++◌, drop, length, refl, ap, arith}
-use Rattle.std.proofs.Common.{sym, ◌∙◌, Ok, Err, append_assoc, length-drop, zero-add}
+use Rattle.std.proofs.Common.{◌≡◌, ℕ, zero, suc, ◌+◌, ◌-◌, ◌<◌, ◌≤◌, List, [], ◌∷◌, ◌++◌, drop}
+use Rattle.std.proofs.Common.{length, refl, ap, arith, sym, ◌∙◌, Ok, Err, append_assoc, length-drop}
+use Rattle.std.proofs.Common.{zero-add}
 use Rattle.expando.specs.Pieces.{Scanned, behind_piece, joined, pieces, pieces_behind, with_front}
 use Rattle.expando.specs.declared.piece.Piece.{Piece}
 
@@ -15,7 +16,8 @@ at_step : (place n more rest : ℕ) → more ≤ rest → n ≡ rest - more
 at_step place n more rest within is = omega arith
 
 -- the pieces behind so many bytes are those of what follows them
-pub behind_dropped : {X : Type 0} (first : ℕ → List ℕ → Scanned (Piece X)) (n place : ℕ) (text : List ℕ)
+pub behind_dropped : {X : Type 0} (first : ℕ → List ℕ → Scanned (Piece X)) (n place : ℕ)
+    (text : List ℕ)
     → pieces_behind first n place text
     ≡ pieces first (place + (length text - length (drop n text))) (drop n text)
 behind_dropped first zero place [] = refl
@@ -27,7 +29,8 @@ behind_dropped first (suc n) place (b ∷ rest) =
     behind_dropped first n (place + 1) rest
     ∙ ap (λ at. pieces first at (drop n rest)) at
   where
-    at : place + 1 + (length rest - length (drop n rest)) ≡ place + (length (b ∷ rest) - length (drop n rest))
+    at : place + 1 + (length rest - length (drop n rest))
+        ≡ place + (length (b ∷ rest) - length (drop n rest))
     at = omega (arith, length-drop n rest)
 
 -- the first piece is read, and then those of what follows it
@@ -35,14 +38,16 @@ pub pieces_step : {X : Type 0} (first : ℕ → List ℕ → Scanned (Piece X)) 
     (piece : Piece X) → 0 < length text → first place text ≡ Ok piece
     → pieces first place text
     ≡ with_front (piece.value ∷ []) (pieces first
-    (place + (length text - length (drop piece.more (drop 1 text)))) (drop piece.more (drop 1 text)))
+    (place + (length text - length (drop piece.more (drop 1 text))))
+    (drop piece.more (drop 1 text)))
 pieces_step first place [] piece some is = absurd (omega arith)
 pieces_step first place (b ∷ rest) piece some is =
     ap (λ r. joined r (pieces_behind first (behind_piece r) (place + 1) rest)) is
     ∙ ap (with_front (piece.value ∷ [])) (behind_dropped first (suc piece.more) place (b ∷ rest))
 
 -- the first piece has a fault
-pub pieces_fault : {X : Type 0} (first : ℕ → List ℕ → Scanned (Piece X)) (place at : ℕ) (text : List ℕ)
+pub pieces_fault : {X : Type 0} (first : ℕ → List ℕ → Scanned (Piece X)) (place at : ℕ)
+    (text : List ℕ)
     → 0 < length text → first place text ≡ Err at → pieces first place text ≡ Err at
 pieces_fault first place at [] some is = absurd (omega arith)
 pieces_fault first place at (b ∷ rest) some is =
@@ -65,7 +70,8 @@ short_rest : (n : ℕ) (text : List ℕ) → length (drop n (drop 1 text)) ≤ l
 short_rest n text = omega (arith, short n (drop 1 text), short 1 text)
 
 -- a turn of a loop that reads the pieces of a text: those that are read, and those of what is left
-pub read_turn : {X : Type 0} (first : ℕ → List ℕ → Scanned (Piece X)) (place : ℕ) (text left rest : List ℕ)
+pub read_turn : {X : Type 0} (first : ℕ → List ℕ → Scanned (Piece X)) (place : ℕ)
+    (text left rest : List ℕ)
     (done next : List X) (piece : Piece X) (whole : Scanned (List X))
     → with_front done (pieces first (place + (length text - length left)) left) ≡ whole
     → first (place + (length text - length left)) left ≡ Ok piece
@@ -79,13 +85,16 @@ read_turn first place text left rest done next piece whole before is some within
     ap (λ r. with_front next (pieces first (place + (length text - length r)) r)) follows
     ∙ ap (λ xs. with_front xs (pieces first (place + (length text - length after)) after)) grows
     ∙ ap (λ n. with_front (done ++ piece.value ∷ []) (pieces first n after))
-    (sym (at_rest place (length text) (length left) (length after) within (short_rest piece.more left)))
-    ∙ sym (with_front_twice done (piece.value ∷ []) (pieces first (at + (length left - length after)) after))
+    (sym (at_rest place (length text) (length left) (length after) within
+    (short_rest piece.more left)))
+    ∙ sym (with_front_twice done (piece.value ∷ [])
+    (pieces first (at + (length left - length after)) after))
     ∙ ap (with_front done) (sym (pieces_step first at left piece some is))
     ∙ before
 
 -- the same for a text that stands at the start
-pub read_turn_from_start : {X : Type 0} (first : ℕ → List ℕ → Scanned (Piece X)) (text left rest : List ℕ)
+pub read_turn_from_start : {X : Type 0} (first : ℕ → List ℕ → Scanned (Piece X))
+    (text left rest : List ℕ)
     (done next : List X) (piece : Piece X) (whole : Scanned (List X))
     → with_front done (pieces first (length text - length left) left) ≡ whole
     → first (length text - length left) left ≡ Ok piece
@@ -93,8 +102,10 @@ pub read_turn_from_start : {X : Type 0} (first : ℕ → List ℕ → Scanned (P
     → rest ≡ drop piece.more (drop 1 left)
     → next ≡ done ++ piece.value ∷ []
     → with_front next (pieces first (length text - length rest) rest) ≡ whole
-read_turn_from_start first text left rest done next piece whole before is some within follows grows =
+read_turn_from_start first text left rest done next piece whole before is some within follows
+    grows =
     ap (λ n. with_front next (pieces first n rest)) (sym (zero-add (length text - length rest)))
     ∙ read_turn first 0 text left rest done next piece whole
-    (ap (λ n. with_front done (pieces first n left)) (zero-add (length text - length left)) ∙ before)
+    (ap (λ n. with_front done (pieces first n left)) (zero-add (length text - length left))
+    ∙ before)
     (ap (λ n. first n left) (zero-add (length text - length left)) ∙ is) some within follows grows

@@ -1,12 +1,14 @@
 -- Formats that are written are read as themselves.
-use Rattle.std.proofs.Common.{◌≡◌, ◌==◌, ◌+◌, ◌-◌, ◌<◌, ◌≤◌, ◌^◌, ◌&&◌, ◌++◌, ℕ, Bool, true, false, not, List, [], ◌∷◌}
-use Rattle.std.proofs.Common.{Option, Some, None, Ok, drop, take, get_or, length, nat_le, nat_lt, option_map}
-use Rattle.std.proofs.Common.{refl, sym, ap, subst, ◌∙◌, arith, append_assoc, length-append, position}
+use Rattle.std.proofs.Common.{◌≡◌, ◌==◌, ◌+◌, ◌-◌, ◌<◌, ◌≤◌, ◌^◌, ◌&&◌, ◌++◌, ℕ, Bool, true, false}
+use Rattle.std.proofs.Common.{not, List, [], ◌∷◌, Option, Some, None, Ok, drop, take, get_or}
+use Rattle.std.proofs.Common.{length, nat_le, nat_lt, option_map, refl, sym, ap, subst, ◌∙◌, arith}
+use Rattle.std.proofs.Common.{append_assoc, length-append, position}
 use Rattle.std.proofs.Math.Seq.{drop-append_seam, take-append_seam, drop-append-add}
 use Rattle.std.proofs.lemmas.Bool.{and_parts, eqb-true, false≢true}
 use Rattle.std.proofs.lemmas.Bool.Decides.{nat_tests}
 use Rattle.std.proofs.lemmas.List.Folds.{list_all-append}
-use Rattle.std.proofs.lemmas.Fmt.{decimal_digit, decimal_nonempty, digits_decimal, digits_value-decimal, first_decimal}
+use Rattle.std.proofs.lemmas.Fmt.{decimal_digit, decimal_nonempty, digits_decimal}
+use Rattle.std.proofs.lemmas.Fmt.{digits_value-decimal, first_decimal}
 use Rattle.std.proofs.lemmas.Str.{length-encode, len_utf8_bounds}
 use Rattle.std.specs.Char.{is_ascii_digit}
 use Rattle.std.specs.Fmt.{decimal}
@@ -20,17 +22,20 @@ use Rattle.mail_base.specs.Fronts.{◌>>=◌, behind}
 use Rattle.mail_base.specs.Places.{around, split_once}
 use Rattle.mail_base.proofs.RoundPlaces.{prefix_stop}
 use Rattle.expando.specs.Fields.{field_at, limit_at, limit_behind, side_at, width_at}
-use Rattle.expando.specs.Formats.{PlainChoice, PlainPiece, Simple, Either, PlainCondition, begins_condition, branches}
-use Rattle.expando.specs.Formats.{choice_of, condition_at, first_choice, first_piece, marked, or_whole}
+use Rattle.expando.specs.Formats.{PlainChoice, PlainPiece, Simple, Either, PlainCondition}
+use Rattle.expando.specs.Formats.{begins_condition, branches, choice_of, condition_at, first_choice}
+use Rattle.expando.specs.Formats.{first_piece, marked, or_whole}
 use Rattle.expando.specs.Laws.{FormatsAreRead}
 use Rattle.expando.specs.Leaves.{behind_percent, filler_at, first_leaf, leaf_at, leaves, text_piece}
 use Rattle.expando.specs.Letters.{date_at, is_date_text, letter, letter_at, letter_behind}
 use Rattle.expando.specs.Numbers.{digits_at, digits_len, is_number, no_limit, number_of, width_of}
-use Rattle.expando.specs.Pieces.{◌>>?◌, Scanned, char_at, char_or_mark, more_bytes, piece_map, piece_until, pieces, with_front}
-use Rattle.expando.specs.Printed.{closing, is_choice, is_empty, is_field, is_field_sign, is_inner, is_leaf, is_letter}
-use Rattle.expando.specs.Printed.{is_piece, lacks, printed_branches, printed_char, printed_choice, printed_field}
-use Rattle.expando.specs.Printed.{printed_leaf, printed_leaves, printed_letter, printed_limit, printed_piece, printed_side}
-use Rattle.expando.specs.Printed.{printed_width}
+use Rattle.expando.specs.Pieces.{◌>>?◌, Scanned, char_at, char_or_mark, more_bytes, piece_map}
+use Rattle.expando.specs.Pieces.{piece_until, pieces, with_front}
+use Rattle.expando.specs.Printed.{closing, is_choice, is_empty, is_field, is_field_sign, is_inner}
+use Rattle.expando.specs.Printed.{is_leaf, is_letter, is_piece, lacks, printed_branches}
+use Rattle.expando.specs.Printed.{printed_char, printed_choice, printed_field, printed_leaf}
+use Rattle.expando.specs.Printed.{printed_leaves, printed_letter, printed_limit, printed_piece}
+use Rattle.expando.specs.Printed.{printed_side, printed_width}
 use Rattle.expando.specs.declared.field.Field.{Field}
 use Rattle.expando.specs.declared.leaf.Leaf.{Leaf}
 use Rattle.expando.specs.declared.leaf.Leaf.TheVariants.{Text, Value, Fill, ToEnd}
@@ -61,10 +66,13 @@ abbrev piece_of : {X : Type 0} → (X → List ℕ) → X → Piece X
 piece_of print x = record { value = x; more = length (print x) - 1 }
 
 -- pieces that are read one by one are read one behind the other
-printed_read : {X : Type 0} (first : ℕ → List ℕ → Scanned (Piece X)) (print : X → List ℕ) (is : X → Bool)
+printed_read : {X : Type 0} (first : ℕ → List ℕ → Scanned (Piece X)) (print : X → List ℕ)
+    (is : X → Bool)
     → ((x : X) → is x ≡ true → 0 < length (print x))
-    → ((x : X) (place : ℕ) (rest : List ℕ) → is x ≡ true → first place (print x ++ rest) ≡ Ok (piece_of print x))
-    → (xs : List X) (place : ℕ) → list_all is xs ≡ true → pieces first place (flat_map print xs) ≡ Ok xs
+    → ((x : X) (place : ℕ) (rest : List ℕ) → is x ≡ true
+    → first place (print x ++ rest) ≡ Ok (piece_of print x))
+    → (xs : List X) (place : ℕ) → list_all is xs ≡ true
+    → pieces first place (flat_map print xs) ≡ Ok xs
 printed_read first print is some each [] place all = refl
 printed_read first print is some each (x ∷ xs) place all =
     let both = and_parts (is x) (list_all is xs) all in
@@ -91,9 +99,11 @@ percent_read : (rest : List ℕ) → decoded (37 ∷ rest) ≡ good 37 1
 percent_read rest = grind (arith, nat_tests)
 
 none_read : (c size : ℕ) → decoded [] ≡ good c size → ⊥
-none_read c size read = let none : (decoded []).char ≡ Some c = ap (λ (d : Decoded). d.char) read in cc
+none_read c size read = let none : (decoded []).char ≡ Some c =
+    ap (λ (d : Decoded). d.char) read in cc
 
-same_char : (text : List ℕ) (c size d more : ℕ) → decoded text ≡ good c size → decoded text ≡ good d more → c ≡ d
+same_char : (text : List ℕ) (c size d more : ℕ) → decoded text ≡ good c size
+    → decoded text ≡ good d more → c ≡ d
 same_char text c size d more read again =
     let same : Some c ≡ Some d = ap (λ (r : Decoded). r.char) (sym read ∙ again) in cc
 
@@ -127,20 +137,24 @@ char_read letters c rest is = by_test (c == 37) refl
   where
     by_test : (t : Bool) → (c == 37) ≡ t
         → leaf_at letters ((if t then codes "%%" else encode_utf8 c) ++ rest)
-        ≡ Some (record { value = Text c; more = length (if t then codes "%%" else encode_utf8 c) - 1 })
+        ≡ Some (record
+        { value = Text c; more = length (if t then codes "%%" else encode_utf8 c) - 1 })
     by_test true e =
         ap (λ n. Some (record { value = Text 37; more = n })) (more_printed (codes "%%") rest)
         ∙ ap (λ x. Some (record { value = Text x; more = 1 })) (sym (eqb-true c 37 e))
     by_test false e =
-        text_read letters (encode_utf8 c ++ rest) c (length (encode_utf8 c)) (decoded-encode c rest is) e
+        text_read letters (encode_utf8 c ++ rest) c (length (encode_utf8 c))
+        (decoded-encode c rest is) e
 
 filler_read : (text : List ℕ) (c size : ℕ) → decoded text ≡ good c size
     → filler_at text ≡ Some (c, drop (size - 1) (drop 1 text))
 filler_read [] c size read = absurd (none_read c size read)
 filler_read (b ∷ rest) c size read =
-    ap (λ (d : Decoded). Some ((char_or_mark d.char d.size).value, drop (char_or_mark d.char d.size).more rest)) read
+    ap (λ (d : Decoded). Some
+    ((char_or_mark d.char d.size).value, drop (char_or_mark d.char d.size).more rest)) read
 
-filled_read : (c : ℕ) (rest : List ℕ) → scalar c ≡ true → filler_at (encode_utf8 c ++ rest) ≡ Some (c, rest)
+filled_read : (c : ℕ) (rest : List ℕ) → scalar c ≡ true
+    → filler_at (encode_utf8 c ++ rest) ≡ Some (c, rest)
 filled_read c rest is =
     filler_read (encode_utf8 c ++ rest) c (length (encode_utf8 c)) (decoded-encode c rest is)
     ∙ ap (λ r. Some (c, r)) (behind_printed (encode_utf8 c) rest (some_encoded c))
@@ -148,14 +162,16 @@ filled_read c rest is =
 -- a percent sign, and what it begins
 percent_leaf : (letters p rest : List ℕ) (leaf : Leaf (List ℕ))
     → behind_percent letters (p ++ rest) ≡ Some (leaf, rest)
-    → leaf_at letters (37 ∷ (p ++ rest)) ≡ Some (record { value = leaf; more = length (37 ∷ p) - 1 })
+    → leaf_at letters (37 ∷ (p ++ rest))
+    ≡ Some (record { value = leaf; more = length (37 ∷ p) - 1 })
 percent_leaf letters p rest leaf read =
     ap (option_map (piece_until (37 ∷ (p ++ rest)))) read
     ∙ ap (λ n. Some (record { value = leaf; more = n })) (more_printed (37 ∷ p) rest)
 
 -- Fields.
 
-split_read : (b : ℕ) (xs rest : List ℕ) → lacks b xs ≡ true → split_once b (xs ++ b ∷ rest) ≡ Some (xs, rest)
+split_read : (b : ℕ) (xs rest : List ℕ) → lacks b xs ≡ true
+    → split_once b (xs ++ b ∷ rest) ≡ Some (xs, rest)
 split_read b xs rest none =
     let place : position_or_len (λ x. x == b) (xs ++ b ∷ rest) ≡ length xs =
     prefix_stop (λ x. not (x == b)) xs b rest none (grind (arith, nat_tests)) in
@@ -166,12 +182,14 @@ split_read b xs rest none =
     ∙ ap (λ l. Some (l, drop (length xs + 1) (xs ++ b ∷ rest))) (take-append_seam xs (b ∷ rest))
     ∙ ap (λ l. Some (xs, l)) (drop-append-add xs (b ∷ rest) 1)
 
-date_read : (sign bracket : ℕ) (inner rest : List ℕ) → (is_date_text false inner && lacks bracket inner) ≡ true
+date_read : (sign bracket : ℕ) (inner rest : List ℕ)
+    → (is_date_text false inner && lacks bracket inner) ≡ true
     → date_at sign bracket ((inner ++ bracket ∷ []) ++ rest) ≡ Some (letter sign inner, rest)
 date_read sign bracket inner rest ok =
     let both = and_parts (is_date_text false inner) (lacks bracket inner) ok in
     ap (date_at sign bracket) (append_assoc inner (bracket ∷ []) rest)
-    ∙ ap (λ o. o >>= (λ parts. if is_date_text false parts.0 then Some (letter sign parts.0, parts.1) else None))
+    ∙ ap (λ o. o >>=
+    (λ parts. if is_date_text false parts.0 then Some (letter sign parts.0, parts.1) else None))
     (split_read bracket inner rest both.1)
     ∙ ap (λ t. if t then Some (letter sign inner, rest) else None) both.0
 
@@ -190,7 +208,8 @@ behind_letter sign inner rest ok = by_tests (sign == 123) (sign == 91) ok
     by_tests : (t u : Bool)
         → (if t then is_date_text false inner && lacks 125 inner
         else (if u then is_date_text false inner && lacks 93 inner else is_empty inner)) ≡ true
-        → (let after = (inner ++ (if t then codes "}" else (if u then codes "]" else []))) ++ rest in
+        → (let after =
+        (inner ++ (if t then codes "}" else (if u then codes "]" else []))) ++ rest in
         if t then date_at sign 125 after
         else (if u then date_at sign 93 after else found sign [] after))
         ≡ found sign inner rest
@@ -245,16 +264,19 @@ decimal_number n small = by_test (n == 0) refl
     by_test : (t : Bool) → (n == 0) ≡ t → is_number (decimal n) ≡ true
     by_test true e =
         ap is_number (ap decimal (eqb-true n 0 e) ∙ decimal_digit 0 (omega arith))
-    by_test false e = led_number (decimal n) (digits_decimal own n small) (first_decimal n (above e) small)
+    by_test false e =
+        led_number (decimal n) (digits_decimal own n small) (first_decimal n (above e) small)
 
 le_true : (a b : ℕ) → a ≤ b → nat_le a b ≡ true
 le_true a b le = grind (arith, nat_tests)
 
-width_known : (ds : List ℕ) (w : ℕ) → 0 < length ds → is_number ds ≡ true → digits_value 10 ds ≡ w → w ≤ 500
+width_known : (ds : List ℕ) (w : ℕ) → 0 < length ds → is_number ds ≡ true → digits_value 10 ds ≡ w
+    → w ≤ 500
     → width_of ds ≡ Some w
 width_known [] w some number value small = absurd (omega arith)
 width_known (b ∷ rest) w some number value small =
-    ap (λ t. if t && nat_le (digits_value 10 (b ∷ rest)) 500 then Some (digits_value 10 (b ∷ rest)) else None) number
+    ap (λ t. if t && nat_le (digits_value 10 (b ∷ rest)) 500 then Some (digits_value 10 (b ∷ rest))
+    else None) number
     ∙ ap (λ v. if nat_le v 500 then Some v else None) value
     ∙ ap (λ t. if t then Some w else None) (le_true w 500 small)
 
@@ -268,9 +290,11 @@ width_read : (w : ℕ) (tail : List ℕ) → w ≤ 500 → starts no_digit tail 
     → width_at (printed_width w ++ tail) ≡ some_rest w tail
 width_read w tail small begins = by_test (w == 0) refl
   where
-    by_test : (t : Bool) → (w == 0) ≡ t → width_at ((if t then [] else decimal w) ++ tail) ≡ some_rest w tail
+    by_test : (t : Bool) → (w == 0) ≡ t
+        → width_at ((if t then [] else decimal w) ++ tail) ≡ some_rest w tail
     by_test true e =
-        ap (λ (p : List ℕ × List ℕ). option_map (λ n. (n, p.1)) (width_of p.0)) (digits_read [] tail refl begins)
+        ap (λ (p : List ℕ × List ℕ). option_map (λ n. (n, p.1)) (width_of p.0))
+        (digits_read [] tail refl begins)
         ∙ ap (λ (n : ℕ). some_rest n tail) (sym (eqb-true w 0 e))
     by_test false e =
         let fits = small_number w small in
@@ -289,7 +313,8 @@ fits_number n small = omega arith
 number_known : (n : ℕ) → n ≤ no_limit → number_of (decimal n) ≡ Some n
 number_known n small =
     let fits = fits_number n small in
-    ap (λ t. if t then Some (min (digits_value 10 (decimal n)) no_limit) else None) (decimal_number n fits)
+    ap (λ t. if t then Some (min (digits_value 10 (decimal n)) no_limit) else None)
+    (decimal_number n fits)
     ∙ ap (λ v. Some (min v no_limit)) (digits_value-decimal own n fits)
     ∙ ap Some (capped n small)
 
@@ -300,10 +325,12 @@ limit_behind_read n tail small begins =
     (digits_read (decimal n) tail (digits_decimal own n (fits_number n small)) begins)
     ∙ ap (λ o. option_map (λ n. (n, tail)) o) (number_known n small)
 
-no_point : (tail : List ℕ) → starts (λ b. not (b == 46)) tail ≡ true → limit_at tail ≡ some_rest no_limit tail
+no_point : (tail : List ℕ) → starts (λ b. not (b == 46)) tail ≡ true
+    → limit_at tail ≡ some_rest no_limit tail
 no_point [] begins = absurd (false≢true begins)
 no_point (b ∷ rest) begins =
-    ap (λ t. if t then limit_behind rest else some_rest no_limit (b ∷ rest)) (not_false (b == 46) begins)
+    ap (λ t. if t then limit_behind rest else some_rest no_limit (b ∷ rest))
+    (not_false (b == 46) begins)
 
 limit_read : (n : ℕ) (tail : List ℕ) → n ≤ no_limit → starts no_digit tail ≡ true
     → starts (λ b. not (b == 46)) tail ≡ true
@@ -312,7 +339,8 @@ limit_read n tail small begins other = by_test (n == no_limit) refl
   where
     by_test : (t : Bool) → (n == no_limit) ≡ t
         → limit_at ((if t then [] else 46 ∷ decimal n) ++ tail) ≡ some_rest n tail
-    by_test true e = no_point tail other ∙ ap (λ (m : ℕ). some_rest m tail) (sym (eqb-true n no_limit e))
+    by_test true e =
+        no_point tail other ∙ ap (λ (m : ℕ). some_rest m tail) (sym (eqb-true n no_limit e))
     by_test false e = limit_behind_read n tail small begins
 
 side_read : (left : Bool) (tail : List ℕ) → starts (λ b. not (b == 45)) tail ≡ true
@@ -325,7 +353,8 @@ side_read false (b ∷ rest) begins =
 
 -- Fields as a whole.
 
-starts_more : (p q : ℕ → Bool) (xs : List ℕ) → ((b : ℕ) → p b ≡ true → q b ≡ true) → starts p xs ≡ true
+starts_more : (p q : ℕ → Bool) (xs : List ℕ) → ((b : ℕ) → p b ≡ true → q b ≡ true)
+    → starts p xs ≡ true
     → starts q xs ≡ true
 starts_more p q [] each begins = absurd (false≢true begins)
 starts_more p q (b ∷ rest) each begins = each b begins
@@ -334,7 +363,8 @@ starts_front : (p : ℕ → Bool) (xs ys : List ℕ) → starts p xs ≡ true �
 starts_front p [] ys begins = absurd (false≢true begins)
 starts_front p (b ∷ rest) ys begins = begins
 
-starts_digit : (ds : List ℕ) → 0 < length ds → all_ascii_digits ds ≡ true → starts is_ascii_digit ds ≡ true
+starts_digit : (ds : List ℕ) → 0 < length ds → all_ascii_digits ds ≡ true
+    → starts is_ascii_digit ds ≡ true
 starts_digit [] some all = absurd (omega arith)
 starts_digit (d ∷ ds) some all = (and_parts (is_ascii_digit d) (all_ascii_digits ds) all).0
 
@@ -402,10 +432,13 @@ record CanBeWritten (letters : List ℕ) (d : Field (List ℕ)) : Type 0 where
 true_le : (a b : ℕ) → nat_le a b ≡ true → a ≤ b
 true_le a b test = grind (arith, nat_tests)
 
-can_be_written : (letters : List ℕ) (d : Field (List ℕ)) → is_field letters d ≡ true → CanBeWritten letters d
+can_be_written : (letters : List ℕ) (d : Field (List ℕ)) → is_field letters d ≡ true
+    → CanBeWritten letters d
 can_be_written letters d ok =
     let sign = is_field_sign d.letter.sign in
-    let last = and_parts (is_letter letters d.letter && sign && nat_le d.width 500) (nat_le d.limit no_limit) ok in
+    let last =
+    and_parts (is_letter letters d.letter && sign && nat_le d.width 500)
+    (nat_le d.limit no_limit) ok in
     let next = and_parts (is_letter letters d.letter && sign) (nat_le d.width 500) last.0 in
     let first = and_parts (is_letter letters d.letter) sign next.0 in
     record {
@@ -418,16 +451,19 @@ can_be_written letters d ok =
 -- a field as it is written, before other bytes
 abbrev written_field : Field (List ℕ) → List ℕ → List ℕ
 written_field d rest =
-    printed_side d.left ++ (printed_width d.width ++ (printed_limit d.limit ++ (printed_letter d.letter ++ rest)))
+    printed_side d.left
+    ++ (printed_width d.width ++ (printed_limit d.limit ++ (printed_letter d.letter ++ rest)))
 
-written_before : (d : Field (List ℕ)) (rest : List ℕ) → printed_field d ++ rest ≡ written_field d rest
+written_before : (d : Field (List ℕ)) (rest : List ℕ)
+    → printed_field d ++ rest ≡ written_field d rest
 written_before d rest =
     let side = printed_side d.left in
     let width = printed_width d.width in
     let limit = printed_limit d.limit in
     let l = printed_letter d.letter in
     append_assoc side (width ++ (limit ++ l)) rest
-    ∙ ap (λ s. side ++ s) (append_assoc width (limit ++ l) rest ∙ ap (λ s. width ++ s) (append_assoc limit l rest))
+    ∙ ap (λ s. side ++ s)
+    (append_assoc width (limit ++ l) rest ∙ ap (λ s. width ++ s) (append_assoc limit l rest))
 
 abbrev letter_step : List ℕ → Bool → ℕ → ℕ → List ℕ → Option (Field (List ℕ) × List ℕ)
 letter_step letters left width limit text =
@@ -442,7 +478,8 @@ letter_step letters left width limit text =
     ))
 
 abbrev limit_step : List ℕ → Bool → ℕ → List ℕ → Option (Field (List ℕ) × List ℕ)
-limit_step letters left width text = limit_at text >>= (λ limit. letter_step letters left width limit.0 limit.1)
+limit_step letters left width text =
+    limit_at text >>= (λ limit. letter_step letters left width limit.0 limit.1)
 
 abbrev width_step : List ℕ → Bool → List ℕ → Option (Field (List ℕ) × List ℕ)
 width_step letters left text = width_at text >>= (λ width. limit_step letters left width.0 width.1)
@@ -458,7 +495,8 @@ field_read letters d rest ok =
     let last_point : starts no_point_sign last ≡ true = sign_no_point d.letter.sign can.sign_is in
     let last_side : starts no_side last ≡ true = sign_no_side d.letter.sign can.sign_is in
     let limited_digit = limit_starts no_digit d.limit last refl last_digit in
-    let wide_side = width_starts no_side d.width limited (small_number d.width can.width_is) digit_no_side
+    let wide_side =
+    width_starts no_side d.width limited (small_number d.width can.width_is) digit_no_side
     (limit_starts no_side d.limit last refl last_side) in
     ap (field_at letters) (written_before d rest)
     ∙ ap (λ (s : Bool × List ℕ). width_step letters s.0 s.1) (side_read d.left wide wide_side)
@@ -483,8 +521,10 @@ field_starts letters d rest ok =
     let last = printed_letter d.letter ++ rest in
     let last_start : starts is_field_start last ≡ true = sign_start d.letter.sign can.sign_is in
     ap (starts is_field_start) (written_before d rest)
-    ∙ side_starts is_field_start d.left _ refl (width_starts is_field_start d.width (printed_limit d.limit ++ last)
-    (small_number d.width can.width_is) digit_start (limit_starts is_field_start d.limit last refl last_start))
+    ∙ side_starts is_field_start d.left _ refl
+    (width_starts is_field_start d.width (printed_limit d.limit ++ last)
+    (small_number d.width can.width_is) digit_start
+    (limit_starts is_field_start d.limit last refl last_start))
 
 -- what begins a field begins no other piece
 start_parts : (b : ℕ) → is_field_start b ≡ true
@@ -492,8 +532,12 @@ start_parts : (b : ℕ) → is_field_start b ≡ true
 start_parts b start =
     let last = and_parts (not (b == 37) && not (b == 62) && not (b == 124)) (not (b == 63)) start in
     let next = and_parts (not (b == 37) && not (b == 62)) (not (b == 124)) last.0 in
-    let first = and_parts (not (b == 37)) (not (b == 62)) next.0 in
-    (not_false (b == 37) first.0, not_false (b == 62) first.1, not_false (b == 124) next.1, not_false (b == 63) last.1)
+    let first = and_parts (not (b == 37)) (not (b == 62)) next.0 in (
+      not_false (b == 37) first.0,
+      not_false (b == 62) first.1,
+      not_false (b == 124) next.1,
+      not_false (b == 63) last.1,
+    )
 
 value_behind : (letters text rest : List ℕ) (d : Field (List ℕ)) → starts is_field_start text ≡ true
     → field_at letters text ≡ Some (d, rest) → behind_percent letters text ≡ Some (Value d, rest)
@@ -501,7 +545,8 @@ value_behind letters [] rest d begins read = absurd (false≢true begins)
 value_behind letters (b ∷ tail) rest d begins read =
     let parts = start_parts b begins in
     ap (λ t. if t then Some (Text b, tail) else other b tail) parts.0
-    ∙ ap (λ t. if t then filled Fill tail else (if b == 124 then filled ToEnd tail else value (b ∷ tail))) parts.1
+    ∙ ap (λ t. if t then filled Fill tail
+    else (if b == 124 then filled ToEnd tail else value (b ∷ tail))) parts.1
     ∙ ap (λ t. if t then filled ToEnd tail else value (b ∷ tail)) parts.2
     ∙ ap (option_map (λ p. (Value p.0, p.1))) read
   where
@@ -512,7 +557,8 @@ value_behind letters (b ∷ tail) rest d begins read =
     value s = option_map (λ p. (Value p.0, p.1)) (field_at letters s)
 
     other : ℕ → List ℕ → Option (Leaf (List ℕ) × List ℕ)
-    other b s = if b == 62 then filled Fill s else (if b == 124 then filled ToEnd s else value (b ∷ s))
+    other b s =
+        if b == 62 then filled Fill s else (if b == 124 then filled ToEnd s else value (b ∷ s))
 
 -- Leaves.
 
@@ -520,7 +566,8 @@ leaf_read : (letters : List ℕ) (leaf : Leaf (List ℕ)) (rest : List ℕ) → 
     → leaf_at letters (printed_leaf leaf ++ rest) ≡ Some (piece_of printed_leaf leaf)
 leaf_read letters (Text c) rest ok = char_read letters c rest ok
 leaf_read letters (Value d) rest ok =
-    percent_leaf letters (printed_field d) rest (Value d) (value_behind letters (printed_field d ++ rest) rest d
+    percent_leaf letters (printed_field d) rest (Value d)
+    (value_behind letters (printed_field d ++ rest) rest d
     (field_starts letters d rest ok) (field_read letters d rest ok))
 leaf_read letters (Fill c) rest ok =
     percent_leaf letters (62 ∷ encode_utf8 c) rest (Fill c)
@@ -529,7 +576,8 @@ leaf_read letters (ToEnd c) rest ok =
     percent_leaf letters (124 ∷ encode_utf8 c) rest (ToEnd c)
     (ap (option_map (λ p. (ToEnd p.0, p.1))) (filled_read c rest ok))
 
-leaf_some : (letters : List ℕ) (leaf : Leaf (List ℕ)) → is_leaf letters leaf ≡ true → 0 < length (printed_leaf leaf)
+leaf_some : (letters : List ℕ) (leaf : Leaf (List ℕ)) → is_leaf letters leaf ≡ true
+    → 0 < length (printed_leaf leaf)
 leaf_some letters (Text c) ok = by_test (c == 37)
   where
     by_test : (t : Bool) → 0 < length (if t then codes "%%" else encode_utf8 c)
@@ -540,7 +588,8 @@ leaf_some letters (Fill c) ok = omega arith
 leaf_some letters (ToEnd c) ok = omega arith
 
 -- leaves that are written are read as themselves
-leaves_read : (letters : List ℕ) (xs : List (Leaf (List ℕ))) (place : ℕ) → list_all (is_leaf letters) xs ≡ true
+leaves_read : (letters : List ℕ) (xs : List (Leaf (List ℕ))) (place : ℕ)
+    → list_all (is_leaf letters) xs ≡ true
     → leaves letters place (printed_leaves xs) ≡ Ok xs
 leaves_read letters xs place all =
     printed_read (first_leaf letters) printed_leaf (is_leaf letters) (leaf_some letters)
@@ -550,9 +599,11 @@ leaves_read letters xs place all =
 
 other_front : (b : ℕ) (rest : List ℕ) → (b == 37) ≡ false → begins_condition (b ∷ rest) ≡ false
 other_front b rest other =
-    ap (λ t. is_some (if t && bytes_eq (take 1 rest) (63 ∷ []) then Some (drop 1 rest) else None)) other
+    ap (λ t. is_some (if t && bytes_eq (take 1 rest) (63 ∷ []) then Some (drop 1 rest) else None))
+    other
 
-percent_front : (b : ℕ) (rest : List ℕ) → (b == 63) ≡ false → begins_condition (37 ∷ b ∷ rest) ≡ false
+percent_front : (b : ℕ) (rest : List ℕ) → (b == 63) ≡ false
+    → begins_condition (37 ∷ b ∷ rest) ≡ false
 percent_front b rest other =
     ap (λ t. is_some (if t && bytes_eq (take 0 rest) [] then Some (drop 0 rest) else None)) other
 
@@ -561,7 +612,8 @@ char_front : (text : List ℕ) (c size : ℕ) → decoded text ≡ good c size �
 char_front [] c size read other = absurd (none_read c size read)
 char_front (b ∷ rest) c size read other = other_front b rest (other_byte b c size rest read other)
 
-field_front : (text : List ℕ) → starts is_field_start text ≡ true → begins_condition (37 ∷ text) ≡ false
+field_front : (text : List ℕ) → starts is_field_start text ≡ true
+    → begins_condition (37 ∷ text) ≡ false
 field_front [] begins = absurd (false≢true begins)
 field_front (b ∷ rest) begins = percent_front b rest (start_parts b begins).3
 
@@ -574,7 +626,8 @@ leaf_front letters (Text c) rest ok = by_test (c == 37) refl
     by_test true e = percent_front 37 rest refl
     by_test false e =
         char_front (encode_utf8 c ++ rest) c (length (encode_utf8 c)) (decoded-encode c rest ok) e
-leaf_front letters (Value d) rest ok = field_front (printed_field d ++ rest) (field_starts letters d rest ok)
+leaf_front letters (Value d) rest ok =
+    field_front (printed_field d ++ rest) (field_starts letters d rest ok)
 leaf_front letters (Fill c) rest ok = percent_front 62 (encode_utf8 c ++ rest) refl
 leaf_front letters (ToEnd c) rest ok = percent_front 124 (encode_utf8 c ++ rest) refl
 
@@ -587,14 +640,17 @@ record CanBeAsked (letters : List ℕ) (c : PlainChoice) : Type 0 where
   some_open : lacks 63 (printed_leaves c.some) ≡ true
   none_open : lacks 63 (printed_leaves c.none) ≡ true
 
-can_be_asked : (letters : List ℕ) (c : PlainChoice) → is_choice letters c ≡ true → CanBeAsked letters c
+can_be_asked : (letters : List ℕ) (c : PlainChoice) → is_choice letters c ≡ true
+    → CanBeAsked letters c
 can_be_asked letters c ok =
     let test = is_letter letters c.test in
     let some = list_all (is_leaf letters) c.some in
     let none = list_all (is_leaf letters) c.none in
     let one = lacks 38 (printed_leaves c.some) in
     let open_some = lacks 63 (printed_leaves c.some) in
-    let fifth = and_parts (test && some && none && one && open_some) (lacks 63 (printed_leaves c.none)) ok in
+    let fifth =
+    and_parts (test && some && none && one && open_some) (lacks 63 (printed_leaves c.none))
+    ok in
     let fourth = and_parts (test && some && none && one) open_some fifth.0 in
     let third = and_parts (test && some && none) one fourth.0 in
     let second = and_parts (test && some) none third.0 in
@@ -611,10 +667,12 @@ can_be_asked letters c ok =
 and_both : (a b : Bool) → a ≡ true → b ≡ true → (a && b) ≡ true
 and_both a b first second = ap (λ (t : Bool). t && b) first ∙ second
 
-open_branches : (letters : List ℕ) (c : PlainChoice) → CanBeAsked letters c → lacks 63 (printed_branches c) ≡ true
+open_branches : (letters : List ℕ) (c : PlainChoice) → CanBeAsked letters c
+    → lacks 63 (printed_branches c) ≡ true
 open_branches letters c can =
     list_all-append (λ x. not (x == 63)) (printed_leaves c.some) (38 ∷ printed_leaves c.none)
-    ∙ and_both (lacks 63 (printed_leaves c.some)) (lacks 63 (38 ∷ printed_leaves c.none)) can.some_open can.none_open
+    ∙ and_both (lacks 63 (printed_leaves c.some)) (lacks 63 (38 ∷ printed_leaves c.none))
+    can.some_open can.none_open
 
 -- a condition as it is written, before other bytes
 abbrev behind_test : PlainChoice → List ℕ → List ℕ
@@ -661,7 +719,8 @@ condition_read letters c rest can =
 branches_read : (letters : List ℕ) (c : PlainChoice) → CanBeAsked letters c
     → branches (printed_branches c) ≡ (printed_leaves c.some, printed_leaves c.none)
 branches_read letters c can =
-    ap (or_whole (printed_branches c)) (split_read 38 (printed_leaves c.some) (printed_leaves c.none) can.some_one)
+    ap (or_whole (printed_branches c))
+    (split_read 38 (printed_leaves c.some) (printed_leaves c.none) can.some_one)
 
 choice_read : (letters : List ℕ) (c : PlainChoice) (place : ℕ) → CanBeAsked letters c
     → choice_of letters place c.test (printed_leaves c.some, printed_leaves c.none) ≡ Ok c
@@ -686,24 +745,29 @@ first_read letters c place rest can =
     let text = 37 ∷ 63 ∷ (printed_letter c.test ++ behind_test c rest) in
     let front = length text - length (printed_branches c ++ 63 ∷ rest) in
     let more : more_bytes text rest ≡ length (printed_choice c) - 1 =
-    ap (λ s. length s - length rest - 1) (sym (asked_before c rest)) ∙ more_printed (printed_choice c) rest in
+    ap (λ s. length s - length rest - 1) (sym (asked_before c rest))
+    ∙ more_printed (printed_choice c) rest in
     ap (first_choice letters place) (asked_before c rest)
     ∙ ap (choice_step letters place text) (condition_read letters c rest can)
     ∙ ap (λ parts. choice_of letters (place + front) c.test parts
-    >>? (λ choice. Ok (record { value = choice; more = more_bytes text rest }))) (branches_read letters c can)
+    >>? (λ choice. Ok (record { value = choice; more = more_bytes text rest })))
+    (branches_read letters c can)
     ∙ ap (λ r. r >>? (λ choice. Ok (record { value = choice; more = more_bytes text rest })))
     (choice_read letters c (place + front) can)
     ∙ ap (λ n. Ok (record { value = c; more = n })) more
 
 -- Formats.
 
-piece_read : (letters : List ℕ) (piece : PlainPiece) (place : ℕ) (rest : List ℕ) → is_piece letters piece ≡ true
+piece_read : (letters : List ℕ) (piece : PlainPiece) (place : ℕ) (rest : List ℕ)
+    → is_piece letters piece ≡ true
     → first_piece letters place (printed_piece piece ++ rest) ≡ Ok (piece_of printed_piece piece)
 piece_read letters (Simple leaf) place rest ok =
     let text = printed_leaf leaf ++ rest in
     ap (λ t. if t then (first_choice letters place text >>? (λ piece. Ok (piece_map Either piece)))
-    else (first_leaf letters place text >>? (λ piece. Ok (piece_map Simple piece)))) (leaf_front letters leaf rest ok)
-    ∙ ap (λ o. ok_or o place >>? (λ piece. Ok (piece_map Simple piece))) (leaf_read letters leaf rest ok)
+    else (first_leaf letters place text >>? (λ piece. Ok (piece_map Simple piece))))
+    (leaf_front letters leaf rest ok)
+    ∙ ap (λ o. ok_or o place >>? (λ piece. Ok (piece_map Simple piece)))
+    (leaf_read letters leaf rest ok)
 piece_read letters (Either c) place rest ok =
     ap (λ r. r >>? (λ piece. Ok (piece_map Either piece)))
     (first_read letters c place rest (can_be_asked letters c ok))

@@ -1,6 +1,6 @@
 -- Characters in display columns (Unicode Standard Annex 11, as unicode_width reads it).
-use Rattle.std.specs.Prelude.{◌+◌, ◌-◌, ◌==◌, ◌||◌, ◌++◌, ℕ, Bool, false, nat_le, nat_lt, List, [], ◌∷◌, map, replicate}
-use Rattle.std.specs.Prelude.{unwrap_or, if◌then◌else◌}
+use Rattle.std.specs.Prelude.{◌+◌, ◌-◌, ◌==◌, ◌||◌, ◌++◌, ℕ, Bool, false, nat_le, nat_lt, List, []}
+use Rattle.std.specs.Prelude.{◌∷◌, map, replicate, unwrap_or, if◌then◌else◌}
 use Rattle.std.specs.Str.{chars}
 use Rattle.unicode_width.specs.Width.{char_width}
 

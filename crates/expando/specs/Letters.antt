@@ -1,6 +1,6 @@
 -- The letter of a field, with the format of a date in brackets where it has one.
-use Rattle.std.specs.Prelude.{◌==◌, ◌&&◌, ℕ, Bool, true, false, List, [], ◌∷◌, Option, Some, None, codes}
-use Rattle.std.specs.Prelude.{if◌then◌else◌}
+use Rattle.std.specs.Prelude.{◌==◌, ◌&&◌, ℕ, Bool, true, false, List, [], ◌∷◌, Option, Some, None}
+use Rattle.std.specs.Prelude.{codes, if◌then◌else◌}
 use Rattle.std.specs.List.{list_any}
 use Rattle.std.specs.Str.{byte}
 use Rattle.mail_base.specs.Fronts.{◌>>=◌}
@@ -18,7 +18,8 @@ letter_map f l = record { sign = l.sign; inner = f l.inner }
 abbrev pub is_date_letter : ℕ → Bool
 is_date_letter b = list_any (λ l. l == b) (codes "aAbBdeHjmMSyY%")
 
--- each percent sign stands before such a letter; the first byte stands behind one where `open` holds
+-- each percent sign stands before such a letter; the first byte stands behind one where `open`
+-- holds
 abbrev pub is_date_text : Bool → List ℕ → Bool
 is_date_text false [] = true
 is_date_text true [] = false

@@ -1,6 +1,6 @@
 -- The characters of a line that is filled and cut at its columns.
-use Rattle.std.specs.Prelude.{◌-◌, ◌/◌, ◌%◌, ◌==◌, ◌++◌, ℕ, nat_le, nat_lt, List, [], ◌∷◌, min, replicate}
-use Rattle.std.specs.Prelude.{if◌then◌else◌}
+use Rattle.std.specs.Prelude.{◌-◌, ◌/◌, ◌%◌, ◌==◌, ◌++◌, ℕ, nat_le, nat_lt, List, [], ◌∷◌, min}
+use Rattle.std.specs.Prelude.{replicate, if◌then◌else◌}
 use Rattle.expando.specs.Columns.{blanks, columns_of}
 use Rattle.expando.specs.declared.cell.Cell.{Cell}
 use Rattle.expando.specs.declared.cell.Cell.TheVariants.{Shown, Gap, Rest}

@@ -1,6 +1,6 @@
 -- Numbers in a format: decimal digits without a leading zero.
-use Rattle.std.specs.Prelude.{◌==◌, ◌&&◌, ◌-◌, ◌^◌, ℕ, Bool, false, not, nat_le, List, [], ◌∷◌, drop, take}
-use Rattle.std.specs.Prelude.{min, Option, Some, None, if◌then◌else◌}
+use Rattle.std.specs.Prelude.{◌==◌, ◌&&◌, ◌-◌, ◌^◌, ℕ, Bool, false, not, nat_le, List, [], ◌∷◌}
+use Rattle.std.specs.Prelude.{drop, take, min, Option, Some, None, if◌then◌else◌}
 use Rattle.std.specs.List.{position_or_len}
 use Rattle.std.specs.Str.{all_ascii_digits, byte}
 use Rattle.std.specs.Char.{is_ascii_digit}

@@ -1,6 +1,6 @@
 -- Formats as they are written, and which pieces can be.
-use Rattle.std.specs.Prelude.{◌==◌, ◌&&◌, ◌++◌, ℕ, Bool, true, false, not, nat_le, List, [], ◌∷◌, codes}
-use Rattle.std.specs.Prelude.{encode_utf8, if◌then◌else◌}
+use Rattle.std.specs.Prelude.{◌==◌, ◌&&◌, ◌++◌, ℕ, Bool, true, false, not, nat_le, List, [], ◌∷◌}
+use Rattle.std.specs.Prelude.{codes, encode_utf8, if◌then◌else◌}
 use Rattle.std.specs.Char.{is_ascii_digit}
 use Rattle.std.specs.Fmt.{decimal}
 use Rattle.std.specs.List.{flat_map, list_all, list_any}
@@ -38,7 +38,8 @@ printed_limit limit = if limit == no_limit then [] else byte "." ∷ decimal lim
 
 abbrev pub printed_field : Field (List ℕ) → List ℕ
 printed_field d =
-    printed_side d.left ++ (printed_width d.width ++ (printed_limit d.limit ++ printed_letter d.letter))
+    printed_side d.left
+    ++ (printed_width d.width ++ (printed_limit d.limit ++ printed_letter d.letter))
 
 abbrev pub printed_leaf : Leaf (List ℕ) → List ℕ
 printed_leaf (Text c) = printed_char c
@@ -54,7 +55,8 @@ printed_branches c = printed_leaves c.some ++ byte "&" ∷ printed_leaves c.none
 
 abbrev pub printed_choice : PlainChoice → List ℕ
 printed_choice c =
-    byte "%" ∷ byte "?" ∷ (printed_letter c.test ++ byte "?" ∷ (printed_branches c ++ byte "?" ∷ []))
+    byte "%" ∷ byte "?"
+    ∷ (printed_letter c.test ++ byte "?" ∷ (printed_branches c ++ byte "?" ∷ []))
 
 abbrev pub printed_piece : PlainPiece → List ℕ
 printed_piece (Simple leaf) = printed_leaf leaf
@@ -104,7 +106,8 @@ is_leaf letters (ToEnd c) = scalar c
 -- a condition whose branches have no mark that would end them
 abbrev pub is_choice : List ℕ → PlainChoice → Bool
 is_choice letters c =
-    is_letter letters c.test && list_all (is_leaf letters) c.some && list_all (is_leaf letters) c.none
+    is_letter letters c.test && list_all (is_leaf letters) c.some
+    && list_all (is_leaf letters) c.none
     && lacks (byte "&") (printed_leaves c.some) && lacks (byte "?") (printed_leaves c.some)
     && lacks (byte "?") (printed_leaves c.none)
 

@@ -1,7 +1,7 @@
 -- What the looks of the rule of kinds have told.
-use Rattle.std.proofs.Common.{◌≡◌, ◌≤◌, ◌==◌, ◌&&◌, ◌||◌, ℕ, Bool, true, false, not, List, [], ◌∷◌, Option}
-use Rattle.std.proofs.Common.{Some, None, Result, Ok, Err, length, nat_lt, is_none, is_some, take, if◌then◌else◌, inl, inr, refl}
-use Rattle.std.proofs.Common.{sym, ◌∙◌, ap, subst, arith, map}
+use Rattle.std.proofs.Common.{◌≡◌, ◌≤◌, ◌==◌, ◌&&◌, ◌||◌, ℕ, Bool, true, false, not, List, [], ◌∷◌}
+use Rattle.std.proofs.Common.{Option, Some, None, Result, Ok, Err, length, nat_lt, is_none, is_some}
+use Rattle.std.proofs.Common.{take, if◌then◌else◌, inl, inr, refl, sym, ◌∙◌, ap, subst, arith, map}
 use Rattle.std.specs.Char.{is_ascii_digit}
 use Rattle.std.specs.List.{list_any}
 use Rattle.std.specs.Prelude.{option_and_then}
@@ -23,10 +23,12 @@ use Rattle.disk_model.proofs.Folders.{folder_stays}
 use Rattle.disk_model.proofs.Looking.{looked_longer, looked_then}
 use Rattle.disk_model.proofs.Marks.{tree_at-longer}
 use Rattle.folder_core.specs.Directory.{file_at, is_folder_at, is_name, node_file, path_in}
-use Rattle.folder_core.specs.Kinds.{DirectorySeen, IsKindSeen, KindSeen, MhSeen, NumberSeen, NumbersSeen, WasKind}
-use Rattle.folder_core.specs.Kinds.{bytes_kind, directory_kind, file_kind, front_kind, names_sequences}
-use Rattle.folder_core.specs.Kinds.{has_number, has_sequences, is_filled, is_message, kind_at, node_kind}
-use Rattle.folder_core.specs.declared.error.ScanError.TheVariants.{Missing, NotMailbox, TooMany, TooLarge, Unfinished}
+use Rattle.folder_core.specs.Kinds.{DirectorySeen, IsKindSeen, KindSeen, MhSeen, NumberSeen}
+use Rattle.folder_core.specs.Kinds.{NumbersSeen, WasKind, bytes_kind, directory_kind, file_kind}
+use Rattle.folder_core.specs.Kinds.{front_kind, names_sequences, has_number, has_sequences}
+use Rattle.folder_core.specs.Kinds.{is_filled, is_message, kind_at, node_kind}
+use Rattle.folder_core.specs.declared.error.ScanError.TheVariants.{Missing, NotMailbox, TooMany}
+use Rattle.folder_core.specs.declared.error.ScanError.TheVariants.{TooLarge, Unfinished}
 use Rattle.folder_core.specs.declared.error.ScanError.TheVariants.{ArchiveFull, Fault, NoMemory}
 use Rattle.folder_core.specs.Maildir.{directory}
 use Rattle.folder_core.specs.declared.looks.Front.{Front}
@@ -52,7 +54,8 @@ digits_free (b ∷ text) digits =
     let parts = and_parts (is_ascii_digit b) (all_ascii_digits text) digits in
     both (b == 47) refl parts.0 (digits_free text parts.1)
   where
-    both : (t : Bool) → (b == 47) ≡ t → is_ascii_digit b ≡ true → list_any (λ b. b == 47) text ≡ false
+    both : (t : Bool) → (b == 47) ≡ t → is_ascii_digit b ≡ true
+        → list_any (λ b. b == 47) text ≡ false
         → (t || list_any (λ b. b == 47) text) ≡ false
     both true is digit rest =
         let here : b ≡ 47 = grind (arith, is) in
@@ -75,7 +78,8 @@ number_digits name number = by_zero (begins_zero name) number
 
 pub number_is_name : (name : List ℕ) → is_number name ≡ true → is_name name ≡ true
 number_is_name name number =
-    let parts = and_parts (nat_lt 0 (length name)) (all_ascii_digits name) (number_digits name number) in
+    let parts =
+    and_parts (nat_lt 0 (length name)) (all_ascii_digits name) (number_digits name number) in
     ap (λ (t : Bool). t && not (list_any (λ b. b == 47) name)) parts.0
     ∙ ap not (digits_free name parts.1)
 
@@ -88,7 +92,8 @@ filled_bytes name (Some []) stamp = refl
 filled_bytes name (Some (b ∷ bytes)) stamp = sym (lt-ltb 0 (length (b ∷ bytes)) (omega arith))
 
 filled_node : (name : List ℕ) (node : Option TreeNode) (stat : Stat) → Some stat ≡ stat_there node
-    → is_some (option_and_then (message_of [] name) (option_and_then node_file node)) ≡ is_filled stat
+    → is_some (option_and_then (message_of [] name) (option_and_then node_file node))
+    ≡ is_filled stat
 filled_node name None stat is = absurd (cc)
 filled_node name (Some node) stat is =
     let same : stat ≡ node_stat node = cc in
@@ -104,8 +109,10 @@ abbrev pub tells_message : Option Stat → Bool
 tells_message None = false
 tells_message (Some stat) = is_filled stat
 
-pub told_message : (tree : List TreeNode) (path name file : List ℕ) (found : Option Stat) → file ≡ path_in path name
-    → found ≡ stat_there (node_at tree file) → is_some (message_at tree path [] name) ≡ tells_message found
+pub told_message : (tree : List TreeNode) (path name file : List ℕ) (found : Option Stat)
+    → file ≡ path_in path name
+    → found ≡ stat_there (node_at tree file)
+    → is_some (message_at tree path [] name) ≡ tells_message found
 told_message tree path name file found at is =
     by_found found (is ∙ ap (λ (f : List ℕ). stat_there (node_at tree f)) at)
   where
@@ -114,7 +121,8 @@ told_message tree path name file found at is =
     by_found None is = unfilled_node name (node_at tree (path_in path name)) is
     by_found (Some stat) is = filled_node name (node_at tree (path_in path name)) stat is
 
-folder_bytes : (bytes : Option (List ℕ)) (stamp : ℕ) → is_none bytes ≡ (stat_node bytes stamp).folder
+folder_bytes : (bytes : Option (List ℕ)) (stamp : ℕ)
+    → is_none bytes ≡ (stat_node bytes stamp).folder
 folder_bytes None stamp = refl
 folder_bytes (Some bytes) stamp = refl
 
@@ -141,14 +149,16 @@ told_folder node (Some stat) is = folder_node node stat is
 
 -- One name.
 
-held_any : (p : List ℕ → Bool) (name : List ℕ) (names : List (List ℕ)) → holds_name name names ≡ true
+held_any : (p : List ℕ → Bool) (name : List ℕ) (names : List (List ℕ))
+    → holds_name name names ≡ true
     → p name ≡ true → list_any p names ≡ true
 held_any p name [] held is = absurd (true_false (sym held))
 held_any p name (other ∷ names) held is =
     by_other (bytes_eq other name) refl held (λ rest. held_any p name names rest is)
   where
     by_other : (t : Bool) → bytes_eq other name ≡ t → (t || holds_name name names) ≡ true
-        → (holds_name name names ≡ true → list_any p names ≡ true) → (p other || list_any p names) ≡ true
+        → (holds_name name names ≡ true → list_any p names ≡ true)
+        → (p other || list_any p names) ≡ true
     by_other true same held again =
         ap (λ (n : List ℕ). p n || list_any p names) (bytes_same other name same)
         ∙ ap (λ (t : Bool). t || list_any p names) is
@@ -171,11 +181,14 @@ message_held tree path name is =
     file_held tree path name (number_is_name name parts.0)
     (some_file name (file_at tree (path_in path name)) parts.1)
 
-pub number_seen : (there : Bool) (name path : List ℕ) (old new : Past) (mark : ℕ) → length old.journal ≤ mark
+pub number_seen : (there : Bool) (name path : List ℕ) (old new : Past) (mark : ℕ)
+    → length old.journal ≤ mark
     → mark ≤ length new.journal → is_number name ≡ true
-    → is_some (message_at (tree_at new mark) path [] name) ≡ there → NumberSeen there name path old new
+    → is_some (message_at (tree_at new mark) path [] name) ≡ there
+    → NumberSeen there name path old new
 number_seen true name path old new mark from to number is =
-    let here : is_message (tree_at new mark) path name ≡ true = ap (λ (t : Bool). t && is_some (message_at
+    let here : is_message (tree_at new mark) path name ≡ true =
+    ap (λ (t : Bool). t && is_some (message_at
     (tree_at new mark) path [] name)) number ∙ is in (
       mark,
       from,
@@ -184,7 +197,9 @@ number_seen true name path old new mark from to number is =
           (message_held (tree_at new mark) path name here) here,
     )
 number_seen false name path old new mark from to number is = λ all.
-    let parts = and_parts (is_number name) (is_some (message_at (tree_at new mark) path [] name)) (all mark from to) in
+    let parts =
+    and_parts (is_number name) (is_some (message_at (tree_at new mark) path [] name))
+    (all mark from to) in
     true_false (sym parts.1 ∙ is)
 
 -- no number is no message
@@ -192,11 +207,14 @@ pub no_number : (name path : List ℕ) (told : Option Past) → is_number name �
     → GoesOn (NumberSeen false name path) told told
 no_number name path None number = refl
 no_number name path (Some past) number = λ all.
-    let parts = and_parts (is_number name) (is_some (message_at (tree_at past (length past.journal)) path [] name))
+    let parts =
+    and_parts (is_number name)
+    (is_some (message_at (tree_at past (length past.journal)) path [] name))
     (all (length past.journal) (omega arith) (omega arith)) in
     true_false (sym parts.0 ∙ number)
 
-pub stat_number : (found : Option Stat) (there : Bool) (name path file : List ℕ) (old new : Option Past)
+pub stat_number : (found : Option Stat) (there : Bool) (name path file : List ℕ)
+    (old new : Option Past)
     → file ≡ path_in path name → is_number name ≡ true → there ≡ tells_message found
     → GoesOn (SawAt (StatPath file) (λ tree. found ≡ stat_there (node_at tree file))) old new
     → GoesOn (NumberSeen there name path) old new
@@ -228,8 +246,10 @@ pub left_first : (names : List (List ℕ)) (path : List ℕ) (told : Option Past
 left_first names path None = refl
 left_first names path (Some past) = λ name held all. held
 
-left_behind : (names left : List (List ℕ)) (name path : List ℕ) (old mid new : Past) → HasLooked old mid
-    → HasLooked mid new → LeftOf names (name ∷ left) path old mid → NumberSeen false name path mid new
+left_behind : (names left : List (List ℕ)) (name path : List ℕ) (old mid new : Past)
+    → HasLooked old mid
+    → HasLooked mid new → LeftOf names (name ∷ left) path old mid
+    → NumberSeen false name path mid new
     → LeftOf names left path old new
 left_behind names left name path old mid new first next rest not_there other held all =
     by_name (bytes_eq name other) refl (rest other held (part_of path other old mid new next all))
@@ -242,7 +262,8 @@ left_behind names left name path old mid new first next rest not_there other hel
     by_name false same is = is
 
 -- one name more was no message
-pub left_next : (names all left : List (List ℕ)) (there : Bool) (name path : List ℕ) (a b c : Option Past)
+pub left_next : (names all left : List (List ℕ)) (there : Bool) (name path : List ℕ)
+    (a b c : Option Past)
     → all ≡ name ∷ left → there ≡ false → LooksOnly a b
     → LooksOnly b c → GoesOn (LeftOf names all path) a b → GoesOn (NumberSeen there name path) b c
     → GoesOn (LeftOf names left path) a c
@@ -254,7 +275,8 @@ left_next names all left there name path a b c whole not_there first next rest s
     goes_then a b c (λ p q r x y. left_behind names left name path p q r x y) first next rest none
 
 -- one of them was a message
-pub number_found : (names left : List (List ℕ)) (there : Bool) (name path : List ℕ) (a b c : Option Past)
+pub number_found : (names left : List (List ℕ)) (there : Bool) (name path : List ℕ)
+    (a b c : Option Past)
     → there ≡ true → LooksOnly a b
     → LooksOnly b c → GoesOn (LeftOf names left path) a b → GoesOn (NumberSeen there name path) b c
     → GoesOn (NumbersSeen true names path) a c
@@ -293,18 +315,22 @@ maildir_kind : (empty : Kind) (tree : List TreeNode) (path : List ℕ) → is_fo
 maildir_kind empty tree path folder cur =
     sym (kind_folder empty tree path folder
     ∙ ap (λ (t : Bool). if t then Ok Maildir
-    else (if has_sequences tree path || has_number tree path then Ok Mh else Err (NotMailbox 0))) cur)
+    else (if has_sequences tree path || has_number tree path then Ok Mh else Err (NotMailbox 0)))
+    cur)
 
 mh_kind : (empty : Kind) (tree : List TreeNode) (path : List ℕ) → is_folder_at tree path ≡ true
-    → is_folder_at tree (directory true path) ≡ false → (has_sequences tree path || has_number tree path) ≡ true
+    → is_folder_at tree (directory true path) ≡ false
+    → (has_sequences tree path || has_number tree path) ≡ true
     → Ok Mh ≡ kind_at empty tree path
 mh_kind empty tree path folder cur some =
     sym (kind_folder empty tree path folder
     ∙ ap (λ (t : Bool). if t then Ok Maildir
-    else (if has_sequences tree path || has_number tree path then Ok Mh else Err (NotMailbox 0))) cur
+    else (if has_sequences tree path || has_number tree path then Ok Mh else Err (NotMailbox 0)))
+    cur
     ∙ ap (λ (t : Bool). if t then Ok Mh else Err (NotMailbox 0)) some)
 
-pub maildir_seen : (empty : Kind) (path : List ℕ) (there : Bool) (call : Call) (a b : Option Past) → there ≡ true
+pub maildir_seen : (empty : Kind) (path : List ℕ) (there : Bool) (call : Call) (a b : Option Past)
+    → there ≡ true
     → GoesOn (SawAt call (λ tree. there ≡ is_folder_at tree (directory true path))) a b
     → GoesOn (DirectorySeen (Ok Maildir) empty path) a b
 maildir_seen empty path there call a b is seen =
@@ -312,7 +338,8 @@ maildir_seen empty path there call a b is seen =
       mark = saw.mark;
       from = saw.from;
       to = saw.to;
-      is = maildir_kind empty (tree_at q saw.mark) path (all saw.mark saw.from saw.to) (sym saw.tells ∙ is);
+      is = maildir_kind empty (tree_at q saw.mark) path (all saw.mark saw.from saw.to)
+          (sym saw.tells ∙ is);
     }) seen
 
 -- at each mark no folder `cur` stands in the directory
@@ -325,8 +352,11 @@ no_cur : (path : List ℕ) (there : Bool) (call : Call) (p q r : Past) → there
     → HasLooked p q → HasLooked q r
     → SawAt call (λ tree. there ≡ is_folder_at tree (directory true path)) p q → NoCur path p r
 no_cur path there call p q r is first next saw mark from to =
-    let later = saw_later {Tells = λ tree. there ≡ is_folder_at tree (directory true path)} p q r saw next in
-    folder_stays p r mark later.mark (directory true path) (looked_then p q r first next) from later.from
+    let later =
+    saw_later {Tells = λ tree. there ≡ is_folder_at tree (directory true path)} p q r saw
+    next in
+    folder_stays p r mark later.mark (directory true path) (looked_then p q r first next) from
+    later.from
     ∙ sym later.tells ∙ is
 
 -- The refusal of a directory.
@@ -349,7 +379,8 @@ no_names (Names names) tree path none is folder = true_false none
 
 -- no cur was seen, and then the names
 abbrev pub NamesSeen : List (List ℕ) → List ℕ → Past → Past → Type 0
-NamesSeen names path old new = NoCur path old new × SawAt (ListDir path) (λ tree. names ≡ names_in tree path) old new
+NamesSeen names path old new =
+    NoCur path old new × SawAt (ListDir path) (λ tree. names ≡ names_in tree path) old new
 
 not_names : (contents : Contents) → ((names : Held (Held ℕ)) → contents ≡ Names names → ⊥)
     → is_names contents ≡ false
@@ -357,23 +388,30 @@ not_names Nothing never = refl
 not_names File never = refl
 not_names (Names names) never = absurd (never names refl)
 
-pub unlisted_seen : (result : Result Kind ScanError) (empty : Kind) (path : List ℕ) (contents : Contents)
-    (a b c : Option Past) → ((names : Held (Held ℕ)) → contents ≡ Names names → ⊥) → LooksOnly a b → LooksOnly b c
+pub unlisted_seen : (result : Result Kind ScanError) (empty : Kind) (path : List ℕ)
+    (contents : Contents)
+    (a b c : Option Past) → ((names : Held (Held ℕ)) → contents ≡ Names names → ⊥) → LooksOnly a b
+    → LooksOnly b c
     → GoesOn (SawAt (ListDir path) (λ tree. IsContents contents tree path)) b c
     → GoesOn (DirectorySeen result empty path) a c
 unlisted_seen result empty path contents a b c never first next seen =
     let none = not_names contents never in
-    goes_then {P = HasLooked} a b c (λ p q r x y looked saw all. absurd (no_names contents (tree_at r saw.mark) path
-    none saw.tells (all saw.mark (omega (arith, saw.from, longer_later p q x)) saw.to))) first next first seen
+    goes_then {P = HasLooked} a b c
+    (λ p q r x y looked saw all. absurd (no_names contents (tree_at r saw.mark) path
+    none saw.tells (all saw.mark (omega (arith, saw.from, longer_later p q x)) saw.to))) first next
+    first seen
 
-pub names_seen : (names : Held (Held ℕ)) (items : List (Held ℕ)) (path : List ℕ) (contents : Contents)
-    (there : Bool) (call : Call) (a b c : Option Past) → items ≡ names.items → contents ≡ Names names → there ≡ false → LooksOnly a b → LooksOnly b c
+pub names_seen : (names : Held (Held ℕ)) (items : List (Held ℕ)) (path : List ℕ)
+    (contents : Contents)
+    (there : Bool) (call : Call) (a b c : Option Past) → items ≡ names.items
+    → contents ≡ Names names → there ≡ false → LooksOnly a b → LooksOnly b c
     → GoesOn (SawAt call (λ tree. there ≡ is_folder_at tree (directory true path))) a b
     → GoesOn (SawAt (ListDir path) (λ tree. IsContents contents tree path)) b c
     → GoesOn (NamesSeen (map (λ name. name.items) items) path) a c
 names_seen names items path contents there call a b c same told is first next seen list =
     let listed : GoesOn (SawAt (ListDir path) (λ tree. IsContents (Names names) tree path)) b c =
-    subst (λ (x : Contents). GoesOn (SawAt (ListDir path) (λ tree. IsContents x tree path)) b c) told list in
+    subst (λ (x : Contents). GoesOn (SawAt (ListDir path) (λ tree. IsContents x tree path)) b c)
+    told list in
     goes_then a b c (λ p q r x y saw listed. (
       no_cur path there call p q r is x y saw,
       record {
@@ -401,7 +439,8 @@ still_no_cur path p q r first next low none mark from to =
     ∙ none (length p.journal) (omega arith) low
 
 -- a directory whose names are those of an MH folder
-mh_names : (empty : Kind) (names : List (List ℕ)) (path : List ℕ) (p q r : Past) → HasLooked p q → HasLooked q r
+mh_names : (empty : Kind) (names : List (List ℕ)) (path : List ℕ) (p q r : Past) → HasLooked p q
+    → HasLooked q r
     → NamesSeen names path p q → MhSeen true names path q r → DirectorySeen (Ok Mh) empty path p r
 mh_names empty names path p q r x y saw (inl some) all =
     let later = saw_later {Tells = λ tree. names ≡ names_in tree path} p q r saw.1 y in
@@ -427,7 +466,8 @@ mh_names empty names path p q r x y saw (inr there) all =
     }
 
 -- a directory whose names are not
-no_mh_names : (empty : Kind) (names : List (List ℕ)) (path : List ℕ) (p q r : Past) → HasLooked p q → HasLooked q r
+no_mh_names : (empty : Kind) (names : List (List ℕ)) (path : List ℕ) (p q r : Past) → HasLooked p q
+    → HasLooked q r
     → NamesSeen names path p q → MhSeen false names path q r
     → DirectorySeen (Err (NotMailbox 0)) empty path p r
 no_mh_names empty names path p q r x y saw rest all =
@@ -439,7 +479,8 @@ no_mh_names empty names path p q r x y saw rest all =
         from = later.from;
         to = later.to;
         folder = all later.mark later.from later.to;
-        no_cur = still_no_cur path p q r x y (longer_later p q x) saw.0 later.mark later.from later.to;
+        no_cur = still_no_cur path p q r x y (longer_later p q x) saw.0 later.mark later.from
+            later.to;
         no_sequences = ap names_sequences (sym later.tells) ∙ rest.0;
         numbers = λ name there. rest.1 name
             (ap (holds_name name) later.tells
@@ -453,17 +494,23 @@ abbrev pub kind_by : Bool → Result Kind ScanError
 kind_by true = Ok Mh
 kind_by false = Err (NotMailbox 0)
 
-by_names : (empty : Kind) (names : List (List ℕ)) (path : List ℕ) (there : Bool) (a b c : Option Past)
-    → LooksOnly a b → LooksOnly b c → GoesOn (NamesSeen names path) a b → GoesOn (MhSeen there names path) b c
+by_names : (empty : Kind) (names : List (List ℕ)) (path : List ℕ) (there : Bool)
+    (a b c : Option Past)
+    → LooksOnly a b → LooksOnly b c → GoesOn (NamesSeen names path) a b
+    → GoesOn (MhSeen there names path) b c
     → GoesOn (DirectorySeen (kind_by there) empty path) a c
 by_names empty names path true a b c first next seen mh =
-    goes_then a b c (λ p q r x y saw told. mh_names empty names path p q r x y saw told) first next seen mh
+    goes_then a b c (λ p q r x y saw told. mh_names empty names path p q r x y saw told) first next
+    seen mh
 by_names empty names path false a b c first next seen mh =
-    goes_then a b c (λ p q r x y saw told. no_mh_names empty names path p q r x y saw told) first next seen mh
+    goes_then a b c (λ p q r x y saw told. no_mh_names empty names path p q r x y saw told) first
+    next seen mh
 
-pub kind_seen : (result : Result Kind ScanError) (empty : Kind) (names : List (List ℕ)) (path : List ℕ) (there : Bool)
+pub kind_seen : (result : Result Kind ScanError) (empty : Kind) (names : List (List ℕ))
+    (path : List ℕ) (there : Bool)
     (a b c : Option Past) → result ≡ kind_by there
-    → LooksOnly a b → LooksOnly b c → GoesOn (NamesSeen names path) a b → GoesOn (MhSeen there names path) b c
+    → LooksOnly a b → LooksOnly b c → GoesOn (NamesSeen names path) a b
+    → GoesOn (MhSeen there names path) b c
     → GoesOn (DirectorySeen result empty path) a c
 kind_seen result empty names path there a b c is first next seen mh =
     subst (λ (r : Result Kind ScanError). GoesOn (DirectorySeen r empty path) a c) (sym is)
@@ -484,17 +531,20 @@ was_seen (Err (TooLarge bytes)) empty path m n past was = was
 was_seen (Err Unfinished) empty path m n past was = was
 was_seen (Err ArchiveFull) empty path m n past was = was
 
-free_kind : (empty : Kind) (tree : List TreeNode) (path : List ℕ) (node : Option TreeNode) → node ≡ None
+free_kind : (empty : Kind) (tree : List TreeNode) (path : List ℕ) (node : Option TreeNode)
+    → node ≡ None
     → Err Missing ≡ node_kind empty tree path node
 free_kind empty tree path None is = refl
 free_kind empty tree path (Some node) is = absurd (cc)
 
 front_kind_is : (empty : Kind) (tree : List TreeNode) (path all : List ℕ) (node : Option TreeNode)
-    → option_and_then node_file node ≡ Some all → file_kind empty all ≡ node_kind empty tree path node
+    → option_and_then node_file node ≡ Some all
+    → file_kind empty all ≡ node_kind empty tree path node
 front_kind_is empty tree path all None is = absurd (cc)
 front_kind_is empty tree path all (Some node) is = by_bytes node.bytes is
   where
-    by_bytes : (bytes : Option (List ℕ)) → bytes ≡ Some all → file_kind empty all ≡ bytes_kind empty tree path bytes
+    by_bytes : (bytes : Option (List ℕ)) → bytes ≡ Some all
+        → file_kind empty all ≡ bytes_kind empty tree path bytes
     by_bytes None is = absurd (cc)
     by_bytes (Some bytes) is = let same : bytes ≡ all = cc in ap (file_kind empty) (sym same)
 
@@ -509,28 +559,35 @@ free_seen empty path call a b seen =
       is = free_kind empty (tree_at q saw.mark) path (node_at (tree_at q saw.mark) path) saw.tells;
     }) seen
 
-pub front_seen : (result : Result Kind ScanError) (empty : Kind) (path front : List ℕ) (call : Call) (a b : Option Past)
+pub front_seen : (result : Result Kind ScanError) (empty : Kind) (path front : List ℕ) (call : Call)
+    (a b : Option Past)
     → result ≡ front_kind empty front
-    → GoesOn (SawAt call (λ tree. (bytes : List ℕ) × (file_at tree path ≡ Some bytes) × (take 5 bytes ≡ front))) a b
+    → GoesOn (SawAt call
+    (λ tree. (bytes : List ℕ) × (file_at tree path ≡ Some bytes) × (take 5 bytes ≡ front))) a b
     → GoesOn (KindSeen result empty path) a b
 front_seen result empty path front call a b is seen =
-    goes_as a b (λ p q saw. was_seen result empty path (length p.journal) (length q.journal) q (record {
+    goes_as a b
+    (λ p q saw. was_seen result empty path (length p.journal) (length q.journal) q (record {
       mark = saw.mark;
       from = saw.from;
       to = saw.to;
       is = is ∙ ap (front_kind empty) (sym saw.tells.2)
-          ∙ front_kind_is empty (tree_at q saw.mark) path saw.tells.0 (node_at (tree_at q saw.mark) path) saw.tells.1;
+          ∙ front_kind_is empty (tree_at q saw.mark) path saw.tells.0
+          (node_at (tree_at q saw.mark) path) saw.tells.1;
     })) seen
 
 -- what was seen from a later mark on was seen from an earlier one on
-earlier_kind : (result : Result Kind ScanError) (empty : Kind) (path : List ℕ) (k m n : ℕ) (past : Past) → k ≤ m
+earlier_kind : (result : Result Kind ScanError) (empty : Kind) (path : List ℕ) (k m n : ℕ)
+    (past : Past) → k ≤ m
     → WasKind result empty path m n past → WasKind result empty path k n past
 earlier_kind result empty path k m n past low was =
     record { mark = was.mark; from = omega (arith, low, was.from); to = was.to; is = was.is }
 
-seen_earlier : (result : Result Kind ScanError) (empty : Kind) (path : List ℕ) (k m n : ℕ) (past : Past) → k ≤ m
+seen_earlier : (result : Result Kind ScanError) (empty : Kind) (path : List ℕ) (k m n : ℕ)
+    (past : Past) → k ≤ m
     → IsKindSeen result empty path m n past → IsKindSeen result empty path k n past
-seen_earlier (Ok kind) empty path k m n past low was = earlier_kind (Ok kind) empty path k m n past low was
+seen_earlier (Ok kind) empty path k m n past low was =
+    earlier_kind (Ok kind) empty path k m n past low was
 seen_earlier (Err Fault) empty path k m n past low was = tt
 seen_earlier (Err NoMemory) empty path k m n past low was = tt
 seen_earlier (Err (NotMailbox place)) empty path k m n past low (inl was) =
@@ -544,20 +601,24 @@ seen_earlier (Err (NotMailbox place)) empty path k m n past low (inr was) = inr 
     folder = was.1.folder;
     no_cur = was.1.no_cur;
     no_sequences = was.1.no_sequences;
-    numbers = λ name all. was.1.numbers name (λ mark from to. all mark (omega (arith, low, from)) to);
+    numbers =
+        λ name all. was.1.numbers name (λ mark from to. all mark (omega (arith, low, from)) to);
   },
 )
-seen_earlier (Err Missing) empty path k m n past low was = earlier_kind (Err Missing) empty path k m n past low was
+seen_earlier (Err Missing) empty path k m n past low was =
+    earlier_kind (Err Missing) empty path k m n past low was
 seen_earlier (Err (TooMany count)) empty path k m n past low was =
     earlier_kind (Err (TooMany count)) empty path k m n past low was
 seen_earlier (Err (TooLarge bytes)) empty path k m n past low was =
     earlier_kind (Err (TooLarge bytes)) empty path k m n past low was
-seen_earlier (Err Unfinished) empty path k m n past low was = earlier_kind (Err Unfinished) empty path k m n past low was
+seen_earlier (Err Unfinished) empty path k m n past low was =
+    earlier_kind (Err Unfinished) empty path k m n past low was
 seen_earlier (Err ArchiveFull) empty path k m n past low was =
     earlier_kind (Err ArchiveFull) empty path k m n past low was
 
 -- a directory was seen, and then its kind
-pub directory_seen : (result : Result Kind ScanError) (front : Front) (call : Call) (empty : Kind) (path : List ℕ)
+pub directory_seen : (result : Result Kind ScanError) (front : Front) (call : Call) (empty : Kind)
+    (path : List ℕ)
     (a b c : Option Past) → front ≡ Directory → LooksOnly a b → LooksOnly b c
     → GoesOn (SawAt call (λ tree. IsFrontOf front tree path)) a b
     → GoesOn (DirectorySeen result empty path) b c → GoesOn (KindSeen result empty path) a c
@@ -566,6 +627,7 @@ directory_seen result front call empty path a b c is first next saw told =
     subst (λ (f : Front). GoesOn (SawAt call (λ tree. IsFrontOf f tree path)) a b) is saw in
     goes_then a b c (λ p q r x y saw kind.
     let later = saw_later {Tells = λ tree. is_folder_at tree path ≡ true} p q r saw y in
-    seen_earlier result empty path (length p.journal) (length q.journal) (length r.journal) r (longer_later p q x)
+    seen_earlier result empty path (length p.journal) (length q.journal) (length r.journal) r
+    (longer_later p q x)
     (kind (λ mark from to. folder_stays p r mark later.mark path (looked_then p q r x y)
     (omega (arith, from, longer_later p q x)) later.from ∙ later.tells))) first next seen told

@@ -1,14 +1,17 @@
 -- What stands in a directory is among its names.
-use Rattle.std.proofs.Common.{◌≡◌, ◌<◌, ◌+◌, ◌==◌, ◌||◌, ℕ, zero, suc, Bool, true, false, not, List, [], ◌∷◌}
-use Rattle.std.proofs.Common.{◌++◌, Option, Some, None, length, nat_lt, if◌then◌else◌, refl, sym, ◌∙◌, ap, subst, arith}
-use Rattle.std.proofs.Common.{append_assoc, is_some, length-append, ltb-true}
+use Rattle.std.proofs.Common.{◌≡◌, ◌<◌, ◌+◌, ◌==◌, ◌||◌, ℕ, zero, suc, Bool, true, false, not, List}
+use Rattle.std.proofs.Common.{[], ◌∷◌, ◌++◌, Option, Some, None, length, nat_lt, if◌then◌else◌}
+use Rattle.std.proofs.Common.{refl, sym, ◌∙◌, ap, subst, arith, append_assoc, is_some}
+use Rattle.std.proofs.Common.{length-append, ltb-true}
 use Rattle.std.specs.List.{insert, list_any}
 use Rattle.std.specs.Prelude.{option_and_then}
 use Rattle.std.specs.Str.{bytes_eq}
 use Rattle.std.proofs.lemmas.Bool.{and_parts}
 use Rattle.std.proofs.lemmas.Slice.Eq.{bytes_eq-Decides}
-use Rattle.disk_model.specs.Names.{behind_slash, is_before, more_names, name_of, names_in, place_of, put_name}
-use Rattle.disk_model.specs.Tree.{TreeNode, before_slash, folder_before, folder_of, is_root, node_at, node_in, with_byte}
+use Rattle.disk_model.specs.Names.{behind_slash, is_before, more_names, name_of, names_in, place_of}
+use Rattle.disk_model.specs.Names.{put_name}
+use Rattle.disk_model.specs.Tree.{TreeNode, before_slash, folder_before, folder_of, is_root}
+use Rattle.disk_model.specs.Tree.{node_at, node_in, with_byte}
 use Rattle.disk_model.proofs.Trees.{bytes_same}
 use Rattle.folder_core.specs.Directory.{file_at, is_name, node_file, path_in}
 
@@ -32,12 +35,14 @@ no_slash [] none = refl
 no_slash (b ∷ name) none = by_first (b == 47) refl none (λ rest. no_slash name rest)
   where
     by_first : (t : Bool) → (b == 47) ≡ t → (t || has_slash name) ≡ false
-        → (has_slash name ≡ false → before_slash name ≡ None) → with_byte b (before_slash name) ≡ None
+        → (has_slash name ≡ false → before_slash name ≡ None)
+        → with_byte b (before_slash name) ≡ None
     by_first true is none again = absurd (true_false none)
     by_first false is none again =
         ap (with_byte b) (again none) ∙ ap (λ (t : Bool). if t then Some [] else None) is
 
-slash_after : (dir name : List ℕ) → has_slash name ≡ false → before_slash (dir ++ 47 ∷ name) ≡ Some dir
+slash_after : (dir name : List ℕ) → has_slash name ≡ false
+    → before_slash (dir ++ 47 ∷ name) ≡ Some dir
 slash_after [] name none = ap (with_byte 47) (no_slash name none)
 slash_after (b ∷ dir) name none = ap (with_byte b) (slash_after dir name none)
 
@@ -51,14 +56,16 @@ name_stays found (b ∷ name) none = by_first (b == 47) none (λ rest. name_stay
     by_first true none again = absurd (true_false none)
     by_first false none again = again none
 
-name_after : (found dir name : List ℕ) → has_slash name ≡ false → behind_slash found (dir ++ 47 ∷ name) ≡ name
+name_after : (found dir name : List ℕ) → has_slash name ≡ false
+    → behind_slash found (dir ++ 47 ∷ name) ≡ name
 name_after found [] name none = name_stays name name none
 name_after found (b ∷ dir) name none =
     if_same (b == 47) (name_after (dir ++ 47 ∷ name) dir name none) (name_after found dir name none)
   where
     if_same : (t : Bool) → behind_slash (dir ++ 47 ∷ name) (dir ++ 47 ∷ name) ≡ name
         → behind_slash found (dir ++ 47 ∷ name) ≡ name
-        → (if t then behind_slash (dir ++ 47 ∷ name) (dir ++ 47 ∷ name) else behind_slash found (dir ++ 47 ∷ name))
+        → (if t then behind_slash (dir ++ 47 ∷ name) (dir ++ 47 ∷ name)
+        else behind_slash found (dir ++ 47 ∷ name))
         ≡ name
     if_same true x y = x
     if_same false x y = y
@@ -74,7 +81,8 @@ slash_free : (name : List ℕ) → is_name name ≡ true → has_slash name ≡ 
 slash_free name named =
     not_true (has_slash name) (and_parts (nat_lt 0 (length name)) (not (has_slash name)) named).1
 
-in_root : (dir name : List ℕ) → is_root dir ≡ true → is_name name ≡ true → IsIn dir name (dir ++ name)
+in_root : (dir name : List ℕ) → is_root dir ≡ true → is_name name ≡ true
+    → IsIn dir name (dir ++ name)
 in_root [] [] root named = absurd (cc)
 in_root [] (b ∷ name) root named =
     let none : has_slash (b ∷ name) ≡ false = slash_free (b ∷ name) named in
@@ -87,7 +95,8 @@ in_root [] (b ∷ name) root named =
     no_one : (b : ℕ) (name : List ℕ) → has_slash (b ∷ name) ≡ false → is_root (b ∷ name) ≡ false
     no_one b name none = by_first (b == 47) refl none
       where
-        by_first : (t : Bool) → (b == 47) ≡ t → (t || has_slash name) ≡ false → is_root (b ∷ name) ≡ false
+        by_first : (t : Bool) → (b == 47) ≡ t → (t || has_slash name) ≡ false
+            → is_root (b ∷ name) ≡ false
         by_first true is none = absurd (true_false none)
         by_first false is none = by_root (is_root (b ∷ name)) refl
           where
@@ -146,7 +155,8 @@ in_other dir name root named =
 pub path_is_in : (dir name : List ℕ) → is_name name ≡ true → IsIn dir name (path_in dir name)
 path_is_in dir name named = by_root (is_root dir) refl
   where
-    by_root : (r : Bool) → is_root dir ≡ r → IsIn dir name ((if r then dir else dir ++ 47 ∷ []) ++ name)
+    by_root : (r : Bool) → is_root dir ≡ r
+        → IsIn dir name ((if r then dir else dir ++ 47 ∷ []) ++ name)
     by_root true is = in_root dir name is named
     by_root false is = in_other dir name is named
 
@@ -155,7 +165,8 @@ path_is_in dir name named = by_root (is_root dir) refl
 abbrev pub holds_name : List ℕ → List (List ℕ) → Bool
 holds_name name names = list_any (λ other. bytes_eq other name) names
 
-inserted_holds : (place : ℕ) (name new : List ℕ) (names : List (List ℕ)) → holds_name name names ≡ true
+inserted_holds : (place : ℕ) (name new : List ℕ) (names : List (List ℕ))
+    → holds_name name names ≡ true
     → holds_name name (insert names place new) ≡ true
 inserted_holds zero name new names held = by_new (bytes_eq new name)
   where
@@ -203,28 +214,39 @@ more_hold : (name : List ℕ) (names : List (List ℕ)) (dir : List ℕ) (nodes 
     → holds_name name names ≡ true → holds_name name (more_names names dir nodes) ≡ true
 more_hold name names dir [] held = held
 more_hold name names dir (node ∷ nodes) held =
-    more_hold name (if bytes_eq (folder_of node.path) dir then put_name (name_of node.path) names else names) dir nodes
+    more_hold name
+    (if bytes_eq (folder_of node.path) dir then put_name (name_of node.path) names else names)
+    dir nodes
     (more_if (bytes_eq (folder_of node.path) dir) name (name_of node.path) names held)
 
-node_held : (name dir path : List ℕ) (names : List (List ℕ)) (nodes : List TreeNode) → IsIn dir name path
+node_held : (name dir path : List ℕ) (names : List (List ℕ)) (nodes : List TreeNode)
+    → IsIn dir name path
     → is_some (node_in nodes path) ≡ true → holds_name name (more_names names dir nodes) ≡ true
 node_held name dir path names [] at found = absurd (false_true found)
 node_held name dir path names (node ∷ nodes) at found =
     by_path (bytes_eq node.path path) refl found (λ rest. node_held name dir path
-    (if bytes_eq (folder_of node.path) dir then put_name (name_of node.path) names else names) nodes at rest)
+    (if bytes_eq (folder_of node.path) dir then put_name (name_of node.path) names else names) nodes
+    at rest)
   where
     by_path : (t : Bool) → bytes_eq node.path path ≡ t
         → is_some (if t then Some node else node_in nodes path) ≡ true
-        → (is_some (node_in nodes path) ≡ true → holds_name name (more_names (if bytes_eq (folder_of node.path) dir
+        → (is_some (node_in nodes path) ≡ true
+        → holds_name name (more_names (if bytes_eq (folder_of node.path) dir
         then put_name (name_of node.path) names else names) dir nodes) ≡ true)
-        → holds_name name (more_names (if bytes_eq (folder_of node.path) dir then put_name (name_of node.path) names
+        → holds_name name
+        (more_names
+        (if bytes_eq (folder_of node.path) dir then put_name (name_of node.path) names
         else names) dir nodes) ≡ true
     by_path true is found again =
         let same : node.path ≡ path = bytes_same node.path path is in
         let folder : bytes_eq (folder_of node.path) dir ≡ true =
         (bytes_eq-Decides (folder_of node.path) dir).1 (ap folder_of same ∙ at.folder) in
-        more_hold name (if bytes_eq (folder_of node.path) dir then put_name (name_of node.path) names else names) dir
-        nodes (ap (λ (t : Bool). holds_name name (if t then put_name (name_of node.path) names else names)) folder
+        more_hold name
+        (if bytes_eq (folder_of node.path) dir then put_name (name_of node.path) names
+        else names) dir
+        nodes (ap
+        (λ (t : Bool). holds_name name
+        (if t then put_name (name_of node.path) names else names)) folder
         ∙ ap (λ (n : List ℕ). holds_name name (put_name n names)) (ap name_of same ∙ at.name_is)
         ∙ new_holds (place_of name names) name names (place_within name names))
     by_path false is found again = again found
@@ -242,7 +264,8 @@ name_held tree dir name named there =
     node_held name dir (path_in dir name) [] tree at
     (some_if (is_root (path_in dir name)) _ (node_in tree (path_in dir name)) at.no_root there)
 
-some_node : (node : Option TreeNode) → is_some (option_and_then node_file node) ≡ true → is_some node ≡ true
+some_node : (node : Option TreeNode) → is_some (option_and_then node_file node) ≡ true
+    → is_some node ≡ true
 some_node None is = is
 some_node (Some node) is = refl
 

@@ -1,7 +1,7 @@
 -- What looks have told stays told while others go on.
-use Rattle.std.proofs.Common.{◌≡◌, ◌≤◌, ◌<◌, ℕ, zero, suc, List, [], ◌∷◌, ◌++◌, Option, Some, None, length, take, drop}
-use Rattle.std.proofs.Common.{Err, refl, sym, ◌∙◌, ap, subst, arith, slice_index_or, take_all}
-use Rattle.std.proofs.Common.{length-drop, ◌-◌}
+use Rattle.std.proofs.Common.{◌≡◌, ◌≤◌, ◌<◌, ℕ, zero, suc, List, [], ◌∷◌, ◌++◌, Option, Some, None}
+use Rattle.std.proofs.Common.{length, take, drop, Err, refl, sym, ◌∙◌, ap, subst, arith}
+use Rattle.std.proofs.Common.{slice_index_or, take_all, length-drop, ◌-◌}
 use Rattle.std.proofs.lemmas.List.{length-take, take-append-drop, take-append-le}
 use Rattle.mail_base.specs.Faults.{Rose}
 use Rattle.disk_model.specs.Journal.{Call, Entry, NoForeign, Own, Past, has_foreign}
@@ -16,7 +16,8 @@ use Rattle.folder_core.specs.Looked.{IsTreeOfAll, OnlyMeets, SawAt}
 use Rattle.folder_core.specs.declared.error.ScanError.{ScanError}
 use Rattle.folder_core.specs.declared.error.ScanError.TheVariants.{Fault}
 
-first_entry : (mark : ℕ) (entry : Entry) (entries more : List Entry) → take 1 (drop mark entries) ≡ entry ∷ []
+first_entry : (mark : ℕ) (entry : Entry) (entries more : List Entry)
+    → take 1 (drop mark entries) ≡ entry ∷ []
     → take 1 (drop mark (entries ++ more)) ≡ entry ∷ []
 first_entry zero entry [] more is = absurd (cc)
 first_entry zero entry (first ∷ entries) more is = is
@@ -29,9 +30,11 @@ longer_later old new looked = length_longer old new (looked_longer old new looke
 pub own_later : (mark : ℕ) (entry : Entry) (old new : Past) → HasLooked old new
     → take 1 (drop mark old.journal) ≡ entry ∷ [] → take 1 (drop mark new.journal) ≡ entry ∷ []
 own_later mark entry old new looked is =
-    ap (λ (l : List Entry). take 1 (drop mark l)) looked.journal ∙ first_entry mark entry old.journal looked.more is
+    ap (λ (l : List Entry). take 1 (drop mark l)) looked.journal
+    ∙ first_entry mark entry old.journal looked.more is
 
-pub saw_later : {call : Call} {Tells : List TreeNode → Type 0} (old mid new : Past) → SawAt call Tells old mid
+pub saw_later : {call : Call} {Tells : List TreeNode → Type 0} (old mid new : Past)
+    → SawAt call Tells old mid
     → HasLooked mid new → SawAt call Tells old new
 saw_later {call} {Tells} old mid new saw looked = record {
   mark = saw.mark;
@@ -39,10 +42,12 @@ saw_later {call} {Tells} old mid new saw looked = record {
   to = omega (arith, saw.to, longer_later mid new looked);
   answer = saw.answer;
   own = own_later saw.mark (Own call saw.answer) mid new looked saw.own;
-  tells = subst Tells (sym (tree_at-longer mid new saw.mark (looked_longer mid new looked) saw.to)) saw.tells;
+  tells = subst Tells (sym (tree_at-longer mid new saw.mark (looked_longer mid new looked) saw.to))
+      saw.tells;
 }
 
-pub saw_earlier : {call : Call} {Tells : List TreeNode → Type 0} (old mid new : Past) → HasLooked old mid
+pub saw_earlier : {call : Call} {Tells : List TreeNode → Type 0} (old mid new : Past)
+    → HasLooked old mid
     → SawAt call Tells mid new → SawAt call Tells old new
 saw_earlier old mid new looked saw = record {
   mark = saw.mark;
@@ -92,7 +97,8 @@ pub rose_later : (a b c : ℕ) → a ≤ b → Rose b c → Rose a c
 rose_later a b c low rose = grind (arith, low, rose)
 
 -- The first of a list, and the rest as a slice gives it.
-pub first_and_rest : {A : Type 0} (left : List A) (d item : A) → item ≡ slice_index_or left 0 d → 1 ≤ length left
+pub first_and_rest : {A : Type 0} (left : List A) (d item : A) → item ≡ slice_index_or left 0 d
+    → 1 ≤ length left
     → left ≡ item ∷ take (length left - 1) (drop 1 left)
 first_and_rest [] d item is some = absurd (omega arith)
 first_and_rest (x ∷ left) d item is some =
@@ -104,9 +110,12 @@ none_left [] none = refl
 none_left (x ∷ left) none = absurd (omega arith)
 
 -- Nobody else acted between the ends of two journals.
-pub alone_foreign : (old new : Past) → AloneBetween (length old.journal) (length new.journal) new → NoForeign old new
+pub alone_foreign : (old new : Past) → AloneBetween (length old.journal) (length new.journal) new
+    → NoForeign old new
 alone_foreign old new alone =
-    ap has_foreign (sym (take_all (length new.journal - length old.journal) (drop (length old.journal) new.journal)
+    ap has_foreign
+    (sym (take_all (length new.journal - length old.journal)
+    (drop (length old.journal) new.journal)
     (omega (arith, length-drop (length old.journal) new.journal)))) ∙ alone
 
 -- the tree of each mark was that of the marks before

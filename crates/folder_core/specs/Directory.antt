@@ -1,6 +1,7 @@
 -- Folders that are directories: paths in them, what stands there, and why they are not listed.
-use Rattle.std.specs.Prelude.{◌≡◌, ◌≤◌, ◌-◌, ◌==◌, ◌&&◌, ℕ, Bool, false, not, nat_lt, length, List, [], ◌∷◌, ◌++◌, Option, Some, None}
-use Rattle.std.specs.Prelude.{take, drop, option_and_then, if◌then◌else◌}
+use Rattle.std.specs.Prelude.{◌≡◌, ◌≤◌, ◌-◌, ◌==◌, ◌&&◌, ℕ, Bool, false, not, nat_lt, length, List}
+use Rattle.std.specs.Prelude.{[], ◌∷◌, ◌++◌, Option, Some, None, take, drop, option_and_then}
+use Rattle.std.specs.Prelude.{if◌then◌else◌}
 use Rattle.std.specs.List.{list_any}
 use Rattle.disk_model.specs.Journal.{Past, has_foreign}
 use Rattle.disk_model.specs.State.{tree_at}
@@ -8,7 +9,8 @@ use Rattle.disk_model.specs.Tree.{TreeNode, is_folder_node, is_root, node_at}
 use Rattle.folder_core.specs.Limits.{list_refusal}
 use Rattle.folder_core.specs.Message.{Message}
 use Rattle.folder_core.specs.declared.error.ScanError.{ScanError}
-use Rattle.folder_core.specs.declared.error.ScanError.TheVariants.{Missing, NotMailbox, TooMany, TooLarge, Unfinished}
+use Rattle.folder_core.specs.declared.error.ScanError.TheVariants.{Missing, NotMailbox, TooMany}
+use Rattle.folder_core.specs.declared.error.ScanError.TheVariants.{TooLarge, Unfinished}
 use Rattle.folder_core.specs.declared.error.ScanError.TheVariants.{ArchiveFull, Fault, NoMemory}
 
 -- what stands before a name in a directory; the empty path is the directory that we are in
@@ -47,7 +49,8 @@ pub record WasMissing (path : List ℕ) (m n : ℕ) (past : Past) : Type 0 where
   pub nothing : node_at (tree_at past mark) path ≡ None
 
 -- at a mark between two marks the path was no folder of the kind
-pub record WasNoFolder (is_of_kind : List TreeNode → List ℕ → Bool) (path : List ℕ) (m n : ℕ) (past : Past) : Type 0 where
+pub record WasNoFolder (is_of_kind : List TreeNode → List ℕ → Bool) (path : List ℕ) (m n : ℕ)
+    (past : Past) : Type 0 where
   pub mark : ℕ
   pub from : m ≤ mark
   pub to : mark ≤ n
@@ -59,15 +62,20 @@ pub record WasPastLimit (Saw : List Message → Type 0) (letters : ℕ) (why : S
   pub saw : Saw messages
   pub refused : list_refusal letters messages ≡ Some why
 
--- why a directory was not listed between two marks, by what is a folder of its kind and by what a scan would list
-abbrev pub DirectoryRefused : (List TreeNode → List ℕ → Bool) → (List Message → Type 0) → ℕ → List ℕ → ScanError
+-- why a directory was not listed between two marks, by what is a folder of its kind and by what a
+-- scan would list
+abbrev pub DirectoryRefused : (List TreeNode → List ℕ → Bool) → (List Message → Type 0) → ℕ → List ℕ
+    → ScanError
     → ℕ → ℕ → Past → Type 0
 DirectoryRefused is_of_kind Saw letters path Missing m n past = WasMissing path m n past
 DirectoryRefused is_of_kind Saw letters path (NotMailbox place) m n past =
     (place ≡ 0) × WasNoFolder is_of_kind path m n past
-DirectoryRefused is_of_kind Saw letters path (TooMany count) m n past = WasPastLimit Saw letters (TooMany count)
-DirectoryRefused is_of_kind Saw letters path (TooLarge bytes) m n past = WasPastLimit Saw letters (TooLarge bytes)
-DirectoryRefused is_of_kind Saw letters path ArchiveFull m n past = WasPastLimit Saw letters ArchiveFull
+DirectoryRefused is_of_kind Saw letters path (TooMany count) m n past =
+    WasPastLimit Saw letters (TooMany count)
+DirectoryRefused is_of_kind Saw letters path (TooLarge bytes) m n past =
+    WasPastLimit Saw letters (TooLarge bytes)
+DirectoryRefused is_of_kind Saw letters path ArchiveFull m n past =
+    WasPastLimit Saw letters ArchiveFull
 DirectoryRefused is_of_kind Saw letters path Unfinished m n past = ⊥
 DirectoryRefused is_of_kind Saw letters path Fault m n past = Unit {0}
 DirectoryRefused is_of_kind Saw letters path NoMemory m n past = Unit {0}

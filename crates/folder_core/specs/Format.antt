@@ -14,10 +14,12 @@ pub record Format : Type 1 where
   pub core : List ℕ → List ℕ
   -- the letter that a message makes under an id
   pub letter : ℕ → Message → Mail
-  -- Between two marks of a past these messages were seen in the known folder, as its bytes and stamps say, and they
+  -- Between two marks of a past these messages were seen in the known folder, as its bytes and
+  -- stamps say, and they
   -- may be listed beside so many letters.
   pub Saw : ℕ → KnownFolder → List Message → ℕ → ℕ → Past → Type 0
-  -- between two marks of a past the folder at a path was not to be listed for this cause beside so many letters
+  -- between two marks of a past the folder at a path was not to be listed for this cause beside so
+  -- many letters
   pub Refused : ℕ → List ℕ → ScanError → ℕ → ℕ → Past → Type 0
   -- what reading the messages of these letters costs, by the bytes that were read before and behind
   pub Costs : List Mail → Option ℕ → Option ℕ → Type 0

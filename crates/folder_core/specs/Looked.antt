@@ -1,6 +1,6 @@
 -- What one look at a disk tells, as a driver or the rule of kinds wants it told.
-use Rattle.std.specs.Prelude.{◌≡◌, ◌≤◌, ◌<◌, ◌⊎◌, ℕ, Bool, true, false, List, [], ◌∷◌, Option, Some, None, Result}
-use Rattle.std.specs.Prelude.{IfOk, IfErr, IsErrOf, is_some, length, map, take, drop}
+use Rattle.std.specs.Prelude.{◌≡◌, ◌≤◌, ◌<◌, ◌⊎◌, ℕ, Bool, true, false, List, [], ◌∷◌, Option, Some}
+use Rattle.std.specs.Prelude.{None, Result, IfOk, IfErr, IsErrOf, is_some, length, map, take, drop}
 use Rattle.mail_base.specs.Faults.{Rose}
 use Rattle.disk_model.specs.Answers.{AreText}
 use Rattle.disk_model.specs.Journal.{Answer, Call, Own, Past, ReadAll}
@@ -65,7 +65,8 @@ IsContent limit NoFile tree path = file_at tree path ≡ None
 IsContent limit (TooLong size) tree path =
     (limit < size) × ((bytes : List ℕ) × (file_at tree path ≡ Some bytes) × (size ≡ length bytes))
 IsContent limit (Whole read) tree path =
-    (file_at tree path ≡ Some read.bytes.items) × (stamp_there (node_at tree path) ≡ read.stat.stamp)
+    (file_at tree path ≡ Some read.bytes.items) ×
+    (stamp_there (node_at tree path) ≡ read.stat.stamp)
     × (length read.bytes.items ≤ limit)
 
 -- the bytes that were read for it
@@ -84,7 +85,8 @@ IsPast limit (Whole read) = Unit {0}
 abbrev pub IsFrontOf : Front → List TreeNode → List ℕ → Type 0
 IsFrontOf Free tree path = node_at tree path ≡ None
 IsFrontOf Directory tree path = is_folder_at tree path ≡ true
-IsFrontOf (Begins front) tree path = (bytes : List ℕ) × (file_at tree path ≡ Some bytes) × (take 5 bytes ≡ front.items)
+IsFrontOf (Begins front) tree path =
+    (bytes : List ℕ) × (file_at tree path ≡ Some bytes) × (take 5 bytes ≡ front.items)
 
 -- the names are text
 abbrev pub HasText : Contents → Type 0

@@ -1,6 +1,7 @@
 -- A folder of a file a message, in the directories `new` and `cur` (maildir(5)).
-use Rattle.std.specs.Prelude.{◌≡◌, ◌≤◌, ◌<◌, ◌+◌, ◌&&◌, ℕ, pos, Bool, true, false, not, List, [], ◌∷◌}
-use Rattle.std.specs.Prelude.{◌++◌, codes, map, take, drop, Option, Some, None, option_map, is_some, is_none, if◌then◌else◌}
+use Rattle.std.specs.Prelude.{◌≡◌, ◌≤◌, ◌<◌, ◌+◌, ◌&&◌, ℕ, pos, Bool, true, false, not, List, []}
+use Rattle.std.specs.Prelude.{◌∷◌, ◌++◌, codes, map, take, drop, Option, Some, None, option_map}
+use Rattle.std.specs.Prelude.{is_some, is_none, if◌then◌else◌}
 use Rattle.std.specs.List.{filter}
 use Rattle.std.specs.Str.{bytes_eq}
 use Rattle.std.specs.Ordering.{nat_cmp, bool_cmp, is_lt, ordering_then}
@@ -11,7 +12,8 @@ use Rattle.disk_model.specs.Names.{names_in}
 use Rattle.disk_model.specs.State.{tree_at}
 use Rattle.disk_model.specs.Tree.{TreeNode}
 use Rattle.folder_core.specs.Costs.{RaisesAtMost, cores_together}
-use Rattle.folder_core.specs.Directory.{AloneBetween, DirectoryRefused, file_at, is_folder_at, is_name, path_in}
+use Rattle.folder_core.specs.Directory.{AloneBetween, DirectoryRefused, file_at, is_folder_at}
+use Rattle.folder_core.specs.Directory.{is_name, path_in}
 use Rattle.folder_core.specs.Format.{Format}
 use Rattle.folder_core.specs.Known.{KnownFolder}
 use Rattle.folder_core.specs.Letters.{Mail}
@@ -62,12 +64,15 @@ comes_before a b = is_lt (file_cmp a b)
 
 -- the names that may be messages: those that do not begin with a dot
 abbrev pub files_in : Bool → List (List ℕ) → List MaildirFile
-files_in in_cur names = map (λ name. record { in_cur = in_cur; name = name }) (filter (λ name. not (begins_dot name)) names)
+files_in in_cur names =
+    map (λ name. record { in_cur = in_cur; name = name })
+    (filter (λ name. not (begins_dot name)) names)
 
 -- the names in both directories
 abbrev pub all_files : List TreeNode → List ℕ → List MaildirFile
 all_files tree path =
-    files_in true (names_in tree (directory true path)) ++ files_in false (names_in tree (directory false path))
+    files_in true (names_in tree (directory true path))
+    ++ files_in false (names_in tree (directory false path))
 
 -- a name that a message may have
 abbrev pub is_shown : List ℕ → Bool
@@ -84,7 +89,8 @@ with_message None without behind = without
 with_message (Some message) without behind = message ∷ behind
 
 -- the messages of files in order, of which each base gives the first that is there
-abbrev pub messages_behind : List TreeNode → List ℕ → Option (List ℕ) → List MaildirFile → List Message
+abbrev pub messages_behind : List TreeNode → List ℕ → Option (List ℕ) → List MaildirFile
+    → List Message
 messages_behind tree path last [] = []
 messages_behind tree path last (file ∷ files) =
     if is_taken last (base_of file) then messages_behind tree path last files
@@ -92,7 +98,8 @@ messages_behind tree path last (file ∷ files) =
     (messages_behind tree path (Some (base_of file)) files)
 
 abbrev pub maildir_messages : List TreeNode → List ℕ → List Message
-maildir_messages tree path = messages_behind tree path None (in_order_by comes_before (all_files tree path))
+maildir_messages tree path =
+    messages_behind tree path None (in_order_by comes_before (all_files tree path))
 
 -- a directory with a directory `cur`, in which no file is called `new`
 abbrev pub is_maildir : List TreeNode → List ℕ → Bool
@@ -125,7 +132,8 @@ pub record Stood (path : List ℕ) (m n : ℕ) (past : Past) (message : Message)
 -- each of the messages stood there
 abbrev pub AllStood : List ℕ → ℕ → ℕ → Past → List Message → Type 0
 AllStood path m n past [] = Unit {0}
-AllStood path m n past (message ∷ messages) = Stood path m n past message × AllStood path m n past messages
+AllStood path m n past (message ∷ messages) =
+    Stood path m n past message × AllStood path m n past messages
 
 -- a file has this name at each mark from one to another
 abbrev pub StaysThere : List ℕ → MaildirFile → ℕ → ℕ → Past → Type 0
@@ -134,27 +142,31 @@ StaysThere path file m n past = (mark : ℕ) → m ≤ mark → mark ≤ n
 
 -- What a scan saw between two marks: each message that it lists stood there once with its key,
 -- flags and bytes, in order; one
--- that stood under one name all along is listed, or under one name in `new` until it was moved to one in `cur` before
+-- that stood under one name all along is listed, or under one name in `new` until it was moved to
+-- one in `cur` before
 -- that was listed; and where nobody else acted they are those of the folder.
-pub record SawMaildir (path : List ℕ) (messages : List Message) (m n : ℕ) (past : Past) : Type 0 where
-  pub in_order : are_in_order messages ≡ true
-  pub stood : AllStood path m n past messages
-  pub listed : ℕ
-  pub from : m ≤ listed
-  pub to : listed ≤ n
-  pub answer : Answer
-  pub call : take 1 (drop listed past.journal) ≡ Own (ListDir (directory true path)) answer ∷ []
-  pub stayed : (file : MaildirFile) → is_shown file.name ≡ true → StaysThere path file m n past
-      → has_key (base_of file) messages ≡ true
-  pub moved : (name new_name : List ℕ) (mark : ℕ) → m ≤ mark → mark < listed
-      → is_shown name ≡ true → is_shown new_name ≡ true → (split_name new_name).0 ≡ (split_name name).0
-      → StaysThere path (record { in_cur = false; name = name }) m mark past
-      → StaysThere path (record { in_cur = true; name = new_name }) (mark + 1) n past
-      → has_key (split_name name).0 messages ≡ true
-  pub alone : AloneBetween m n past → maildir_reads (tree_at past n) path ≡ Some messages
+pub record SawMaildir (path : List ℕ) (messages : List Message) (m n : ℕ) (past : Past) : Type 0
+  where
+    pub in_order : are_in_order messages ≡ true
+    pub stood : AllStood path m n past messages
+    pub listed : ℕ
+    pub from : m ≤ listed
+    pub to : listed ≤ n
+    pub answer : Answer
+    pub call : take 1 (drop listed past.journal) ≡ Own (ListDir (directory true path)) answer ∷ []
+    pub stayed : (file : MaildirFile) → is_shown file.name ≡ true → StaysThere path file m n past
+        → has_key (base_of file) messages ≡ true
+    pub moved : (name new_name : List ℕ) (mark : ℕ) → m ≤ mark → mark < listed
+        → is_shown name ≡ true → is_shown new_name ≡ true
+        → (split_name new_name).0 ≡ (split_name name).0
+        → StaysThere path (record { in_cur = false; name = name }) m mark past
+        → StaysThere path (record { in_cur = true; name = new_name }) (mark + 1) n past
+        → has_key (split_name name).0 messages ≡ true
+    pub alone : AloneBetween m n past → maildir_reads (tree_at past n) path ≡ Some messages
 
 -- the messages may be listed, and neither bytes nor stamps of a Maildir are kept
-pub record SawListed (letters : ℕ) (known : KnownFolder) (messages : List Message) (m n : ℕ) (past : Past) : Type 0 where
+pub record SawListed (letters : ℕ) (known : KnownFolder) (messages : List Message) (m n : ℕ)
+    (past : Past) : Type 0 where
   pub saw : SawMaildir known.path messages m n past
   pub taken : list_refusal letters messages ≡ None
   pub bytes : known.bytes ≡ []
@@ -167,6 +179,7 @@ maildir_format = record {
   letter = maildir_letter;
   Saw = SawListed;
   Refused = λ letters path why m n past.
-      DirectoryRefused is_maildir (λ messages. SawMaildir path messages m n past) letters path why m n past;
+      DirectoryRefused is_maildir (λ messages. SawMaildir path messages m n past) letters path why m
+      n past;
   Costs = λ came old new. RaisesAtMost old new (cores_together came);
 }

@@ -1,6 +1,6 @@
 -- Names of the files of a Maildir (maildir(5)): a base, and behind the last `:2,` the letters.
-use Rattle.std.specs.Prelude.{◌==◌, ◌+◌, ◌-◌, ◌*◌, ◌||◌, ℕ, Bool, false, min, List, [], ◌∷◌, length, take, codes}
-use Rattle.std.specs.Prelude.{Option, Some, None, if◌then◌else◌}
+use Rattle.std.specs.Prelude.{◌==◌, ◌+◌, ◌-◌, ◌*◌, ◌||◌, ℕ, Bool, false, min, List, [], ◌∷◌, length}
+use Rattle.std.specs.Prelude.{take, codes, Option, Some, None, if◌then◌else◌}
 use Rattle.std.specs.Char.{is_ascii_digit}
 use Rattle.std.specs.List.{list_any}
 use Rattle.std.specs.Option.{option_or}

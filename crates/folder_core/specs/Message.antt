@@ -6,7 +6,8 @@ use Rattle.std.specs.Ordering.{is_lt, nat_cmp, ordering_then}
 use Rattle.std.specs.Str.{bytes_eq}
 use Rattle.mail_base.specs.declared.flags.Flags.{Flags}
 
--- Its place among the folder's messages, what tells it from others at the same place, its flags and its bytes. The
+-- Its place among the folder's messages, what tells it from others at the same place, its flags and
+-- its bytes. The
 -- messages of an mbox have the order of the file alone, so that place and key say nothing there.
 pub record Message : Type 0 where
   pub order : ℕ
@@ -23,7 +24,8 @@ abbrev pub bytes_together : List Message → ℕ
 bytes_together [] = 0
 bytes_together (message ∷ messages) = length message.raw + bytes_together messages
 
--- one message stands before another in its folder: by its place, and by its key where that is the same
+-- one message stands before another in its folder: by its place, and by its key where that is the
+-- same
 abbrev pub stands_before : Message → Message → Bool
 stands_before a b = is_lt (ordering_then (nat_cmp a.order b.order) (slice_cmp nat_cmp a.key b.key))
 

@@ -1,6 +1,7 @@
--- A folder of a numbered file a message (mh-mail(5)), whose flags stand in the sequences of `.mh_sequences`.
-use Rattle.std.specs.Prelude.{◌≡◌, ◌≤◌, ℕ, pos, Bool, true, List, [], ◌∷◌, codes}
-use Rattle.std.specs.Prelude.{Option, Some, None, is_some, option_and_then, unwrap_or, if◌then◌else◌}
+-- A folder of a numbered file a message (mh-mail(5)), whose flags stand in the sequences of
+-- `.mh_sequences`.
+use Rattle.std.specs.Prelude.{◌≡◌, ◌≤◌, ℕ, pos, Bool, true, List, [], ◌∷◌, codes, Option, Some}
+use Rattle.std.specs.Prelude.{None, is_some, option_and_then, unwrap_or, if◌then◌else◌}
 use Rattle.std.specs.Cmp.Lexicographic.{slice_cmp}
 use Rattle.std.specs.List.{dedup, filter, filter_map}
 use Rattle.std.specs.Ordering.{is_lt, nat_cmp, ordering_then}
@@ -10,7 +11,8 @@ use Rattle.disk_model.specs.Journal.{Past}
 use Rattle.disk_model.specs.Names.{names_in}
 use Rattle.disk_model.specs.State.{tree_at}
 use Rattle.disk_model.specs.Tree.{TreeNode, node_at}
-use Rattle.folder_core.specs.Directory.{AloneBetween, DirectoryRefused, file_at, is_folder_at, path_in}
+use Rattle.folder_core.specs.Directory.{AloneBetween, DirectoryRefused, file_at, is_folder_at}
+use Rattle.folder_core.specs.Directory.{path_in}
 use Rattle.folder_core.specs.Format.{Format}
 use Rattle.folder_core.specs.Known.{KnownFolder}
 use Rattle.folder_core.specs.Letters.{Mail}
@@ -45,7 +47,8 @@ message_of sequences name (b ∷ raw) = Some (record {
   raw = b ∷ raw;
 })
 
--- the message of a name, where a file that is not empty has it; its flags by the file of the sequences
+-- the message of a name, where a file that is not empty has it; its flags by the file of the
+-- sequences
 abbrev pub message_at : List TreeNode → List ℕ → List ℕ → List ℕ → Option Message
 message_at tree path sequences name =
     option_and_then (message_of sequences name) (file_at tree (path_in path name))
@@ -83,8 +86,10 @@ abbrev pub stamp_there : Option TreeNode → ℕ
 stamp_there None = 0
 stamp_there (Some node) = node.stamp
 
--- a message with these flags stood in the folder at a mark between two marks, in a file with this stamp
-pub record Stood (path sequences : List ℕ) (m n : ℕ) (past : Past) (message : Message) (stamp : ℕ) : Type 0 where
+-- a message with these flags stood in the folder at a mark between two marks, in a file with this
+-- stamp
+pub record Stood (path sequences : List ℕ) (m n : ℕ) (past : Past) (message : Message)
+    (stamp : ℕ) : Type 0 where
   pub mark : ℕ
   pub from : m ≤ mark
   pub to : mark ≤ n
@@ -104,10 +109,13 @@ abbrev pub StaysThere : List ℕ → List ℕ → ℕ → ℕ → Past → Type 
 StaysThere path name m n past = (mark : ℕ) → m ≤ mark → mark ≤ n
     → is_some (message_at (tree_at past mark) path [] name) ≡ true
 
--- What a scan saw between two marks: the sequences at one of them; each message that it lists stood there once with its
--- number and bytes, and has the flags of the sequences; one that stood there all along is listed; and where nobody else
+-- What a scan saw between two marks: the sequences at one of them; each message that it lists stood
+-- there once with its
+-- number and bytes, and has the flags of the sequences; one that stood there all along is listed;
+-- and where nobody else
 -- acted they are those of the folder.
-pub record SawMh (path : List ℕ) (messages : List Message) (stamps : List ℕ) (m n : ℕ) (past : Past) : Type 0 where
+pub record SawMh (path : List ℕ) (messages : List Message) (stamps : List ℕ) (m n : ℕ)
+    (past : Past) : Type 0 where
   pub mark : ℕ
   pub from : m ≤ mark
   pub to : mark ≤ n
@@ -118,16 +126,18 @@ pub record SawMh (path : List ℕ) (messages : List Message) (stamps : List ℕ)
   pub alone : AloneBetween m n past → mh_reads (tree_at past n) path ≡ Some messages
 
 -- the messages may be listed, and the stamps of their files are kept
-pub record SawNumbered (letters : ℕ) (known : KnownFolder) (messages : List Message) (m n : ℕ) (past : Past)
+pub record SawNumbered (letters : ℕ) (known : KnownFolder) (messages : List Message) (m n : ℕ)
+    (past : Past)
     : Type 0 where
   pub saw : SawMh known.path messages known.stamps m n past
   pub taken : list_refusal letters messages ≡ None
   pub bytes : known.bytes ≡ []
 
 -- some stamps go with what was seen
-pub record SawStamped (path : List ℕ) (messages : List Message) (m n : ℕ) (past : Past) : Type 0 where
-  pub stamps : List ℕ
-  pub saw : SawMh path messages stamps m n past
+pub record SawStamped (path : List ℕ) (messages : List Message) (m n : ℕ) (past : Past) : Type 0
+  where
+    pub stamps : List ℕ
+    pub saw : SawMh path messages stamps m n past
 
 abbrev pub mh_format : Format
 mh_format = record {
@@ -136,6 +146,7 @@ mh_format = record {
   letter = mh_letter;
   Saw = SawNumbered;
   Refused = λ letters path why m n past.
-      DirectoryRefused is_folder_at (λ messages. SawStamped path messages m n past) letters path why m n past;
+      DirectoryRefused is_folder_at (λ messages. SawStamped path messages m n past) letters path why
+      m n past;
   Costs = λ came old new. Unit {0};
 }

@@ -1,7 +1,9 @@
--- Which numbers stand in the sequences of an MH folder (mh-sequence(5)): lines `name: ranges`, ranges being `n` or
--- `n-m` with blanks between. Of two lines of one name both count, and a line that is not of this form says nothing.
-use Rattle.std.specs.Prelude.{◌==◌, ◌&&◌, ◌||◌, ℕ, Bool, false, not, nat_le, nat_lt, List, [], ◌∷◌, ◌++◌}
-use Rattle.std.specs.Prelude.{length, codes, Option, Some, None, unwrap_or, if◌then◌else◌}
+-- Which numbers stand in the sequences of an MH folder (mh-sequence(5)): lines `name: ranges`,
+-- ranges being `n` or
+-- `n-m` with blanks between. Of two lines of one name both count, and a line that is not of this
+-- form says nothing.
+use Rattle.std.specs.Prelude.{◌==◌, ◌&&◌, ◌||◌, ℕ, Bool, false, not, nat_le, nat_lt, List, [], ◌∷◌}
+use Rattle.std.specs.Prelude.{◌++◌, length, codes, Option, Some, None, unwrap_or, if◌then◌else◌}
 use Rattle.std.specs.List.{list_any}
 use Rattle.std.specs.Str.{byte, bytes_eq}
 use Rattle.mail_base.specs.Blanks.{is_blank}
@@ -10,7 +12,8 @@ use Rattle.mail_base.specs.Places.{split_once}
 use Rattle.mail_base.specs.declared.flags.Flags.{Flags}
 use Rattle.folder_core.specs.MhNumbers.{number_of}
 
--- the lines of a text, of which the first has these bytes so far; a last line without a line end counts where it is
+-- the lines of a text, of which the first has these bytes so far; a last line without a line end
+-- counts where it is
 -- not empty
 abbrev pub last_text : List ℕ → List (List ℕ)
 last_text [] = []
@@ -18,16 +21,20 @@ last_text (b ∷ line) = (b ∷ line) ∷ []
 
 abbrev pub text_lines : List ℕ → List ℕ → List (List ℕ)
 text_lines so_far [] = last_text so_far
-text_lines so_far (b ∷ rest) = if b == 10 then so_far ∷ text_lines [] rest else text_lines (so_far ++ b ∷ []) rest
+text_lines so_far (b ∷ rest) =
+    if b == 10 then so_far ∷ text_lines [] rest else text_lines (so_far ++ b ∷ []) rest
 
--- the words of a text, of which the first has these bytes so far; between two blanks stands an empty one
+-- the words of a text, of which the first has these bytes so far; between two blanks stands an
+-- empty one
 abbrev pub words_of : List ℕ → List ℕ → List (List ℕ)
 words_of so_far [] = so_far ∷ []
-words_of so_far (b ∷ rest) = if is_blank b then so_far ∷ words_of [] rest else words_of (so_far ++ b ∷ []) rest
+words_of so_far (b ∷ rest) =
+    if is_blank b then so_far ∷ words_of [] rest else words_of (so_far ++ b ∷ []) rest
 
 -- whether a number is from one to another; upside down they are no range
 abbrev pub between_holds : ℕ → ℕ → ℕ → Option Bool
-between_holds n first last = if nat_le first last then Some (nat_le first n && nat_le n last) else None
+between_holds n first last =
+    if nat_le first last then Some (nat_le first n && nat_le n last) else None
 
 abbrev pub range_by : ℕ → List ℕ → Option (List ℕ × List ℕ) → Option Bool
 range_by n word None = number_of word >>= λ number. Some (nat_le number n && nat_le n number)
@@ -51,7 +58,8 @@ is_sequence_name name = nat_lt 0 (length name) && not (list_any is_blank name)
 
 abbrev pub named_holds : List ℕ → ℕ → List ℕ × List ℕ → Bool
 named_holds name n parts =
-    is_sequence_name parts.0 && bytes_eq parts.0 name && unwrap_or (ranges_hold n (words_of [] parts.1)) false
+    is_sequence_name parts.0 && bytes_eq parts.0 name
+    && unwrap_or (ranges_hold n (words_of [] parts.1)) false
 
 abbrev pub split_holds : List ℕ → ℕ → Option (List ℕ × List ℕ) → Bool
 split_holds name n None = false

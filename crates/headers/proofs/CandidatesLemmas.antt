@@ -13,7 +13,8 @@ list_any-map p f [] = refl
 list_any-map p f (x ∷ xs) = ap (λ t. p (f x) || t) (list_any-map p f xs)
 
 new_ids_if : (t : Bool) (names : List (List ℕ)) (id : List ℕ) (rest : List (List ℕ))
-    → (if t then names else names ++ id ∷ []) ++ new_ids (if t then names else names ++ id ∷ []) rest ≡ names
+    → (if t then names else names ++ id ∷ [])
+    ++ new_ids (if t then names else names ++ id ∷ []) rest ≡ names
     ++ (if t then new_ids names rest else id ∷ new_ids (names ++ id ∷ []) rest)
 new_ids_if true names id rest = refl
 new_ids_if false names id rest = append_assoc names (id ∷ []) (new_ids (names ++ id ∷ []) rest)

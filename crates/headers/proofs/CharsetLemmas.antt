@@ -7,7 +7,8 @@ use Rattle.std.proofs.lemmas.Str.{encode_ascii}
 use Rattle.headers.specs.Charset.{ascii_text}
 
 -- ASCII is shown as it is in each charset
-pub ascii_text_front : (front rest : List ℕ) → IsAscii front → ascii_text (front ++ rest) ≡ front ++ ascii_text rest
+pub ascii_text_front : (front rest : List ℕ) → IsAscii front
+    → ascii_text (front ++ rest) ≡ front ++ ascii_text rest
 ascii_text_front [] rest ascii = refl
 ascii_text_front (b ∷ front) rest ascii =
     let small : nat_lt b 128 ≡ true = let below = ascii 0 in grind (arith, nat_tests) in

@@ -1,6 +1,6 @@
 -- How a field goes on in the lines behind its first.
-use Rattle.std.proofs.Common.{◌≡◌, ◌∙◌, ◌==◌, ℕ, ◌+◌, ◌<◌, ◌≤◌, Bool, true, false, List, [], ◌∷◌, ◌++◌, length}
-use Rattle.std.proofs.Common.{refl, sym, ap, arith}
+use Rattle.std.proofs.Common.{◌≡◌, ◌∙◌, ◌==◌, ℕ, ◌+◌, ◌<◌, ◌≤◌, Bool, true, false, List, [], ◌∷◌}
+use Rattle.std.proofs.Common.{◌++◌, length, refl, sym, ap, arith}
 use Rattle.std.proofs.lemmas.Bool.{false≢true}
 use Rattle.std.proofs.lemmas.List.{length-append}
 use Rattle.bstr.specs.Text.{lines_of}
@@ -12,21 +12,25 @@ use Rattle.mail_base.specs.Lines.{is_continuation}
 
 without_blanks_twice_if : (t : Bool) (b : ℕ) (rest : List ℕ) → is_blank b ≡ t
     → without_blanks (without_blanks rest) ≡ without_blanks rest
-    → without_blanks (if t then without_blanks rest else b ∷ rest) ≡ (if t then without_blanks rest else b ∷ rest)
+    → without_blanks (if t then without_blanks rest else b ∷ rest)
+    ≡ (if t then without_blanks rest else b ∷ rest)
 without_blanks_twice_if true b rest is more = more
 without_blanks_twice_if false b rest is more = rw is refl
 
 -- a text without blanks at its front has none there
 pub without_blanks_twice : (s : List ℕ) → without_blanks (without_blanks s) ≡ without_blanks s
 without_blanks_twice [] = refl
-without_blanks_twice (b ∷ rest) = without_blanks_twice_if (is_blank b) b rest refl (without_blanks_twice rest)
+without_blanks_twice (b ∷ rest) =
+    without_blanks_twice_if (is_blank b) b rest refl (without_blanks_twice rest)
 
 -- blanks at the front of a text may go before more stands behind it
-pub without_blanks_front : (s more : List ℕ) → without_blanks (without_blanks s ++ more) ≡ without_blanks (s ++ more)
+pub without_blanks_front : (s more : List ℕ)
+    → without_blanks (without_blanks s ++ more) ≡ without_blanks (s ++ more)
 without_blanks_front [] more = refl
 without_blanks_front (b ∷ s) more = by_blank (is_blank b) refl (without_blanks_front s more)
   where
-    by_blank : (t : Bool) → is_blank b ≡ t → without_blanks (without_blanks s ++ more) ≡ without_blanks (s ++ more)
+    by_blank : (t : Bool) → is_blank b ≡ t
+        → without_blanks (without_blanks s ++ more) ≡ without_blanks (s ++ more)
         → without_blanks ((if t then without_blanks s else b ∷ s) ++ more)
         ≡ (if t then without_blanks (s ++ more) else b ∷ s ++ more)
     by_blank true e h = h
@@ -44,7 +48,8 @@ pub field_has_bytes : (line : List ℕ) (k : ℕ) → k < length line → 0 < le
 field_has_bytes line k within = omega (arith, within)
 
 -- what stands behind the first of some lines is shorter than they are
-pub behind_is_shorter : (text behind line : List ℕ) (lines rest : List (List ℕ)) → length (concat lines) ≤ length text
+pub behind_is_shorter : (text behind line : List ℕ) (lines rest : List (List ℕ))
+    → length (concat lines) ≤ length text
     → lines ≡ line ∷ rest → lines_of behind ≡ rest → 0 < length line → length behind < length text
 behind_is_shorter text behind line lines rest within step are some =
     let sum : length (concat lines) ≡ length line + length behind =
@@ -62,7 +67,8 @@ shorter (b ∷ rest) = shorter_if (is_blank b) b rest (shorter rest)
     shorter_if true b rest less = omega (arith, less)
     shorter_if false b rest less = omega arith
 
-front_if : (t : Bool) (b : ℕ) (rest more : List ℕ) → is_blank b ≡ t → (if t then without_blanks rest else b ∷ rest) ≡ b ∷ rest
+front_if : (t : Bool) (b : ℕ) (rest more : List ℕ) → is_blank b ≡ t
+    → (if t then without_blanks rest else b ∷ rest) ≡ b ∷ rest
     → (if t then without_blanks (rest ++ more) else b ∷ rest ++ more) ≡ b ∷ rest ++ more
 front_if true b rest more is none =
     let long : length (b ∷ rest) ≤ length rest = omega (arith, ap length none, shorter rest) in
@@ -70,6 +76,7 @@ front_if true b rest more is none =
 front_if false b rest more is none = refl
 
 -- what has no blanks at its front has none where more stands behind it
-pub front_stays : (s more : List ℕ) → without_blanks s ≡ s → 0 < length s → without_blanks (s ++ more) ≡ s ++ more
+pub front_stays : (s more : List ℕ) → without_blanks s ≡ s → 0 < length s
+    → without_blanks (s ++ more) ≡ s ++ more
 front_stays [] more none some = absurd (omega (arith, some))
 front_stays (b ∷ rest) more none some = front_if (is_blank b) b rest more refl none

@@ -1,6 +1,6 @@
 -- Texts that keep their length without the blanks at their ends.
-use Rattle.std.proofs.Common.{◌≡◌, ℕ, ◌-◌, ◌≤◌, Bool, true, false, List, [], ◌∷◌, length, refl, ap, ◌∙◌}
-use Rattle.std.proofs.Common.{length-take-le, length-drop, arith}
+use Rattle.std.proofs.Common.{◌≡◌, ℕ, ◌-◌, ◌≤◌, Bool, true, false, List, [], ◌∷◌, length, refl, ap}
+use Rattle.std.proofs.Common.{◌∙◌, length-take-le, length-drop, arith}
 use Rattle.std.specs.Prelude.{not, if◌then◌else◌}
 use Rattle.std.specs.List.{position_or_len, suffix_len}
 use Rattle.std.proofs.lemmas.List.{take_all}
@@ -29,4 +29,5 @@ trimmed_whole s long =
     let below : n ≤ length front = omega arith in
     let size : length (trimmed s) ≡ n = length-take-le n front below in
     let shorter = no_longer s in
-    take_all n front (omega (arith, long, size, shorter)) ∙ front_stays s (omega (arith, long, size, below))
+    take_all n front (omega (arith, long, size, shorter))
+    ∙ front_stays s (omega (arith, long, size, below))

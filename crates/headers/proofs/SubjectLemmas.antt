@@ -1,6 +1,7 @@
 -- What stands behind reply prefixes: it is shorter, and it stays UTF-8.
-use Rattle.std.proofs.Common.{◌≡◌, ℕ, zero, suc, ◌+◌, ◌<◌, ◌≤◌, ◌==◌, ◌&&◌, Bool, true, false, not, cond, List}
-use Rattle.std.proofs.Common.{[], ◌∷◌, length, drop, Option, Some, None, unwrap_or, refl, sym, subst, arith}
+use Rattle.std.proofs.Common.{◌≡◌, ℕ, zero, suc, ◌+◌, ◌<◌, ◌≤◌, ◌==◌, ◌&&◌, Bool, true, false, not}
+use Rattle.std.proofs.Common.{cond, List, [], ◌∷◌, length, drop, Option, Some, None, unwrap_or}
+use Rattle.std.proofs.Common.{refl, sym, subst, arith}
 use Rattle.std.proofs.lemmas.Bool.{and_parts, eqb-true}
 use Rattle.std.proofs.lemmas.Bool.Decides.{nat_tests}
 use Rattle.std.proofs.lemmas.Str.{IsUtf8-drop, IsCharBoundary-after_ascii}
@@ -11,8 +12,8 @@ use Rattle.std.specs.Option.{option_or}
 use Rattle.std.specs.Prelude.{option_and_then, if◌then◌else◌}
 use Rattle.mail_base.specs.Blanks.{is_blank, without_blanks}
 use Rattle.mail_base.specs.Fronts.{behind}
-use Rattle.headers.specs.Subject.{behind_letters, digits_len, behind_number, behind_re, behind_reply, behind_prefix}
-use Rattle.headers.specs.Subject.{base_from}
+use Rattle.headers.specs.Subject.{behind_letters, digits_len, behind_number, behind_re}
+use Rattle.headers.specs.Subject.{behind_reply, behind_prefix, base_from}
 
 utf8_tail : (b : ℕ) (rest : List ℕ) → b < 128 → IsUtf8 (b ∷ rest) → IsUtf8 rest
 utf8_tail b rest ascii utf8 =
@@ -23,11 +24,13 @@ abbrev pub Keeps : List ℕ → Option (List ℕ) → Type 0
 Keeps s None = Unit {0}
 Keeps s (Some rest) = IsUtf8 s → IsUtf8 rest
 
-keeps_if : (s : List ℕ) (t : Bool) (o : Option (List ℕ)) → (t ≡ true → Keeps s o) → Keeps s (if t then o else None)
+keeps_if : (s : List ℕ) (t : Bool) (o : Option (List ℕ)) → (t ≡ true → Keeps s o)
+    → Keeps s (if t then o else None)
 keeps_if s true o h = h refl
 keeps_if s false o h = tt
 
-keeps_unless : (s : List ℕ) (t : Bool) (o : Option (List ℕ)) → Keeps s o → Keeps s (if t then None else o)
+keeps_unless : (s : List ℕ) (t : Bool) (o : Option (List ℕ)) → Keeps s o
+    → Keeps s (if t then None else o)
 keeps_unless s true o h = tt
 keeps_unless s false o h = h
 
@@ -51,7 +54,8 @@ keeps_else s (Some r) b h k = h
 keeps_behind : (byte : ℕ) (s : List ℕ) → byte < 128 → Keeps s (behind byte s)
 keeps_behind byte [] ascii = tt
 keeps_behind byte (b ∷ rest) ascii =
-    keeps_if (b ∷ rest) (b == byte) (Some rest) (λ e utf8. utf8_tail b rest (omega (arith, eqb-true b byte e)) utf8)
+    keeps_if (b ∷ rest) (b == byte) (Some rest)
+    (λ e utf8. utf8_tail b rest (omega (arith, eqb-true b byte e)) utf8)
 
 lower_small : (a x : ℕ) → x < 128 → (to_ascii_lowercase a == x) ≡ true → a < 128
 lower_small a x small e = grind (arith, nat_tests)
@@ -67,13 +71,15 @@ keeps_letters x y (a ∷ b ∷ rest) sx sy =
 digit_small : (b : ℕ) → is_ascii_digit b ≡ true → b < 128
 digit_small b e = grind (arith, nat_tests)
 
-utf8_drop_if : (digit : Bool) (n b : ℕ) (rest : List ℕ) → (digit ≡ true → IsUtf8 (drop n rest)) → IsUtf8 (b ∷ rest)
+utf8_drop_if : (digit : Bool) (n b : ℕ) (rest : List ℕ) → (digit ≡ true → IsUtf8 (drop n rest))
+    → IsUtf8 (b ∷ rest)
     → IsUtf8 (drop (cond (not (not digit)) (1 + n) 0) (b ∷ rest))
 utf8_drop_if true n b rest more utf8 = let e : 1 + n ≡ suc n =
     omega arith in subst (λ k. IsUtf8 (drop k (b ∷ rest))) (sym e) (more refl)
 utf8_drop_if false n b rest more utf8 = utf8
 
-utf8_behind_digits : (s : List ℕ) → IsUtf8 s → IsUtf8 (drop (position_or_len (λ b. not (is_ascii_digit b)) s) s)
+utf8_behind_digits : (s : List ℕ) → IsUtf8 s
+    → IsUtf8 (drop (position_or_len (λ b. not (is_ascii_digit b)) s) s)
 utf8_behind_digits [] utf8 = utf8
 utf8_behind_digits (b ∷ rest) utf8 =
     utf8_drop_if (is_ascii_digit b) (position_or_len (λ c. not (is_ascii_digit c)) rest) b rest
@@ -107,14 +113,16 @@ keeps_prefix s =
     (keeps_then s (behind_letters 114 101 s) _ (keeps_letters 114 101 s (omega arith) (omega arith))
     (λ a. keeps_or a (behind_number a) (keeps_number a)))
     (keeps_letters 97 119 s (omega arith) (omega arith)))
-    (λ a. keeps_then a (behind 58 a) _ (keeps_behind 58 a (omega arith)) (λ b. utf8_without_blanks b))
+    (λ a. keeps_then a (behind 58 a) _ (keeps_behind 58 a (omega arith))
+    (λ b. utf8_without_blanks b))
 
 -- what stands behind a prefix of UTF-8 is UTF-8
 pub utf8_behind_prefix : (s rest : List ℕ) → behind_prefix s ≡ Some rest → IsUtf8 s → IsUtf8 rest
 utf8_behind_prefix s rest found = subst (Keeps s) found (keeps_prefix s)
 
 -- what is left of a subject behind a prefix
-pub base_from-found : (n : ℕ) (s rest : List ℕ) → length s ≤ n → length rest < length s → behind_prefix s ≡ Some rest
+pub base_from-found : (n : ℕ) (s rest : List ℕ) → length s ≤ n → length rest < length s
+    → behind_prefix s ≡ Some rest
     → (m : ℕ) × (length rest ≤ m) × (base_from n s ≡ base_from m rest)
 base_from-found zero s rest long shorter found = absurd (omega arith)
 base_from-found (suc m) s rest long shorter found = (m, omega arith, rw found refl)

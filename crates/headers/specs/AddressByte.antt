@@ -2,8 +2,10 @@
 use Rattle.std.specs.Prelude.{ℕ, Bool, true, false, List, map}
 use Rattle.headers.specs.declared.address_byte.AddressByte.{AddressByte}
 use Rattle.headers.specs.declared.address_byte.Role.{Role}
-use Rattle.headers.specs.declared.address_byte.Role.TheVariants.{Text, Quote, CommentStart, CommentText, CommentEnd}
-use Rattle.headers.specs.declared.address_byte.Role.TheVariants.{AngleStart, AngleEnd, GroupEnd, Separator}
+use Rattle.headers.specs.declared.address_byte.Role.TheVariants.{Text, Quote, CommentStart}
+use Rattle.headers.specs.declared.address_byte.Role.TheVariants.{CommentText, CommentEnd}
+use Rattle.headers.specs.declared.address_byte.Role.TheVariants.{AngleStart, AngleEnd, GroupEnd}
+use Rattle.headers.specs.declared.address_byte.Role.TheVariants.{Separator}
 
 -- the roles are the same
 abbrev pub is_role : Role → Role → Bool

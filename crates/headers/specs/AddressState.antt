@@ -1,13 +1,18 @@
--- What the bytes of an address list are: text, quotes, comments, brackets, separators (RFC 5322, sections 3.2, 3.4).
-use Rattle.std.specs.Prelude.{◌+◌, ◌-◌, ◌==◌, ◌||◌, ℕ, Bool, true, false, not, nat_le, List, [], ◌∷◌, if◌then◌else◌}
+-- What the bytes of an address list are: text, quotes, comments, brackets, separators (RFC 5322,
+-- sections 3.2, 3.4).
+use Rattle.std.specs.Prelude.{◌+◌, ◌-◌, ◌==◌, ◌||◌, ℕ, Bool, true, false, not, nat_le, List, []}
+use Rattle.std.specs.Prelude.{◌∷◌, if◌then◌else◌}
 use Rattle.std.specs.Str.{byte}
 use Rattle.headers.specs.declared.address_byte.AddressByte.{AddressByte}
 use Rattle.headers.specs.declared.address_byte.Role.{Role}
-use Rattle.headers.specs.declared.address_byte.Role.TheVariants.{Text, Quote, CommentStart, CommentText, CommentEnd}
-use Rattle.headers.specs.declared.address_byte.Role.TheVariants.{AngleStart, AngleEnd, GroupEnd, Separator}
+use Rattle.headers.specs.declared.address_byte.Role.TheVariants.{Text, Quote, CommentStart}
+use Rattle.headers.specs.declared.address_byte.Role.TheVariants.{CommentText, CommentEnd}
+use Rattle.headers.specs.declared.address_byte.Role.TheVariants.{AngleStart, AngleEnd, GroupEnd}
+use Rattle.headers.specs.declared.address_byte.Role.TheVariants.{Separator}
 use Rattle.headers.specs.declared.address_state.AddressState.{AddressState}
 use Rattle.headers.specs.declared.address_state.Within.{Within}
-use Rattle.headers.specs.declared.address_state.Within.TheVariants.{Plain, Quotes, QuotedPair, Comment, CommentPair}
+use Rattle.headers.specs.declared.address_state.Within.TheVariants.{Plain, Quotes, QuotedPair}
+use Rattle.headers.specs.declared.address_state.Within.TheVariants.{Comment, CommentPair}
 
 abbrev pub state_in : Bool → Within → AddressState
 state_in in_angle within = record { in_angle = in_angle; within = within }
@@ -17,15 +22,19 @@ abbrev pub plain_step : Bool → ℕ → Role × AddressState
 plain_step in_angle b =
     if b == byte "\"" then (Quote, state_in in_angle Quotes)
     else (if b == byte "(" then (CommentStart, state_in in_angle (Comment 1))
-    else (if in_angle then (if b == byte ">" then (AngleEnd, state_in false Plain) else (Text, state_in true Plain))
+    else (if in_angle
+    then (if b == byte ">" then (AngleEnd, state_in false Plain)
+    else (Text, state_in true Plain))
     else (if b == byte "<" then (AngleStart, state_in true Plain)
     else (if b == byte ":" then (GroupEnd, state_in false Plain)
-    else (if b == byte "," || b == byte ";" then (Separator, state_in false Plain) else (Text, state_in false Plain))))))
+    else (if b == byte "," || b == byte ";" then (Separator, state_in false Plain)
+    else (Text, state_in false Plain))))))
 
 -- in quotes a backslash makes the byte behind it text (section 3.2.4)
 abbrev pub quotes_step : ℕ → Role × Within
 quotes_step b =
-    if b == byte "\"" then (Quote, Plain) else (if b == byte "\\" then (Quote, QuotedPair) else (Text, Quotes))
+    if b == byte "\"" then (Quote, Plain)
+    else (if b == byte "\\" then (Quote, QuotedPair) else (Text, Quotes))
 
 -- comments may stand in comments (section 3.2.2)
 abbrev pub comment_step : ℕ → ℕ → Role × Within
@@ -73,4 +82,5 @@ address_bytes value = bytes_from (state_in false Plain) value
 -- a byte that is text wherever it stands outside quotes and comments
 abbrev pub is_common : ℕ → Bool
 is_common b =
-    not (b == byte "\"" || b == byte "(" || b == byte "," || b == byte ":" || b == byte ";" || b == byte "<" || b == byte ">")
+    not (b == byte "\"" || b == byte "(" || b == byte "," || b == byte ":" || b == byte ";"
+    || b == byte "<" || b == byte ">")

@@ -15,15 +15,18 @@ with_id names id = if list_any (bytes_eq id) names then names else names ++ id �
 abbrev pub new_ids : List (List ℕ) → List (List ℕ) → List (List ℕ)
 new_ids names [] = []
 new_ids names (id ∷ rest) =
-    if list_any (bytes_eq id) names then new_ids names rest else id ∷ new_ids (names ++ id ∷ []) rest
+    if list_any (bytes_eq id) names then new_ids names rest
+    else id ∷ new_ids (names ++ id ∷ []) rest
 
--- whom a message may answer: the first id replied to, then at most 64 references from the last on, each once
+-- whom a message may answer: the first id replied to, then at most 64 references from the last on,
+-- each once
 abbrev pub candidates_of : List (List ℕ) → List (List ℕ) → List (List ℕ)
 candidates_of replied references = new_ids [] (replied ++ last_ids references)
 
 -- the ids of the messages that this one may answer, the most likely first
 abbrev pub candidates : List PlainField → List (List ℕ)
-candidates fields = candidates_of (option_to_list (id_in (codes "in-reply-to") fields)) (references fields)
+candidates fields =
+    candidates_of (option_to_list (id_in (codes "in-reply-to") fields)) (references fields)
 
 -- For the code alone.
 

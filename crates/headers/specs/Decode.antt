@@ -1,6 +1,6 @@
 -- Text with its encoded words decoded (RFC 2047, section 6).
-use Rattle.std.specs.Prelude.{◌&&◌, ℕ, zero, suc, Bool, true, false, List, [], ◌∷◌, ◌++◌, Option, Some, None}
-use Rattle.std.specs.Prelude.{option_map, length, if◌then◌else◌}
+use Rattle.std.specs.Prelude.{◌&&◌, ℕ, zero, suc, Bool, true, false, List, [], ◌∷◌, ◌++◌, Option}
+use Rattle.std.specs.Prelude.{Some, None, option_map, length, if◌then◌else◌}
 use Rattle.mail_base.specs.Blanks.{is_all_blank}
 use Rattle.mail_base.specs.Shown.{utf8_text}
 use Rattle.headers.specs.EncodedWord.{PlainDecodedWord, encoded_word, plain_decoded_word}
@@ -29,7 +29,8 @@ first_word (b ∷ rest) = found_at b (encoded_word (b ∷ rest)) (first_word res
 abbrev pub text_before : Bool → List ℕ → List ℕ
 text_before after_word s = if after_word && is_all_blank s then [] else utf8_text s
 
--- the text before an encoded word, the word and what the rest gives; or a text without encoded words
+-- the text before an encoded word, the word and what the rest gives; or a text without encoded
+-- words
 abbrev pub decoded_around : (List ℕ → List ℕ) → Bool → List ℕ → Option PlainFoundWord → List ℕ
 decoded_around more after_word s None = utf8_text s
 decoded_around more after_word s (Some f) = text_before after_word f.before ++ f.text ++ more f.rest

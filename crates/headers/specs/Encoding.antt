@@ -1,5 +1,6 @@
 -- The encodings of encoded words (RFC 2047, section 4).
-use Rattle.std.specs.Prelude.{◌==◌, ◌||◌, ℕ, zero, suc, List, [], ◌∷◌, Option, Some, None, option_map, if◌then◌else◌}
+use Rattle.std.specs.Prelude.{◌==◌, ◌||◌, ℕ, zero, suc, List, [], ◌∷◌, Option, Some, None}
+use Rattle.std.specs.Prelude.{option_map, if◌then◌else◌}
 use Rattle.std.specs.Str.{byte}
 use Rattle.mail_base.specs.Base64Text.{base64_bytes}
 use Rattle.mail_base.specs.Fronts.{◌>>=◌}
@@ -16,9 +17,11 @@ encoding_of b =
 -- the byte that a text of the "Q" encoding begins with, and what follows it (section 4.2)
 abbrev pub quoted_byte : ℕ → List ℕ → Option (ℕ × List ℕ)
 quoted_byte b rest =
-    if b == byte "_" then Some (byte " ", rest) else (if b == byte "=" then hex_byte rest else Some (b, rest))
+    if b == byte "_" then Some (byte " ", rest)
+    else (if b == byte "=" then hex_byte rest else Some (b, rest))
 
--- the bytes of a text of the "Q" encoding, whose first so many bytes are digits of a byte already read
+-- the bytes of a text of the "Q" encoding, whose first so many bytes are digits of a byte already
+-- read
 abbrev pub quoted_from : ℕ → List ℕ → Option (List ℕ)
 quoted_from skip [] = Some []
 quoted_from (suc n) (b ∷ rest) = quoted_from n rest

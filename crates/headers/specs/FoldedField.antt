@@ -1,4 +1,5 @@
--- Fields as they stand in a message, where values may go on in further lines (RFC 5322, section 2.2.3).
+-- Fields as they stand in a message, where values may go on in further lines (RFC 5322, section
+-- 2.2.3).
 use Rattle.std.specs.Prelude.{◌++◌, ℕ, List, map}
 use Rattle.std.specs.List.{concat}
 use Rattle.bstr.specs.Text.{lines_of}
@@ -8,7 +9,8 @@ use Rattle.headers.specs.declared.folded_field.FoldedField.{FoldedField}
 use Rattle.headers.specs.declared.folded_field.Unfolded.{Unfolded}
 use Rattle.headers.specs.declared.folded_field.Unfolded.TheVariants.{Whole, Joined}
 
--- the lines of a text that continue the field before it, up to the next field or the end of the block
+-- the lines of a text that continue the field before it, up to the next field or the end of the
+-- block
 abbrev pub more_lines : List ℕ → List (List ℕ)
 more_lines text = continuations (header_block (lines_of text))
 

@@ -1,11 +1,13 @@
 -- The persons of address fields (RFC 5322, section 3.4).
-use Rattle.std.specs.Prelude.{ℕ, not, List, ◌++◌, filter, Option, Some, None, option_to_list, if◌then◌else◌}
-use Rattle.std.specs.List.{list_all, list_any, flat_map, slice_split, before_first, after_first, before_last}
-use Rattle.std.specs.List.{after_last}
+use Rattle.std.specs.Prelude.{ℕ, not, List, ◌++◌, filter, Option, Some, None, option_to_list}
+use Rattle.std.specs.Prelude.{if◌then◌else◌}
+use Rattle.std.specs.List.{list_all, list_any, flat_map, slice_split, before_first, after_first}
+use Rattle.std.specs.List.{before_last, after_last}
 use Rattle.mail_base.specs.Blanks.{is_blank, trimmed}
 use Rattle.headers.specs.declared.address_byte.AddressByte.{AddressByte}
-use Rattle.headers.specs.declared.address_byte.Role.TheVariants.{Quote, CommentStart, CommentEnd, AngleStart, AngleEnd}
-use Rattle.headers.specs.declared.address_byte.Role.TheVariants.{GroupEnd, Separator}
+use Rattle.headers.specs.declared.address_byte.Role.TheVariants.{Quote, CommentStart, CommentEnd}
+use Rattle.headers.specs.declared.address_byte.Role.TheVariants.{AngleStart, AngleEnd, GroupEnd}
+use Rattle.headers.specs.declared.address_byte.Role.TheVariants.{Separator}
 use Rattle.headers.specs.declared.people.Brackets.{Brackets}
 use Rattle.headers.specs.AddressByte.{bytes_of, has, is_comment}
 use Rattle.headers.specs.AddressState.{address_bytes}
@@ -16,7 +18,8 @@ use Rattle.headers.specs.Person.{PlainPerson}
 abbrev pub shown_name : List AddressByte → List ℕ
 shown_name bytes = decoded_words (trimmed (bytes_of bytes))
 
--- the last brackets, with what stands before, in and behind them; brackets that are not closed reach to the end
+-- the last brackets, with what stands before, in and behind them; brackets that are not closed
+-- reach to the end
 pub record PlainBrackets : Type 0 where
   pub before : List AddressByte
   pub inside : List AddressByte
@@ -59,12 +62,14 @@ person_of bytes (Some b) = bracketed b
 abbrev pub person_in : List AddressByte → Option PlainPerson
 person_in piece =
     let bytes = after_last (has GroupEnd) piece in
-    if list_all (λ b. is_blank b.byte) bytes then None else Some (person_of bytes (brackets_of bytes))
+    if list_all (λ b. is_blank b.byte) bytes then None
+    else Some (person_of bytes (brackets_of bytes))
 
 -- the persons of an address list
 abbrev pub people : List ℕ → List PlainPerson
 people value =
-    flat_map (λ piece. option_to_list (person_in piece)) (slice_split (has Separator) (address_bytes value))
+    flat_map (λ piece. option_to_list (person_in piece))
+    (slice_split (has Separator) (address_bytes value))
 
 abbrev pub plain_brackets : Brackets → PlainBrackets
 plain_brackets b = record { before = b.before.now; inside = b.inside.now; behind = b.behind.now }

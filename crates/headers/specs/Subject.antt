@@ -1,6 +1,6 @@
 -- Subjects without what replies put before them (RFC 5322, section 3.6.5).
-use Rattle.std.specs.Prelude.{◌==◌, ◌&&◌, ℕ, zero, suc, Bool, not, List, ◌∷◌, length, drop, Option, Some, None}
-use Rattle.std.specs.Prelude.{unwrap_or, is_some, if◌then◌else◌}
+use Rattle.std.specs.Prelude.{◌==◌, ◌&&◌, ℕ, zero, suc, Bool, not, List, ◌∷◌, length, drop, Option}
+use Rattle.std.specs.Prelude.{Some, None, unwrap_or, is_some, if◌then◌else◌}
 use Rattle.std.specs.Char.{is_ascii_digit, to_ascii_lowercase}
 use Rattle.std.specs.List.{position_or_len}
 use Rattle.std.specs.Option.{option_or}

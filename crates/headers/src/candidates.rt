@@ -1,6 +1,7 @@
 //! The ids of the messages that a message may answer (RFC 5322, section 3.6.4).
 
-ghost use Rattle.std.specs.Prelude.{◌≡◌, ◌++◌, map, reverse, option_map, option_to_list, IfOk, OnOk};
+ghost use Rattle.std.specs.Prelude.{◌≡◌, ◌++◌, map, reverse, option_map, option_to_list, IfOk};
+ghost use Rattle.std.specs.Prelude.{OnOk};
 ghost use Rattle.std.specs.List.{list_any};
 ghost use Rattle.std.specs.Str.{bytes_eq};
 ghost use Rattle.mail_base.specs.Series.{plain_texts};

@@ -1,6 +1,7 @@
 //! Text with its encoded words decoded (RFC 2047, section 6).
 
-ghost use Rattle.std.specs.Prelude.{◌≡◌, ◌<◌, ◌+◌, ◌++◌, IfOk, OnOk, IfSome, IfNone, length, take, drop, option_map};
+ghost use Rattle.std.specs.Prelude.{◌≡◌, ◌<◌, ◌+◌, ◌++◌, IfOk, OnOk, IfSome, IfNone, length, take};
+ghost use Rattle.std.specs.Prelude.{drop, option_map};
 ghost use Rattle.headers.specs.Decode as spec;
 
 use crate::encoded_word::DecodedWord;

@@ -1,7 +1,7 @@
 //! The persons of address fields (RFC 5322, section 3.4).
 
-ghost use Rattle.std.specs.Prelude.{◌≡◌, ◌++◌, ◌∷◌, [], ◌<◌, not, filter, length, position, IfOk, OnOk, IfSome};
-ghost use Rattle.std.specs.Prelude.{IfNone, false, map, option_map, option_to_list};
+ghost use Rattle.std.specs.Prelude.{◌≡◌, ◌++◌, ◌∷◌, [], ◌<◌, not, filter, length, position, IfOk};
+ghost use Rattle.std.specs.Prelude.{OnOk, IfSome, IfNone, false, map, option_map, option_to_list};
 ghost use Rattle.std.specs.List.{list_all, slice_split, before_first, after_first, after_last};
 ghost use Rattle.mail_base.specs.Blanks as blanks;
 ghost use Rattle.mail_base.specs.Places.{IsLastPlace};

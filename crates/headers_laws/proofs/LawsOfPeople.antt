@@ -1,8 +1,9 @@
 -- Persons that were written are read back.
-use Rattle.std.proofs.Common.{◌≡◌, ℕ, zero, suc, ◌+◌, ◌-◌, ◌<◌, ◌==◌, ◌&&◌, ◌||◌, Bool, true, false, not, List, [], ◌∷◌}
-use Rattle.std.proofs.Common.{◌++◌, length, take, map, filter, Option, Some, None, refl, sym, ap, ◌∙◌, arith, append_assoc}
-use Rattle.std.proofs.Common.{length-append}
-use Rattle.std.specs.List.{slice_index, list_all, list_any, prefix_len, suffix_len, slice_split, flat_map, before_first}
+use Rattle.std.proofs.Common.{◌≡◌, ℕ, zero, suc, ◌+◌, ◌-◌, ◌<◌, ◌==◌, ◌&&◌, ◌||◌, Bool, true, false}
+use Rattle.std.proofs.Common.{not, List, [], ◌∷◌, ◌++◌, length, take, map, filter, Option, Some}
+use Rattle.std.proofs.Common.{None, refl, sym, ap, ◌∙◌, arith, append_assoc, length-append}
+use Rattle.std.specs.List.{slice_index, list_all, list_any, prefix_len, suffix_len, slice_split}
+use Rattle.std.specs.List.{flat_map, before_first}
 use Rattle.std.specs.Prelude.{option_to_list, if◌then◌else◌}
 use Rattle.std.specs.Str.{IsUtf8, is_utf8}
 use Rattle.std.proofs.lemmas.Bool.{and_parts, or_parts, eqb-true, not-true}
@@ -15,22 +16,27 @@ use Rattle.mail_base.specs.Blanks.{is_blank, trimmed, without_last_blanks}
 use Rattle.mail_base.specs.Lines.{is_continuation}
 use Rattle.mail_base.proofs.BlanksLemmas.{without_blanks_stay}
 use Rattle.mail_base.proofs.ShownLemmas.{shown_utf8}
-use Rattle.mail_base.proofs.RoundPlaces.{split_front, before_last_at, after_last_at, after_last_absent}
-use Rattle.mail_base.proofs.RoundPlaces.{before_first_at, after_first_at, any_at, all_not_at, filter_all}
+use Rattle.mail_base.proofs.RoundPlaces.{split_front, before_last_at, after_last_at}
+use Rattle.mail_base.proofs.RoundPlaces.{after_last_absent, before_first_at, after_first_at, any_at}
+use Rattle.mail_base.proofs.RoundPlaces.{all_not_at, filter_all}
 use Rattle.headers.specs.declared.address_byte.AddressByte.{AddressByte}
 use Rattle.headers.specs.declared.address_byte.Role.{Role}
-use Rattle.headers.specs.declared.address_byte.Role.TheVariants.{Text, Quote, AngleStart, AngleEnd, GroupEnd, Separator}
-use Rattle.headers.specs.declared.address_byte.Role.TheVariants.{CommentStart, CommentText, CommentEnd}
+use Rattle.headers.specs.declared.address_byte.Role.TheVariants.{Text, Quote, AngleStart, AngleEnd}
+use Rattle.headers.specs.declared.address_byte.Role.TheVariants.{GroupEnd, Separator, CommentStart}
+use Rattle.headers.specs.declared.address_byte.Role.TheVariants.{CommentText, CommentEnd}
 use Rattle.headers.specs.declared.address_state.AddressState.{AddressState}
 use Rattle.headers.specs.declared.address_state.Within.{Within}
 use Rattle.headers.specs.declared.address_state.Within.TheVariants.{Plain, Quotes, Comment}
 use Rattle.headers.specs.AddressByte.{bytes_of, has, is_comment}
-use Rattle.headers.specs.AddressState.{address_bytes, bytes_from, comment_step, plain_step, quotes_step, state_in}
+use Rattle.headers.specs.AddressState.{address_bytes, bytes_from, comment_step, plain_step}
+use Rattle.headers.specs.AddressState.{quotes_step, state_in}
 use Rattle.headers.specs.Decode.{decoded_words}
-use Rattle.headers.specs.People.{PlainBrackets, brackets_of, first_comment, shown_name, person_of, person_in, people}
+use Rattle.headers.specs.People.{PlainBrackets, brackets_of, first_comment, shown_name, person_of}
+use Rattle.headers.specs.People.{person_in, people}
 use Rattle.headers.specs.Person.{PlainPerson}
-use Rattle.headers_laws.specs.Laws.{is_plain_byte, is_trimmed, is_plain, is_plain_person, written_person, has_mark}
-use Rattle.headers_laws.specs.Laws.{WrittenPeopleAreRead, written_quoted, QuotedPhraseIsRead}
+use Rattle.headers_laws.specs.Laws.{is_plain_byte, is_trimmed, is_plain, is_plain_person}
+use Rattle.headers_laws.specs.Laws.{written_person, has_mark, WrittenPeopleAreRead, written_quoted}
+use Rattle.headers_laws.specs.Laws.{QuotedPhraseIsRead}
 use Rattle.mail_base.specs.Written.{escaped}
 use Rattle.headers_laws.specs.Laws.{GroupIsRead, written_commented, CommentIsTheName}
 use Rattle.headers_laws.proofs.LawsOfText.{plain_text_stays}
@@ -45,18 +51,21 @@ plain_step-text true b plain = grind (arith, nat_tests)
 plain_step-text false b plain = grind (arith, nat_tests)
 
 bytes_plain : (in_angle : Bool) (s rest : List ℕ) → list_all is_plain_byte s ≡ true
-    → bytes_from (state_in in_angle Plain) (s ++ rest) ≡ text_bytes s ++ bytes_from (state_in in_angle Plain) rest
+    → bytes_from (state_in in_angle Plain) (s ++ rest) ≡ text_bytes s
+    ++ bytes_from (state_in in_angle Plain) rest
 bytes_plain in_angle [] rest plain = refl
 bytes_plain in_angle (b ∷ s) rest plain =
     let both = and_parts (is_plain_byte b) (list_all is_plain_byte s) plain in
     let mark : AddressByte = record { byte = b; role = Text } in
-    ap (λ (st : Role × AddressState). record { byte = b; role = st.0 } ∷ bytes_from st.1 (s ++ rest))
+    ap (λ (st : Role × AddressState). record { byte = b; role = st.0 }
+    ∷ bytes_from st.1 (s ++ rest))
     (plain_step-text in_angle b both.0)
     ∙ ap (λ (ms : List AddressByte). mark ∷ ms) (bytes_plain in_angle s rest both.1)
 
 -- the marks of a person that is written plainly
 
-all_text : (q : AddressByte → Bool) → ((b : ℕ) → q (record { byte = b; role = Text }) ≡ true) → (s : List ℕ)
+all_text : (q : AddressByte → Bool) → ((b : ℕ) → q (record { byte = b; role = Text }) ≡ true)
+    → (s : List ℕ)
     → list_all q (text_bytes s) ≡ true
 all_text q text [] = refl
 all_text q text (b ∷ s) = rw (text b) (all_text q text s)
@@ -84,18 +93,22 @@ from_address p = text_bytes p.address ++ angle_end ∷ []
 abbrev piece_of : PlainPerson → List AddressByte
 piece_of p = phrase p ++ angle_start ∷ from_address p
 
-all_address : (q : AddressByte → Bool) → ((b : ℕ) → q (record { byte = b; role = Text }) ≡ true) → q angle_end ≡ true
+all_address : (q : AddressByte → Bool) → ((b : ℕ) → q (record { byte = b; role = Text }) ≡ true)
+    → q angle_end ≡ true
     → (p : PlainPerson) → list_all q (from_address p) ≡ true
 all_address q text end p =
-    list_all-append q (text_bytes p.address) (angle_end ∷ []) ∙ rw (all_text q text p.address, end) refl
+    list_all-append q (text_bytes p.address) (angle_end ∷ [])
+    ∙ rw (all_text q text p.address, end) refl
 
-all_piece : (q : AddressByte → Bool) → ((b : ℕ) → q (record { byte = b; role = Text }) ≡ true) → q angle_start ≡ true
+all_piece : (q : AddressByte → Bool) → ((b : ℕ) → q (record { byte = b; role = Text }) ≡ true)
+    → q angle_start ≡ true
     → q angle_end ≡ true → (p : PlainPerson) → list_all q (piece_of p) ≡ true
 all_piece q text start end p =
     list_all-append q (phrase p) (angle_start ∷ from_address p)
     ∙ rw (all_text q text (p.name ++ 32 ∷ []), start) (all_address q text end p)
 
-plain_phrase : (s : List ℕ) → list_all is_plain_byte s ≡ true → list_all is_plain_byte (s ++ 32 ∷ []) ≡ true
+plain_phrase : (s : List ℕ) → list_all is_plain_byte s ≡ true
+    → list_all is_plain_byte (s ++ 32 ∷ []) ≡ true
 plain_phrase s plain = list_all-append is_plain_byte s (32 ∷ []) ∙ rw plain refl
 
 bytes_of_person : (p : PlainPerson) (more : List ℕ) → list_all is_plain_byte p.name ≡ true
@@ -103,10 +116,12 @@ bytes_of_person : (p : PlainPerson) (more : List ℕ) → list_all is_plain_byte
     → address_bytes (written_person p ++ more) ≡ piece_of p ++ separator ∷ address_bytes more
 bytes_of_person p more name address =
     let spaced = p.name ++ 32 ∷ [] in
-    let apart : written_person p ++ more ≡ spaced ++ 60 ∷ (p.address ++ 62 ∷ 44 ∷ more) = simp append_assoc in
+    let apart : written_person p ++ more ≡ spaced ++ 60 ∷ (p.address ++ 62 ∷ 44 ∷ more) =
+    simp append_assoc in
     ap address_bytes apart
     ∙ bytes_plain false spaced (60 ∷ (p.address ++ 62 ∷ 44 ∷ more)) (plain_phrase p.name name)
-    ∙ ap (λ (ms : List AddressByte). phrase p ++ angle_start ∷ ms) (bytes_plain true p.address (62 ∷ 44 ∷ more) address)
+    ∙ ap (λ (ms : List AddressByte). phrase p ++ angle_start ∷ ms)
+    (bytes_plain true p.address (62 ∷ 44 ∷ more) address)
     ∙ simp append_assoc
 
 brackets_of_person : (front : List AddressByte) (p : PlainPerson)
@@ -126,7 +141,8 @@ brackets_of_person front p =
     rw (some, before, tail, inside, behind) refl
 
 -- a blank at the end goes
-blank_goes : (s : List ℕ) → (suffix_len is_blank s == 0) ≡ true → without_last_blanks (s ++ 32 ∷ []) ≡ s
+blank_goes : (s : List ℕ) → (suffix_len is_blank s == 0) ≡ true
+    → without_last_blanks (s ++ 32 ∷ []) ≡ s
 blank_goes s end =
     let one : suffix_len is_blank (s ++ 32 ∷ []) ≡ 1 + suffix_len is_blank s =
     ap (prefix_len is_blank) (reverse-append s (32 ∷ [])) in
@@ -147,15 +163,18 @@ trimmed_phrase : (s : List ℕ) → is_trimmed s ≡ true → trimmed (s ++ 32 �
 trimmed_phrase [] ends = refl
 trimmed_phrase (b ∷ s) ends =
     let both = and_parts (not (is_blank b)) (suffix_len is_blank (b ∷ s) == 0) ends in
-    ap without_last_blanks (without_blanks_stay (b ∷ s ++ 32 ∷ []) both.0) ∙ blank_goes (b ∷ s) both.1
+    ap without_last_blanks (without_blanks_stay (b ∷ s ++ 32 ∷ []) both.0)
+    ∙ blank_goes (b ∷ s) both.1
 
 plain_small : (b : ℕ) → is_plain_byte b ≡ true → b < 128
 plain_small b plain = grind (arith, nat_tests)
 
 ascii_at : (s : List ℕ) (i : ℕ) → list_all is_plain_byte s ≡ true → slice_index s i < 128
 ascii_at [] i plain = omega arith
-ascii_at (b ∷ s) zero plain = plain_small b (and_parts (is_plain_byte b) (list_all is_plain_byte s) plain).0
-ascii_at (b ∷ s) (suc i) plain = ascii_at s i (and_parts (is_plain_byte b) (list_all is_plain_byte s) plain).1
+ascii_at (b ∷ s) zero plain =
+    plain_small b (and_parts (is_plain_byte b) (list_all is_plain_byte s) plain).0
+ascii_at (b ∷ s) (suc i) plain =
+    ascii_at s i (and_parts (is_plain_byte b) (list_all is_plain_byte s) plain).1
 
 plain_utf8 : (s : List ℕ) → list_all is_plain_byte s ≡ true → IsUtf8 s
 plain_utf8 s plain = IsUtf8-from_ascii s (λ i. ascii_at s i plain)
@@ -171,7 +190,8 @@ name_stays s utf8 ends mark =
 
 address_stays : (s : List ℕ) → is_plain s ≡ true → trimmed (bytes_of (text_bytes s)) ≡ s
 address_stays s plain =
-    ap trimmed (bytes_of_text s) ∙ trimmed_stay s (and_parts (list_all is_plain_byte s) (is_trimmed s) plain).1
+    ap trimmed (bytes_of_text s)
+    ∙ trimmed_stay s (and_parts (list_all is_plain_byte s) (is_trimmed s) plain).1
 
 -- a person whose name, without its quotes, is this text and a blank
 pub person_in_brackets : (front : List AddressByte) (p : PlainPerson)
@@ -185,14 +205,18 @@ person_in_brackets front p ungrouped unquoted name address =
     list_all-append (λ b. not (has GroupEnd b)) front (angle_start ∷ from_address p)
     ∙ rw ungrouped (all_address (λ b. not (has GroupEnd b)) (λ b. refl) refl p) in
     let name_is : shown_name (filter (λ b. not (has Quote b)) (front ++ [])) ≡ p.name =
-    ap (λ l. shown_name (filter (λ b. not (has Quote b)) l)) (append-nil front) ∙ ap shown_name unquoted ∙ name in
-    ap (λ (bs : List AddressByte). if list_all (λ b. is_blank b.byte) bs then None else Some (person_of bs
+    ap (λ l. shown_name (filter (λ b. not (has Quote b)) l)) (append-nil front)
+    ∙ ap shown_name unquoted ∙ name in
+    ap (λ (bs : List AddressByte). if list_all (λ b. is_blank b.byte) bs then None
+    else Some (person_of bs
     (brackets_of bs))) (after_last_absent (has GroupEnd) piece whole)
     ∙ ap (λ t. if t then None else Some (person_of piece (brackets_of piece)))
     (all_not_at (λ b. is_blank b.byte) front angle_start (from_address p) refl)
     ∙ ap (λ (o : Option PlainBrackets). Some (person_of piece o)) (brackets_of_person front p)
-    ∙ ap (λ (n : List ℕ). Some (record { name = n; address = trimmed (bytes_of (text_bytes p.address)) })) name_is
-    ∙ ap (λ (a : List ℕ). Some (record { name = p.name; address = a })) (address_stays p.address address)
+    ∙ ap (λ (n : List ℕ). Some
+    (record { name = n; address = trimmed (bytes_of (text_bytes p.address)) })) name_is
+    ∙ ap (λ (a : List ℕ). Some (record { name = p.name; address = a }))
+    (address_stays p.address address)
 
 person_in_piece : (p : PlainPerson) → is_plain_person p ≡ true → person_in (piece_of p) ≡ Some p
 person_in_piece p plain =
@@ -211,7 +235,8 @@ abbrev persons_in : List (List AddressByte) → List PlainPerson
 persons_in pieces = flat_map (λ piece. option_to_list (person_in piece)) pieces
 
 -- persons that are written plainly, before more of the list
-pub people_written : (persons : List PlainPerson) (more : List ℕ) → list_all is_plain_person persons ≡ true
+pub people_written : (persons : List PlainPerson) (more : List ℕ)
+    → list_all is_plain_person persons ≡ true
     → people (flat_map written_person persons ++ more) ≡ persons ++ people more
 people_written [] more plain = refl
 people_written (p ∷ persons) more plain =
@@ -250,7 +275,8 @@ text_byte b = record { byte = b; role = Text }
 quoted_bytes : List ℕ → List AddressByte
 quoted_bytes [] = []
 quoted_bytes (b ∷ s) =
-    if b == 34 || b == 92 then backslash ∷ text_byte b ∷ quoted_bytes s else text_byte b ∷ quoted_bytes s
+    if b == 34 || b == 92 then backslash ∷ text_byte b ∷ quoted_bytes s
+    else text_byte b ∷ quoted_bytes s
 
 bytes_quoted : (s rest : List ℕ)
     → bytes_from (state_in false Quotes) (escaped s ++ rest)
@@ -262,7 +288,8 @@ bytes_quoted (b ∷ s) rest = by_test (b == 34 || b == 92) refl (bytes_quoted s 
     by_test : (t : Bool) → (b == 34 || b == 92) ≡ t
         → bytes_from (state_in false Quotes) (escaped s ++ rest)
         ≡ quoted_bytes s ++ bytes_from (state_in false Quotes) rest
-        → bytes_from (state_in false Quotes) ((if t then 92 ∷ b ∷ escaped s else b ∷ escaped s) ++ rest)
+        → bytes_from (state_in false Quotes)
+        ((if t then 92 ∷ b ∷ escaped s else b ∷ escaped s) ++ rest)
         ≡ (if t then backslash ∷ text_byte b ∷ quoted_bytes s else text_byte b ∷ quoted_bytes s)
         ++ bytes_from (state_in false Quotes) rest
     by_test true is more = ap (λ l. backslash ∷ text_byte b ∷ l) more
@@ -273,14 +300,17 @@ bytes_quoted (b ∷ s) rest = by_test (b == 34 || b == 92) refl (bytes_quoted s 
         (escaped s ++ rest)) step
         ∙ ap (λ l. text_byte b ∷ l) more
 
-all_quoted : (q : AddressByte → Bool) → ((b : ℕ) → q (text_byte b) ≡ true) → q backslash ≡ true → (s : List ℕ)
+all_quoted : (q : AddressByte → Bool) → ((b : ℕ) → q (text_byte b) ≡ true) → q backslash ≡ true
+    → (s : List ℕ)
     → list_all q (quoted_bytes s) ≡ true
 unfolding quoted_bytes
 all_quoted q text back [] = refl
 all_quoted q text back (b ∷ s) = by_test (b == 34 || b == 92) (all_quoted q text back s)
   where
     by_test : (t : Bool) → list_all q (quoted_bytes s) ≡ true
-        → list_all q (if t then backslash ∷ text_byte b ∷ quoted_bytes s else text_byte b ∷ quoted_bytes s) ≡ true
+        → list_all q
+        (if t then backslash ∷ text_byte b ∷ quoted_bytes s else text_byte b ∷ quoted_bytes s)
+        ≡ true
     by_test true more = rw (back, text b) more
     by_test false more = rw (text b) more
 
@@ -300,7 +330,8 @@ unquoted_bytes (b ∷ s) = by_test (b == 34 || b == 92) (unquoted_bytes s)
 abbrev quoted_phrase : List ℕ → List AddressByte
 quoted_phrase name = quote ∷ (quoted_bytes name ++ quote ∷ text_byte 32 ∷ [])
 
-all_phrase : (q : AddressByte → Bool) → ((b : ℕ) → q (text_byte b) ≡ true) → q quote ≡ true → q backslash ≡ true
+all_phrase : (q : AddressByte → Bool) → ((b : ℕ) → q (text_byte b) ≡ true) → q quote ≡ true
+    → q backslash ≡ true
     → (s : List ℕ) → list_all q (quoted_phrase s) ≡ true
 all_phrase q text mark back s =
     rw mark (list_all-append q (quoted_bytes s) (quote ∷ text_byte 32 ∷ [])
@@ -319,27 +350,34 @@ bytes_of_quoted : (p : PlainPerson) → list_all is_plain_byte p.address ≡ tru
 bytes_of_quoted p address =
     let rest = 34 ∷ 32 ∷ 60 ∷ (p.address ++ 62 ∷ 44 ∷ []) in
     ap (λ (bs : List AddressByte). quote ∷ bs) (bytes_quoted p.name rest)
-    ∙ ap (λ (bs : List AddressByte). quote ∷ (quoted_bytes p.name ++ quote ∷ text_byte 32 ∷ angle_start ∷ bs))
+    ∙ ap (λ (bs : List AddressByte). quote
+    ∷ (quoted_bytes p.name ++ quote ∷ text_byte 32 ∷ angle_start ∷ bs))
     (bytes_plain true p.address (62 ∷ 44 ∷ []) address)
     ∙ simp append_assoc
 
 pub quoted_phrase_is_read : QuotedPhraseIsRead
 quoted_phrase_is_read p quotable =
-    let both = and_parts (is_utf8 p.name && is_trimmed p.name && not (has_mark p.name)) (is_plain p.address) quotable in
+    let both =
+    and_parts (is_utf8 p.name && is_trimmed p.name && not (has_mark p.name))
+    (is_plain p.address) quotable in
     let name = and_parts (is_utf8 p.name && is_trimmed p.name) (not (has_mark p.name)) both.0 in
     let text = and_parts (is_utf8 p.name) (is_trimmed p.name) name.0 in
     let address = and_parts (list_all is_plain_byte p.address) (is_trimmed p.address) both.1 in
     let piece = quoted_phrase p.name ++ angle_start ∷ from_address p in
     let whole : list_all (λ b. not (has Separator b)) piece ≡ true =
-    list_all-append (λ b. not (has Separator b)) (quoted_phrase p.name) (angle_start ∷ from_address p)
+    list_all-append (λ b. not (has Separator b)) (quoted_phrase p.name)
+    (angle_start ∷ from_address p)
     ∙ rw (all_phrase (λ b. not (has Separator b)) (λ b. refl) refl refl p.name)
     (all_address (λ b. not (has Separator b)) (λ b. refl) refl p) in
-    ap (λ (bs : List AddressByte). persons_in (slice_split (has Separator) bs)) (bytes_of_quoted p address.0)
+    ap (λ (bs : List AddressByte). persons_in (slice_split (has Separator) bs))
+    (bytes_of_quoted p address.0)
     ∙ ap persons_in (split_front (has Separator) piece separator [] whole refl)
-    ∙ ap (λ (o : Option PlainPerson). option_to_list o ++ []) (person_in_brackets (quoted_phrase p.name) p
+    ∙ ap (λ (o : Option PlainPerson). option_to_list o ++ [])
+    (person_in_brackets (quoted_phrase p.name) p
     (all_phrase (λ b. not (has GroupEnd b)) (λ b. refl) refl refl p.name)
     (unquoted_phrase p.name)
-    (name_stays p.name (IsUtf8-from_is_utf8 p.name text.0) text.1 (not-true (has_mark p.name) name.1))
+    (name_stays p.name (IsUtf8-from_is_utf8 p.name text.0) text.1
+    (not-true (has_mark p.name) name.1))
     both.1)
 
 -- a group
@@ -351,7 +389,8 @@ group_end = record { byte = 58; role = GroupEnd }
 grouped : (front piece : List AddressByte) → list_all (λ b. not (has GroupEnd b)) piece ≡ true
     → person_in (front ++ group_end ∷ piece) ≡ person_in piece
 grouped front piece none =
-    ap (λ (bs : List AddressByte). if list_all (λ b. is_blank b.byte) bs then None else Some (person_of bs
+    ap (λ (bs : List AddressByte). if list_all (λ b. is_blank b.byte) bs then None
+    else Some (person_of bs
     (brackets_of bs)))
     (after_last_at (has GroupEnd) front group_end piece none refl
     ∙ sym (after_last_absent (has GroupEnd) piece none))
@@ -360,14 +399,16 @@ bytes_of_group : (phrase rest : List ℕ) → list_all is_plain_byte phrase ≡ 
     → address_bytes (phrase ++ 58 ∷ rest) ≡ text_bytes phrase ++ group_end ∷ address_bytes rest
 bytes_of_group phrase rest plain = bytes_plain false phrase (58 ∷ rest) plain
 
-group_of : (phrase : List ℕ) (piece : List AddressByte) → list_all (λ b. not (has Separator b)) piece ≡ true
+group_of : (phrase : List ℕ) (piece : List AddressByte)
+    → list_all (λ b. not (has Separator b)) piece ≡ true
     → list_all (λ b. not (has Separator b)) (text_bytes phrase ++ group_end ∷ piece) ≡ true
 group_of phrase piece none =
     list_all-append (λ b. not (has Separator b)) (text_bytes phrase) (group_end ∷ piece)
     ∙ rw (all_text (λ b. not (has Separator b)) (λ b. refl) phrase) none
 
 -- a list behind the name of a group
-group_persons : (phrase rest : List ℕ) (piece : List AddressByte) (last : AddressByte) (more : List AddressByte)
+group_persons : (phrase rest : List ℕ) (piece : List AddressByte) (last : AddressByte)
+    (more : List AddressByte)
     → list_all is_plain_byte phrase ≡ true → list_all (λ b. not (has Separator b)) piece ≡ true
     → list_all (λ b. not (has GroupEnd b)) piece ≡ true → has Separator last ≡ true
     → address_bytes rest ≡ piece ++ last ∷ more
@@ -378,9 +419,12 @@ group_persons phrase rest piece last more plain apart ungrouped ends is =
     ap first (bytes_of_group phrase rest plain)
     ∙ ap (λ (bs : List AddressByte). first (front ++ group_end ∷ bs)) is
     ∙ ap first (sym (append_assoc front (group_end ∷ piece) (last ∷ more)))
-    ∙ ap persons_in (split_front (has Separator) (front ++ group_end ∷ piece) last more (group_of phrase piece apart)
+    ∙ ap persons_in
+    (split_front (has Separator) (front ++ group_end ∷ piece) last more
+    (group_of phrase piece apart)
     ends)
-    ∙ ap (λ (o : Option PlainPerson). option_to_list o ++ persons_in (slice_split (has Separator) more))
+    ∙ ap (λ (o : Option PlainPerson). option_to_list o
+    ++ persons_in (slice_split (has Separator) more))
     (grouped front piece ungrouped)
     ∙ sym (ap persons_in (split_front (has Separator) piece last more apart ends))
     ∙ sym (ap first is)
@@ -390,7 +434,8 @@ group_rest : (phrase : List ℕ) (persons : List PlainPerson) → list_all is_pl
     → people (phrase ++ 58 ∷ (flat_map written_person persons ++ 59 ∷ []))
     ≡ people (flat_map written_person persons ++ 59 ∷ [])
 group_rest phrase [] plain all =
-    group_persons phrase (59 ∷ []) [] (record { byte = 59; role = Separator }) [] plain refl refl refl refl
+    group_persons phrase (59 ∷ []) [] (record { byte = 59; role = Separator }) [] plain refl refl
+    refl refl
 group_rest phrase (p ∷ persons) plain all =
     let both = and_parts (is_plain_person p) (list_all is_plain_person persons) all in
     let parts = and_parts (is_plain p.name && not (has_mark p.name)) (is_plain p.address) both.0 in
@@ -434,11 +479,14 @@ unfolding comment_bytes
 bytes_comment [] rest plain = refl
 bytes_comment (b ∷ s) rest plain =
     let both = and_parts (is_plain_byte b) (list_all is_plain_byte s) plain in
-    ap (λ (p : Role × Within). record { byte = b; role = p.0 } ∷ bytes_from (state_in false p.1) (s ++ rest))
+    ap (λ (p : Role × Within). record { byte = b; role = p.0 }
+    ∷ bytes_from (state_in false p.1) (s ++ rest))
     (comment_step-plain b both.0)
-    ∙ ap (λ (bs : List AddressByte). record { byte = b; role = CommentText } ∷ bs) (bytes_comment s rest both.1)
+    ∙ ap (λ (bs : List AddressByte). record { byte = b; role = CommentText } ∷ bs)
+    (bytes_comment s rest both.1)
 
-all_comment : (q : AddressByte → Bool) → ((b : ℕ) → q (record { byte = b; role = CommentText }) ≡ true)
+all_comment : (q : AddressByte → Bool)
+    → ((b : ℕ) → q (record { byte = b; role = CommentText }) ≡ true)
     → (s : List ℕ) → list_all q (comment_bytes s) ≡ true
 unfolding comment_bytes
 all_comment q text [] = refl
@@ -457,23 +505,27 @@ abbrev commented_piece : PlainPerson → List AddressByte
 commented_piece p = text_bytes (p.address ++ 32 ∷ []) ++ comment_start ∷ comment_tail p
 
 all_commented : (q : AddressByte → Bool) → ((b : ℕ) → q (text_byte b) ≡ true)
-    → ((b : ℕ) → q (record { byte = b; role = CommentText }) ≡ true) → q comment_start ≡ true → q comment_end ≡ true
+    → ((b : ℕ) → q (record { byte = b; role = CommentText }) ≡ true) → q comment_start ≡ true
+    → q comment_end ≡ true
     → (p : PlainPerson) → list_all q (commented_piece p) ≡ true
 all_commented q text comment start end p =
     list_all-append q (text_bytes (p.address ++ 32 ∷ [])) (comment_start ∷ comment_tail p)
     ∙ rw (all_text q text (p.address ++ 32 ∷ []), start)
-    (list_all-append q (comment_bytes p.name) (comment_end ∷ []) ∙ rw (all_comment q comment p.name, end) refl)
+    (list_all-append q (comment_bytes p.name) (comment_end ∷ [])
+    ∙ rw (all_comment q comment p.name, end) refl)
 
 bytes_of_commented : (p : PlainPerson) → list_all is_plain_byte p.name ≡ true
     → list_all is_plain_byte p.address ≡ true
     → address_bytes (written_commented p) ≡ commented_piece p ++ separator ∷ []
 bytes_of_commented p name address =
-    bytes_plain false (p.address ++ 32 ∷ []) (40 ∷ (p.name ++ 41 ∷ 44 ∷ [])) (plain_phrase p.address address)
+    bytes_plain false (p.address ++ 32 ∷ []) (40 ∷ (p.name ++ 41 ∷ 44 ∷ []))
+    (plain_phrase p.address address)
     ∙ ap (λ (bs : List AddressByte). text_bytes (p.address ++ 32 ∷ []) ++ comment_start ∷ bs)
     (bytes_comment p.name (41 ∷ 44 ∷ []) name)
     ∙ simp append_assoc
 
-none_any : {X : Type 0} (q : X → Bool) (xs : List X) → list_all (λ x. not (q x)) xs ≡ true → list_any q xs ≡ false
+none_any : {X : Type 0} (q : X → Bool) (xs : List X) → list_all (λ x. not (q x)) xs ≡ true
+    → list_any q xs ≡ false
 none_any q [] none = refl
 none_any q (x ∷ xs) none =
     let both = and_parts (not (q x)) (list_all (λ y. not (q y)) xs) none in
@@ -490,7 +542,8 @@ uncommented p =
     let front = text_bytes (p.address ++ 32 ∷ []) in
     let keeps = λ (b : AddressByte). not (is_comment b) in
     filter-append keeps front (comment_start ∷ comment_tail p)
-    ∙ ap (λ l. l ++ filter keeps (comment_tail p)) (filter_all keeps front (all_text keeps (λ b. refl) (p.address
+    ∙ ap (λ l. l ++ filter keeps (comment_tail p))
+    (filter_all keeps front (all_text keeps (λ b. refl) (p.address
     ++ 32 ∷ [])))
     ∙ ap (λ l. front ++ l) (filter-append keeps (comment_bytes p.name) (comment_end ∷ [])
     ∙ ap (λ l. l ++ []) (comments_go p.name))
@@ -499,7 +552,8 @@ uncommented p =
 comment_of : (p : PlainPerson) → first_comment (commented_piece p) ≡ comment_bytes p.name
 comment_of p =
     let front = text_bytes (p.address ++ 32 ∷ []) in
-    ap (before_first (has CommentEnd)) (after_first_at (has CommentStart) front comment_start (comment_tail p)
+    ap (before_first (has CommentEnd))
+    (after_first_at (has CommentStart) front comment_start (comment_tail p)
     (all_text (λ b. not (has CommentStart b)) (λ b. refl) (p.address ++ 32 ∷ [])) refl)
     ∙ before_first_at (has CommentEnd) (comment_bytes p.name) comment_end []
     (all_comment (λ b. not (has CommentEnd b)) (λ b. refl) p.name) refl
@@ -524,16 +578,20 @@ comment_is_the_name p plain =
     ap (λ l. trimmed (bytes_of l)) (uncommented p)
     ∙ ap trimmed (bytes_of_text (p.address ++ 32 ∷ []))
     ∙ trimmed_phrase p.address address.1 in
-    ap (λ (bs : List AddressByte). persons_in (slice_split (has Separator) bs)) (bytes_of_commented p name.0 address.0)
+    ap (λ (bs : List AddressByte). persons_in (slice_split (has Separator) bs))
+    (bytes_of_commented p name.0 address.0)
     ∙ ap persons_in (split_front (has Separator) piece separator []
     (all_commented (λ b. not (has Separator b)) (λ b. refl) (λ b. refl) refl refl p) refl)
     ∙ ap (λ (bs : List AddressByte). option_to_list (if list_all (λ b. is_blank b.byte) bs then None
     else Some (person_of bs (brackets_of bs))) ++ []) (after_last_absent (has GroupEnd) piece
     (all_commented (λ b. not (has GroupEnd b)) (λ b. refl) (λ b. refl) refl refl p))
-    ∙ ap (λ t. option_to_list (if t then None else Some (person_of piece (brackets_of piece))) ++ [])
-    (all_not_at (λ b. is_blank b.byte) (text_bytes (p.address ++ 32 ∷ [])) comment_start (comment_tail p) refl)
+    ∙ ap (λ t. option_to_list (if t then None else Some (person_of piece (brackets_of piece)))
+    ++ [])
+    (all_not_at (λ b. is_blank b.byte) (text_bytes (p.address ++ 32 ∷ [])) comment_start
+    (comment_tail p) refl)
     ∙ ap (λ (o : Option PlainBrackets). person_of piece o ∷ [])
     no_brackets
-    ∙ ap (λ (n : List ℕ). record { name = n; address = trimmed (bytes_of (filter (λ b. not (is_comment b)) piece)) } ∷ [])
+    ∙ ap (λ (n : List ℕ). record
+    { name = n; address = trimmed (bytes_of (filter (λ b. not (is_comment b)) piece)) } ∷ [])
     name_is
     ∙ ap (λ (a : List ℕ). record { name = p.name; address = a } ∷ []) address_is

@@ -15,12 +15,14 @@ none_of : (o : Option (List ℕ)) → is_some o ≡ false → o ≡ None
 none_of None e = refl
 none_of (Some s) e = cc
 
-not_written : (b : ℕ) (rest : List ℕ) (t : Bool) → (b == 61) ≡ t → (t && is_some (behind 63 rest)) ≡ false
+not_written : (b : ℕ) (rest : List ℕ) (t : Bool) → (b == 61) ≡ t
+    → (t && is_some (behind 63 rest)) ≡ false
     → written_word (b ∷ rest) ≡ None
 not_written b rest true is none = rw (is, none_of (behind 63 rest) none) refl
 not_written b rest false is none = rw is refl
 
-no_word : (b : ℕ) (rest : List ℕ) → (b == 61 && is_some (behind 63 rest)) ≡ false → encoded_word (b ∷ rest) ≡ None
+no_word : (b : ℕ) (rest : List ℕ) → (b == 61 && is_some (behind 63 rest)) ≡ false
+    → encoded_word (b ∷ rest) ≡ None
 no_word b rest none = rw (not_written b rest (b == 61) refl none) refl
 
 no_word_found : (s : List ℕ) → has_mark s ≡ false → first_word s ≡ None

@@ -1,11 +1,12 @@
 -- Laws of the definitions, in the words of a reader of mail.
-use Rattle.std.specs.Prelude.{◌≡◌, ◌==◌, ◌&&◌, ◌||◌, ℕ, Bool, true, false, not, nat_le, is_some, List, [], ◌∷◌, ◌++◌}
-use Rattle.std.specs.Prelude.{length}
+use Rattle.std.specs.Prelude.{◌≡◌, ◌==◌, ◌&&◌, ◌||◌, ℕ, Bool, true, false, not, nat_le, is_some}
+use Rattle.std.specs.Prelude.{List, [], ◌∷◌, ◌++◌, length}
 use Rattle.std.specs.List.{list_all, flat_map, suffix_len}
 use Rattle.std.specs.Str.{byte, is_utf8}
 use Rattle.mail_base.specs.Blanks.{is_blank}
 use Rattle.mail_base.specs.Fronts.{behind}
-use Rattle.mail_base.specs.Lines.{PlainField, body_at, is_continuation, is_name_byte, message_fields}
+use Rattle.mail_base.specs.Lines.{PlainField, body_at, is_continuation, is_name_byte}
+use Rattle.mail_base.specs.Lines.{message_fields}
 use Rattle.mail_base.specs.Shown.{utf8_text}
 use Rattle.mail_base.specs.Written.{escaped, is_line_byte}
 use Rattle.headers.specs.Decode.{decoded_words}
@@ -25,11 +26,13 @@ PlainTextStays = (s : List ℕ) → has_mark s ≡ false → decoded_words s ≡
 abbrev pub Utf8Stays : Type 0
 Utf8Stays = (s : List ℕ) → is_utf8 s ≡ true → utf8_text s ≡ s
 
--- a byte that a phrase or an address may hold as it is: printable, and no special of an address list
+-- a byte that a phrase or an address may hold as it is: printable, and no special of an address
+-- list
 abbrev pub is_plain_byte : ℕ → Bool
 is_plain_byte b =
     nat_le (byte " ") b && nat_le b 126
-    && not (b == byte "\"" || b == byte "(" || b == byte ")" || b == byte "," || b == byte ":" || b == byte ";" || b == byte "<" || b == byte ">" || b == byte "\\")
+    && not (b == byte "\"" || b == byte "(" || b == byte ")" || b == byte "," || b == byte ":"
+    || b == byte ";" || b == byte "<" || b == byte ">" || b == byte "\\")
 
 -- no blank stands at either end
 abbrev pub is_trimmed : List ℕ → Bool
@@ -55,20 +58,25 @@ WrittenPeopleAreRead =
 
 -- a person whose name can be written in quotes
 abbrev pub is_quotable_person : PlainPerson → Bool
-is_quotable_person p = is_utf8 p.name && is_trimmed p.name && not (has_mark p.name) && is_plain p.address
+is_quotable_person p =
+    is_utf8 p.name && is_trimmed p.name && not (has_mark p.name) && is_plain p.address
 
 -- `"NAME" <ADDRESS>,`
 abbrev pub written_quoted : PlainPerson → List ℕ
 written_quoted p =
-    byte "\"" ∷ (escaped p.name ++ byte "\"" ∷ byte " " ∷ byte "<" ∷ (p.address ++ byte ">" ∷ byte "," ∷ []))
+    byte "\""
+    ∷ (escaped p.name ++ byte "\"" ∷ byte " " ∷ byte "<"
+    ∷ (p.address ++ byte ">" ∷ byte "," ∷ []))
 
 -- a person written so is read back, whatever bytes its name has
 abbrev pub QuotedPhraseIsRead : Type 0
-QuotedPhraseIsRead = (p : PlainPerson) → is_quotable_person p ≡ true → people (written_quoted p) ≡ p ∷ []
+QuotedPhraseIsRead =
+    (p : PlainPerson) → is_quotable_person p ≡ true → people (written_quoted p) ≡ p ∷ []
 
 -- `PHRASE:`, persons written plainly, and `;`
 abbrev pub written_group : List ℕ → List PlainPerson → List ℕ
-written_group phrase persons = phrase ++ byte ":" ∷ (flat_map written_person persons ++ byte ";" ∷ [])
+written_group phrase persons =
+    phrase ++ byte ":" ∷ (flat_map written_person persons ++ byte ";" ∷ [])
 
 -- a group gives its members
 abbrev pub GroupIsRead : Type 0
@@ -83,7 +91,8 @@ written_commented p =
 
 -- a name in a comment is read back
 abbrev pub CommentIsTheName : Type 0
-CommentIsTheName = (p : PlainPerson) → is_plain_person p ≡ true → people (written_commented p) ≡ p ∷ []
+CommentIsTheName =
+    (p : PlainPerson) → is_plain_person p ≡ true → people (written_commented p) ≡ p ∷ []
 
 -- a name of a field (RFC 5322, section 2.2)
 abbrev pub is_name : List ℕ → Bool

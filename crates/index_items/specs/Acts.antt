@@ -1,10 +1,10 @@
 -- What is done to messages.
-use Rattle.std.specs.Prelude.{◌||◌, ℕ, Bool, true, false, not, List, [], ◌∷◌, Option, None, Some}
-use Rattle.std.specs.Prelude.{nat_eq, position, if◌then◌else◌}
+use Rattle.std.specs.Prelude.{◌||◌, Bool, true, false, not, List, [], ◌∷◌, Option, None, Some}
+use Rattle.std.specs.Prelude.{if◌then◌else◌}
 use Rattle.mail_base.specs.declared.flags.Flags.{Flags}
 use Rattle.mail_base.specs.declared.kind.Id.{Id}
 use Rattle.index_items.specs.Alteration.{alter_at, altered, shut, tagged}
-use Rattle.index_items.specs.Items.{PlainItem, numbers, shown_flags}
+use Rattle.index_items.specs.Items.{PlainItem, shown_flags}
 use Rattle.index_items.specs.Pending.{no_flags}
 use Rattle.index_items.specs.declared.act.Act.{Act}
 use Rattle.index_items.specs.declared.act.Act.TheVariants.{Set, Clear, TurnFlagged, TurnNew}

@@ -1,11 +1,15 @@
 -- A date and a time of day are what the definitions say of the day and the second.
-use Rattle.std.proofs.Common.{◌≡◌, ◌∙◌, sym, ap, refl, subst, w64, FitsSigned, arith, ◌+◌, ◌/◌, ◌%◌, ◌≤◌, ◌<◌, ℕ, zero, suc, ℤ, pos, ◌+ℤ◌, ◌-ℤ◌, ◌≤ℤ◌, ◌<ℤ◌, ⊎_elim}
+use Rattle.std.proofs.Common.{◌≡◌, ◌∙◌, sym, ap, refl, subst, w64, FitsSigned, arith, ◌+◌, ◌/◌, ◌%◌}
+use Rattle.std.proofs.Common.{◌≤◌, ◌<◌, ℕ, zero, suc, ℤ, pos, ◌+ℤ◌, ◌-ℤ◌, ◌≤ℤ◌, ◌<ℤ◌, ⊎_elim}
 use Rattle.std.proofs.lemmas.Bool.{and_from, and_parts, cases_Bool, cases_lt, false≢true}
 use lib.Signed.{le_z_yes}
-use Rattle.std.specs.Prelude.{Bool, neg_ℤ, true, false, Some, None, int_le, unsigned_abs, if◌then◌else◌}
+use Rattle.std.specs.Prelude.{Bool, neg_ℤ, true, false, Some, None, int_le, unsigned_abs}
+use Rattle.std.specs.Prelude.{if◌then◌else◌}
 use Rattle.std.specs.Int.{int_div_euclid, int_rem_euclid}
-use Rattle.jiff_core.proofs.CalendarLemmas.{day_count-day, day_count-lt_month, days_from_civil-day_count}
-use Rattle.jiff_core.proofs.DateLemmas.{civil, days_from_civil-day, epoch_day-ordinal, epoch_day_range}
+use Rattle.jiff_core.proofs.CalendarLemmas.{day_count-day, day_count-lt_month}
+use Rattle.jiff_core.proofs.CalendarLemmas.{days_from_civil-day_count}
+use Rattle.jiff_core.proofs.DateLemmas.{civil, days_from_civil-day, epoch_day-ordinal}
+use Rattle.jiff_core.proofs.DateLemmas.{epoch_day_range}
 use Rattle.jiff_core.proofs.SignedLemmas.{one_part, signed_arith}
 use Rattle.jiff_core.specs.Calendar.{days_from_civil, IsEpochDay}
 use Rattle.jiff_core.specs.Date.{epoch_day, ordinal, weekday_of}
@@ -18,7 +22,8 @@ use Rattle.jiff_strtime.specs.Text.{no_parts}
 use Rattle.index_rows.specs.Laws.{parts_of_clock}
 use Rattle.jiff_tz.proofs.YearLemmas.{year_of_day-date}
 use Rattle.jiff_tz.specs.Year.{year_of_day}
-use Rattle.index_rows.specs.Date.{has_day, month_of_day, months_begun, parts_at, parts_on, place_from}
+use Rattle.index_rows.specs.Date.{has_day, month_of_day, months_begun, parts_at, parts_on}
+use Rattle.index_rows.specs.Date.{place_from}
 
 -- a choice whose both sides are the same
 chosen : (b : Bool) (x y z : ℕ) → (b ≡ true → x ≡ z) → (b ≡ false → y ≡ z) → (if b then x else y)

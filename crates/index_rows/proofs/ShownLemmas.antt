@@ -1,8 +1,9 @@
 -- What a format shows of a clock: it depends on the parts alone, and every format shows something.
-use Rattle.std.proofs.Common.{◌≡◌, ◌∙◌, refl, sym, ap, subst, ⊎_elim, ◌==◌, ◌++◌, Bool, true, false, ℕ, zero, suc, ℤ}
+use Rattle.std.proofs.Common.{◌≡◌, ◌∙◌, refl, sym, ap, subst, ⊎_elim, ◌==◌, ◌++◌, Bool, true, false}
+use Rattle.std.proofs.Common.{ℕ, zero, suc, ℤ}
 use Rattle.std.proofs.lemmas.Bool.{false≢true}
-use Rattle.std.specs.Prelude.{IsOk, List, [], ◌∷◌, length, drop, get_or, nat_lt, Option, Some, None, Result, Ok, Err}
-use Rattle.std.specs.Prelude.{option_map, if◌then◌else◌}
+use Rattle.std.specs.Prelude.{IsOk, List, [], ◌∷◌, length, drop, get_or, nat_lt, Option, Some, None}
+use Rattle.std.specs.Prelude.{Result, Ok, Err, option_map, if◌then◌else◌}
 use Rattle.jiff_core.specs.declared.civil.date.Date.{Date}
 use Rattle.jiff_core.specs.declared.civil.iso_week_date.ISOWeekDate.{ISOWeekDate}
 use Rattle.jiff_core.specs.declared.error.Error.{Error}
@@ -10,7 +11,10 @@ use Rattle.jiff_core.specs.declared.error.Error.TheVariants.{Parse}
 use Rattle.jiff_core.specs.declared.error.Syntax.TheVariants.{Directive}
 use Rattle.jiff_strtime.specs.Directive.{read_extension, read_width}
 use Rattle.jiff_strtime.specs.Number.{match_result}
-use Rattle.jiff_strtime.specs.Show.{Context, IsShownAs, SecondResult, Shown, after_percent, char_text, directive_text, dot_fraction, is_char, sequence_len, items_from, percent_text, show_f, show_format, show_letter, show_steps, shown_then, step_text, text_of}
+use Rattle.jiff_strtime.specs.Show.{Context, IsShownAs, SecondResult, Shown, after_percent}
+use Rattle.jiff_strtime.specs.Show.{char_text, directive_text, dot_fraction, is_char, sequence_len}
+use Rattle.jiff_strtime.specs.Show.{items_from, percent_text, show_f, show_format, show_letter}
+use Rattle.jiff_strtime.specs.Show.{show_steps, shown_then, step_text, text_of}
 use Rattle.jiff_strtime.specs.Text.{Parts, parts_of}
 use Rattle.jiff_strtime.specs.declared.tm.BrokenDownTime.{BrokenDownTime}
 use Rattle.index_rows.specs.Date.{config, context, parts_on}

@@ -1,6 +1,7 @@
 -- Dates of a row, as strftime shows what a clock says at an offset from UTC.
-use Rattle.std.specs.Prelude.{◌+◌, ◌/◌, ◌%◌, ◌+ℤ◌, ◌-ℤ◌, ◌&&◌, ℕ, zero, suc, ℤ, pos, neg_ℤ, Bool, true}
-use Rattle.std.specs.Prelude.{List, [], Option, Some, None, Err, int_le, unsigned_abs, if◌then◌else◌}
+use Rattle.std.specs.Prelude.{◌+◌, ◌/◌, ◌%◌, ◌+ℤ◌, ◌-ℤ◌, ◌&&◌, ℕ, zero, suc, ℤ, pos, neg_ℤ, Bool}
+use Rattle.std.specs.Prelude.{true, List, [], Option, Some, None, Err, int_le, unsigned_abs}
+use Rattle.std.specs.Prelude.{if◌then◌else◌}
 use Rattle.std.specs.Int.{int_div_euclid, int_rem_euclid}
 use Rattle.std.specs.Result.{result_unwrap_or}
 use Rattle.jiff_core.specs.Calendar.{days_from_civil, weekday_number}

@@ -10,8 +10,8 @@ use Rattle.std.specs.List.{AllByRecursion, IsDistinct, list_any, position_or_len
 use Rattle.std.specs.Prelude.{is_some, position}
 use Rattle.mail_base.specs.declared.kind.Id.{Id}
 use Rattle.index_items.specs.Alteration.{alter_at, altered_where}
-use Rattle.index_items.specs.Acts.{Changes, PlainAlteration, Shuts, Tags, acted, acted_all, alteration}
-use Rattle.index_items.specs.Acts.{changed_by}
+use Rattle.index_items.specs.Acts.{Changes, PlainAlteration, Shuts, Tags, acted, acted_all}
+use Rattle.index_items.specs.Acts.{alteration, changed_by}
 use Rattle.index_items.specs.Items.{PlainItem, numbers, plain_item, plain_items, shown_flags}
 use Rattle.index_items.specs.declared.act.Act.{Act}
 use Rattle.index_items.specs.declared.item.Item.{Item}
@@ -46,7 +46,8 @@ altered_at_place (i ∷ items) (suc p) id f d low same apart =
     let is : slice_index_or (numbers items) p 0 ≡ id.0 =
     get_or-map (λ j. j.id.0) items p d 0 below
     ∙ sym (eqb-true id.0 (slice_index_or items p d).id.0 same) in
-    let other : nat_eq id.0 i.id.0 ≡ false = apart_sym i.id.0 id.0 (ap (nat_eq i.id.0) (sym is) ∙ at) in
+    let other : nat_eq id.0 i.id.0 ≡ false =
+    apart_sym i.id.0 id.0 (ap (nat_eq i.id.0) (sym is) ∙ at) in
     let here : altered_where id f i ≡ i = rw other refl in
     λ k. sym here k ∷ altered_at_place items p id f d below same apart.1 k
   where

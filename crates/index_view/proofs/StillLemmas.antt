@@ -1,6 +1,6 @@
 -- Where neither the limit nor scores look at flags and tags, what is seen hangs on none of them.
-use Rattle.std.proofs.Common.{◌≡◌, ◌∙◌, ◌||◌, ℕ, zero, suc, Bool, true, false, List, [], ◌∷◌, Option}
-use Rattle.std.proofs.Common.{ap, length, map, nat_eq, refl, slice_index_or, sym}
+use Rattle.std.proofs.Common.{◌≡◌, ◌∙◌, ◌||◌, ℕ, zero, suc, Bool, true, false, List, [], ◌∷◌}
+use Rattle.std.proofs.Common.{Option, ap, length, map, nat_eq, refl, slice_index_or, sym}
 use Rattle.std.specs.Prelude.{if◌then◌else◌}
 use Rattle.std.proofs.lemmas.List.{length-map}
 use Rattle.std.proofs.lemmas.List.FromFn.{length-range_with_len}
@@ -13,7 +13,8 @@ use Rattle.people.specs.People.{PlainPeople}
 use Rattle.patterns_match.specs.Listings.{Message}
 use Rattle.patterns_match.specs.Scores.{PlainEntry, score}
 use Rattle.patterns_match.specs.declared.row.Row.{Row}
-use Rattle.index_items.specs.Acts.{PlainAlteration, acted, alteration, changed_by, clearing, setting}
+use Rattle.index_items.specs.Acts.{PlainAlteration, acted, alteration, changed_by, clearing}
+use Rattle.index_items.specs.Acts.{setting}
 use Rattle.index_items.specs.Alteration.{alter_at, altered_where}
 use Rattle.index_items.specs.Items.{PlainItem, ids_of, shown_flags}
 use Rattle.index_items.specs.Pending.{no_flags}
@@ -39,8 +40,9 @@ use Rattle.index_view.specs.Limit.{PlainLimit, all_within}
 use Rattle.index_view.specs.Listing.{all_listed}
 use Rattle.index_view.specs.Marks.{mark_of, marks_of}
 use Rattle.index_view.specs.Ordering.{key_at, key_of, numbered, with_number}
-use Rattle.index_view.specs.Tables.{first_row, first_row_at, first_rows, in_shut, message, message_at}
-use Rattle.index_view.specs.Tables.{no_item, no_row, row_at, scored_at, table, with_score}
+use Rattle.index_view.specs.Tables.{first_row, first_row_at, first_rows, in_shut, message}
+use Rattle.index_view.specs.Tables.{message_at, no_item, no_row, row_at, scored_at, table}
+use Rattle.index_view.specs.Tables.{with_score}
 use Rattle.index_view.specs.View.{answers_over}
 use Rattle.index_view.proofs.ActingLemmas.{acted_keeps_id}
 use Rattle.index_view.proofs.AnswersLemmas.{rows_long}
@@ -188,7 +190,9 @@ module _ (ls : List PlainListed) (f : Facts) (items : List PlainItem) (blind : I
       (mark_of (rows_of ls f) (within_of ls f))
       (λ q. ap (λ (ws : List Bool). slice_index_or ws q false) same_within)
       (range_with_len 0 (length (rows_of ls g))) p
-      ∙ ap (λ n. (mark_at (map (mark_of (rows_of ls f) (within_of ls f)) (range_with_len 0 n)) p).satisfies)
+      ∙ ap (λ n.
+      (mark_at (map (mark_of (rows_of ls f) (within_of ls f)) (range_with_len 0 n))
+      p).satisfies)
       (rows_long ls g ∙ sym (rows_long ls f))
 
   same_row : (p : ℕ) → (row_at (rows_of ls g) p).collapsed ≡ (row_at (rows_of ls f) p).collapsed
@@ -200,7 +204,8 @@ module _ (ls : List PlainListed) (f : Facts) (items : List PlainItem) (blind : I
       mark_same (λ m. m.is_shut) (mark_of (rows_of ls g) (within_of ls g))
       (mark_of (rows_of ls f) (within_of ls f)) same_row
       (range_with_len 0 (length (rows_of ls g))) p
-      ∙ ap (λ n. (mark_at (map (mark_of (rows_of ls f) (within_of ls f)) (range_with_len 0 n)) p).is_shut)
+      ∙ ap (λ n.
+      (mark_at (map (mark_of (rows_of ls f) (within_of ls f)) (range_with_len 0 n)) p).is_shut)
       (rows_long ls g ∙ sym (rows_long ls f))
 
   same_entry : (s : Stance) → entry_of (marks_of (rows_of ls g) (within_of ls g)) s
@@ -215,7 +220,8 @@ module _ (ls : List PlainListed) (f : Facts) (items : List PlainItem) (blind : I
   same_entries : entries (marks_of (rows_of ls g) (within_of ls g)) (stances_of ls g)
       ≡ entries (marks_of (rows_of ls f) (within_of ls f)) (stances_of ls f)
   same_entries =
-      ap (λ (all : List Stance). entries (marks_of (rows_of ls g) (within_of ls g)) all) same_stances
+      ap (λ (all : List Stance). entries (marks_of (rows_of ls g) (within_of ls g)) all)
+      same_stances
       ∙ each_same (entry_of (marks_of (rows_of ls g) (within_of ls g)))
       (entry_of (marks_of (rows_of ls f) (within_of ls f))) (stances_of ls f) same_entry
 
@@ -286,6 +292,7 @@ pub seen_acted : (mails : List Mail) (f : Facts) (act : Act) (id : Id) → IsBli
     ≡ visible_ids (answers_over mails f).sight
 seen_acted mails f act id blind scores_blind =
     let items = alter_at id (acted act) f.items in
-    ap (λ (xs : List Id). visible_ids (sight_of (with_letters mails xs) (record f { items = items })))
+    ap (λ (xs : List Id). visible_ids
+    (sight_of (with_letters mails xs) (record f { items = items })))
     (acted_ids act id f.items)
     ∙ seen_still (all_listed mails f.items) f items blind scores_blind (acted_shut act id f.items)

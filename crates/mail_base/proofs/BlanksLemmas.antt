@@ -1,6 +1,6 @@
 -- Texts without the blanks at their ends, by the places of their other bytes.
-use Rattle.std.proofs.Common.{◌≡◌, ℕ, suc, ◌+◌, ◌-◌, Bool, true, false, not, cond, List, [], ◌∷◌, length, drop, Some}
-use Rattle.std.proofs.Common.{None, get_or, refl, ap, ◌∙◌, arith}
+use Rattle.std.proofs.Common.{◌≡◌, ℕ, suc, ◌+◌, ◌-◌, Bool, true, false, not, cond, List, [], ◌∷◌}
+use Rattle.std.proofs.Common.{length, drop, Some, None, get_or, refl, ap, ◌∙◌, arith}
 use Rattle.std.specs.Prelude.{if◌then◌else◌}
 use Rattle.std.specs.List.{position_or_len, suffix_len}
 use Rattle.std.proofs.lemmas.Bool.{not-true, not-false}
@@ -10,15 +10,18 @@ use Rattle.mail_base.specs.Places.{IsLastPlace}
 use Rattle.mail_base.specs.Blanks.{is_blank, without_blanks}
 
 -- where the text begins without its blanks
-pub without_blanks-drop : (s : List ℕ) → without_blanks s ≡ drop (position_or_len (λ b. not (is_blank b)) s) s
+pub without_blanks-drop : (s : List ℕ)
+    → without_blanks s ≡ drop (position_or_len (λ b. not (is_blank b)) s) s
 without_blanks-drop [] = refl
 without_blanks-drop (b ∷ rest) = by_blank (is_blank b) (without_blanks-drop rest)
   where
-    by_blank : (t : Bool) → without_blanks rest ≡ drop (position_or_len (λ c. not (is_blank c)) rest) rest
+    by_blank : (t : Bool)
+        → without_blanks rest ≡ drop (position_or_len (λ c. not (is_blank c)) rest) rest
         → (if t then without_blanks rest else b ∷ rest)
         ≡ drop (cond (not (not t)) (1 + position_or_len (λ c. not (is_blank c)) rest) 0) (b ∷ rest)
     by_blank true h =
-        let next : suc (position_or_len (λ c. not (is_blank c)) rest) ≡ 1 + position_or_len (λ c. not (is_blank c)) rest =
+        let next : suc (position_or_len (λ c. not (is_blank c)) rest)
+        ≡ 1 + position_or_len (λ c. not (is_blank c)) rest =
         omega arith in
         h ∙ ap (λ k. drop k (b ∷ rest)) next
     by_blank false h = refl
@@ -39,7 +42,8 @@ pub solid_len_none : (s : List ℕ) → IsLastPlace (λ b. not (is_blank b)) s N
     → length s - suffix_len is_blank s ≡ 0
 solid_len_none s none =
     let all =
-    suffix_len_is is_blank s 0 0 (omega arith) (λ j low below. not-false _ (none j 0 (omega arith) below))
+    suffix_len_is is_blank s 0 0 (omega arith)
+    (λ j low below. not-false _ (none j 0 (omega arith) below))
     (λ past. absurd (omega arith)) in
     omega arith
 

@@ -1,6 +1,7 @@
 -- What follows a text that stands at the front.
-use Rattle.std.proofs.Common.{◌≡◌, ℕ, ◌==◌, true, List, [], ◌∷◌, ◌++◌, length, drop, Some, None, refl, ap, ◌∙◌, eq-eqb}
-use Rattle.std.proofs.Common.{◌≤◌, Bool, false, take, sym, arith, append_assoc, take-append-drop}
+use Rattle.std.proofs.Common.{◌≡◌, ℕ, ◌==◌, true, List, [], ◌∷◌, ◌++◌, length, drop, Some, None}
+use Rattle.std.proofs.Common.{refl, ap, ◌∙◌, eq-eqb, ◌≤◌, Bool, false, take, sym, arith}
+use Rattle.std.proofs.Common.{append_assoc, take-append-drop}
 use Rattle.std.specs.Prelude.{if◌then◌else◌}
 use Rattle.std.proofs.lemmas.Bool.{and_parts, eqb-true}
 use Rattle.std.specs.Str.{bytes_eq}

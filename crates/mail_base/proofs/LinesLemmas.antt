@@ -1,18 +1,21 @@
 -- How a text breaks into lines: those in front of a line, and those behind it.
-use Rattle.std.proofs.Common.{◌≡◌, ◌≢◌, ℕ, zero, suc, ◌+◌, ◌-◌, ◌<◌, ◌≤◌, Bool, true, false, List, [], ◌∷◌, ◌++◌}
-use Rattle.std.proofs.Common.{length, take, drop, slice_index, refl, sym, ap, subst, ◌∙◌, arith, inr, ⊎_elim}
-use Rattle.std.proofs.Common.{length-append, length-drop, length-take-le, get_or-take, append_assoc}
+use Rattle.std.proofs.Common.{◌≡◌, ◌≢◌, ℕ, zero, suc, ◌+◌, ◌-◌, ◌<◌, ◌≤◌, Bool, true, false, List}
+use Rattle.std.proofs.Common.{[], ◌∷◌, ◌++◌, length, take, drop, slice_index, refl, sym, ap, subst}
+use Rattle.std.proofs.Common.{◌∙◌, arith, inr, ⊎_elim, length-append, length-drop, length-take-le}
+use Rattle.std.proofs.Common.{get_or-take, append_assoc}
 use Rattle.std.specs.Prelude.{if◌then◌else◌}
 use Rattle.std.specs.List.{concat}
 use Rattle.std.proofs.Common.{◌==◌, ◌&&◌, not, nat_lt}
 use Rattle.std.specs.List.{list_all}
-use Rattle.std.proofs.lemmas.Bool.{and_from, and_parts, cases_eq, cond-true, cond-false, eq-eqb, lt-ltb, ne_eqb}
-use Rattle.std.proofs.lemmas.Bool.{not-true}
+use Rattle.std.proofs.lemmas.Bool.{and_from, and_parts, cases_eq, cond-true, cond-false, eq-eqb}
+use Rattle.std.proofs.lemmas.Bool.{lt-ltb, ne_eqb, not-true}
 use Rattle.std.proofs.lemmas.List.{drop-drop, drop_at, get_or_push, take_at}
 use Rattle.bstr.specs.Text.{line_len, lines_of, no_cr, without_terminator}
-use Rattle.bstr.proofs.lemmas.LineLemmas.{EndsLine, line_len-bounds, lines-nil, lines-step, lines-append, lines-one}
+use Rattle.bstr.proofs.lemmas.LineLemmas.{EndsLine, line_len-bounds, lines-nil, lines-step}
+use Rattle.bstr.proofs.lemmas.LineLemmas.{lines-append, lines-one}
 use Rattle.bstr.proofs.lemmas.RestLemmas.{concat-lines_of}
-use Rattle.mail_base.specs.Lines.{after_block, behind_first, body_at, body_of, header_block, is_empty_line}
+use Rattle.mail_base.specs.Lines.{after_block, behind_first, body_at, body_of, header_block}
+use Rattle.mail_base.specs.Lines.{is_empty_line}
 
 -- a text with no line feed before its last byte
 pub record IsLine (s : List ℕ) : Type 0 where
@@ -99,7 +102,8 @@ front_lines s (l ∷ front) line back e =
     let rest : lines_of (drop n s) ≡ front ++ line ∷ back = cc in
     let more = some_lines (drop n s) front line back rest in
     let less : n < length s = omega (arith, length-drop n s, more) in
-    line_in_front l (concat front) (subst IsLine first (first_line s some)) (subst EndsLine first (first_ends s less))
+    line_in_front l (concat front) (subst IsLine first (first_line s some))
+    (subst EndsLine first (first_ends s less))
     ∙ ap (λ ls. l ∷ ls) (front_lines (drop n s) front line back rest)
 
 -- the lines behind lines are those of the bytes behind them
@@ -121,19 +125,22 @@ back_lines (b ∷ r) (l ∷ front) back e =
     ∙ back_lines (drop n s) front back rest
 
 -- the lines behind lines are those of their own bytes
-pub back_whole : (s : List ℕ) (front back : List (List ℕ)) → lines_of s ≡ front ++ back → lines_of (concat back) ≡ back
+pub back_whole : (s : List ℕ) (front back : List (List ℕ)) → lines_of s ≡ front ++ back
+    → lines_of (concat back) ≡ back
 back_whole s front back e =
     let behind = back_lines s front back e in
     ap lines_of (ap concat (sym behind) ∙ concat-lines_of (drop (length (concat front)) s)) ∙ behind
 
 -- what is left of the lines is what is left of the bytes
-pub length_left : (rest : List ℕ) (lines : List (List ℕ)) → lines_of rest ≡ lines → length rest ≡ length (concat lines)
+pub length_left : (rest : List ℕ) (lines : List (List ℕ)) → lines_of rest ≡ lines
+    → length rest ≡ length (concat lines)
 length_left rest lines e = ap length (sym (concat-lines_of rest) ∙ ap concat e)
 
 -- a line less
 pub shorter_left : (line : List ℕ) (lines left : List (List ℕ)) (n : ℕ) → left ≡ line ∷ lines
     → length (concat left) ≤ n → length line + length (concat lines) ≤ n
-shorter_left line lines left n e h = omega (arith, ap (λ l. length (concat l)) e, length-append line (concat lines), h)
+shorter_left line lines left n e h =
+    omega (arith, ap (λ l. length (concat l)) e, length-append line (concat lines), h)
 
 -- the header block and what follows it
 pub both_blocks : (lines : List (List ℕ)) → lines ≡ header_block lines ++ after_block lines
@@ -142,21 +149,25 @@ both_blocks (line ∷ lines) = by_line (is_empty_line line) (both_blocks lines)
   where
     by_line : (empty : Bool) → lines ≡ header_block lines ++ after_block lines
         → line ∷ lines
-        ≡ (if empty then [] else line ∷ header_block lines) ++ (if empty then line ∷ lines else after_block lines)
+        ≡ (if empty then [] else line ∷ header_block lines)
+        ++ (if empty then line ∷ lines else after_block lines)
     by_line true h = refl
     by_line false h = ap (λ ls. line ∷ ls) h
 
 -- the lines behind a header block, with the empty one before them
-pub lines-after_block : (text : List ℕ) → lines_of (drop (body_at text) text) ≡ after_block (lines_of text)
+pub lines-after_block : (text : List ℕ)
+    → lines_of (drop (body_at text) text) ≡ after_block (lines_of text)
 lines-after_block text =
-    back_lines text (header_block (lines_of text)) (after_block (lines_of text)) (both_blocks (lines_of text))
+    back_lines text (header_block (lines_of text)) (after_block (lines_of text))
+    (both_blocks (lines_of text))
 
 first_back : (lines : List (List ℕ)) → (n : ℕ) × (lines ≡ take n lines ++ behind_first lines)
 first_back [] = (0, refl)
 first_back (line ∷ lines) = (1, refl)
 
 -- the lines of a body are those behind the empty line
-pub lines-body_of : (text : List ℕ) → lines_of (body_of text) ≡ behind_first (after_block (lines_of text))
+pub lines-body_of : (text : List ℕ)
+    → lines_of (body_of text) ≡ behind_first (after_block (lines_of text))
 lines-body_of text =
     let lines = lines_of text in
     let after = after_block lines in
@@ -187,7 +198,8 @@ lines_feed content rest none =
     let some : 0 < length text = omega (arith, length-append content (10 ∷ rest)) in
     lines-step text some
     ∙ ap (λ (t : List ℕ). take (line_len text) t ∷ lines_of (drop (line_len text) t)) whole
-    ∙ ap (λ (l : List ℕ). l ∷ lines_of (drop (line_len text) (line ++ rest))) (take_at line rest (line_len text) long)
+    ∙ ap (λ (l : List ℕ). l ∷ lines_of (drop (line_len text) (line ++ rest)))
+    (take_at line rest (line_len text) long)
     ∙ ap (λ (l : List ℕ). line ∷ lines_of l) (drop_at line rest (line_len text) long)
 
 -- CR LF goes from the end of a line
@@ -201,7 +213,8 @@ terminator_goes s =
     let feed : (nat_lt 0 (length line) && slice_index line (length line - 1) == 10) ≡ true =
     let last : length line - 1 ≡ length text = omega arith in
     let at : slice_index line (length line - 1) ≡ 10 =
-    ap (slice_index line) last ∙ ap (λ l. slice_index l (length text)) whole ∙ get_or_push text 10 0 (length text) refl in
+    ap (slice_index line) last ∙ ap (λ l. slice_index l (length text)) whole
+    ∙ get_or_push text 10 0 (length text) refl in
     and_from _ _ (lt-ltb 0 (length line) (omega arith)) (eq-eqb _ 10 at) in
     let return : (nat_lt 0 (length text) && slice_index text (length text - 1) == 13) ≡ true =
     let last : length text - 1 ≡ length s = omega arith in
@@ -209,6 +222,8 @@ terminator_goes s =
     ap (slice_index text) last ∙ get_or_push s 13 0 (length s) refl in
     and_from _ _ (lt-ltb 0 (length text) (omega arith)) (eq-eqb _ 13 at) in
     cond-true _ _ _ feed
-    ∙ ap no_cr (ap (λ l. take (length line - 1) l) whole ∙ take_at text (10 ∷ []) (length line - 1) (omega arith))
+    ∙ ap no_cr
+    (ap (λ l. take (length line - 1) l) whole
+    ∙ take_at text (10 ∷ []) (length line - 1) (omega arith))
     ∙ cond-true _ _ _ return
     ∙ take_at s (13 ∷ []) (length text - 1) (omega arith)

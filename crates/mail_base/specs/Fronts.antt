@@ -1,6 +1,6 @@
 -- What follows the front of a text.
-use Rattle.std.specs.Prelude.{◌==◌, ℕ, List, [], ◌∷◌, length, take, drop, Option, Some, None, option_and_then}
-use Rattle.std.specs.Prelude.{if◌then◌else◌}
+use Rattle.std.specs.Prelude.{◌==◌, ℕ, List, [], ◌∷◌, length, take, drop, Option, Some, None}
+use Rattle.std.specs.Prelude.{option_and_then, if◌then◌else◌}
 use Rattle.std.specs.Str.{bytes_eq}
 
 -- the next step, where the one before gave a value
@@ -15,4 +15,5 @@ behind byte (b ∷ rest) = if b == byte then Some rest else None
 
 -- what follows a text, where it stands at the front
 abbrev pub behind_text : List ℕ → List ℕ → Option (List ℕ)
-behind_text front s = if bytes_eq (take (length front) s) front then Some (drop (length front) s) else None
+behind_text front s =
+    if bytes_eq (take (length front) s) front then Some (drop (length front) s) else None

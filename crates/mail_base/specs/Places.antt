@@ -1,10 +1,12 @@
--- The first and the last place of a list at which a test passes. The first is what `position` gives.
-use Rattle.std.specs.Prelude.{◌≡◌, ◌==◌, ◌+◌, ◌<◌, ℕ, Bool, true, false, List, length, take, drop, position, Option}
-use Rattle.std.specs.Prelude.{MatchOption, option_map, slice_index_or}
+-- The first and the last place of a list at which a test passes. The first is what `position`
+-- gives.
+use Rattle.std.specs.Prelude.{◌≡◌, ◌==◌, ◌+◌, ◌<◌, ℕ, Bool, true, false, List, length, take, drop}
+use Rattle.std.specs.Prelude.{position, Option, MatchOption, option_map, slice_index_or}
 
 -- the test passes at no place from low on
 abbrev pub Nowhere : {X : Type 0} → (X → Bool) → List X → ℕ → Type 0
-Nowhere {X} p xs low = (j : ℕ) (d : X) → low < j + 1 → j < length xs → p (slice_index_or xs j d) ≡ false
+Nowhere {X} p xs low =
+    (j : ℕ) (d : X) → low < j + 1 → j < length xs → p (slice_index_or xs j d) ≡ false
 
 -- the test passes there
 abbrev pub PassesAt : {X : Type 0} → (X → Bool) → List X → ℕ → Type 0

@@ -1,6 +1,7 @@
 //! Bytes shown as UTF-8, with a `?` in place of each malformed byte.
 
-ghost use Rattle.std.specs.Prelude.{◌≡◌, ◌≤◌, ◌<◌, ◌++◌, None, OnOk, IfSome, length, take, drop, replicate};
+ghost use Rattle.std.specs.Prelude.{◌≡◌, ◌≤◌, ◌<◌, ◌++◌, None, OnOk, IfSome, length, take, drop};
+ghost use Rattle.std.specs.Prelude.{replicate};
 ghost use Rattle.std.specs.Str.{IsUtf8};
 ghost use Rattle.bstr.specs.Utf8.{decoded};
 ghost use Rattle.mail_base.specs.Shown as spec;

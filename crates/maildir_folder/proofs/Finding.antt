@@ -1,6 +1,7 @@
 -- What looks at the directories of a folder tell.
-use Rattle.std.proofs.Common.{◌≡◌, ◌≤◌, ◌&&◌, ℕ, Bool, true, false, not, List, [], ◌∷◌, Option, Some, None}
-use Rattle.std.proofs.Common.{Ok, Err, length, map, if◌then◌else◌, refl, sym, ◌∙◌, ap, subst, arith}
+use Rattle.std.proofs.Common.{◌≡◌, ◌≤◌, ◌&&◌, ℕ, Bool, true, false, not, List, [], ◌∷◌, Option}
+use Rattle.std.proofs.Common.{Some, None, Ok, Err, length, map, if◌then◌else◌, refl, sym, ◌∙◌, ap}
+use Rattle.std.proofs.Common.{subst, arith}
 use Rattle.std.specs.Prelude.{IfSome, option_and_then}
 use Rattle.std.specs.Str.{bytes_eq, is_utf8}
 use Rattle.std.proofs.lemmas.Bool.{and_parts}
@@ -12,8 +13,8 @@ use Rattle.disk_model.specs.Looking.{HasLooked, LooksOnly, OnlyLooks}
 use Rattle.disk_model.specs.Names.{more_names, name_of, names_in, put_name}
 use Rattle.disk_model.specs.Seen.{Seen}
 use Rattle.disk_model.specs.State.{tree_at}
-use Rattle.disk_model.specs.Tree.{TreeNode, are_distinct, are_placed, folder_of, is_folder_node, is_placed, is_root, is_tree}
-use Rattle.disk_model.specs.Tree.{node_at}
+use Rattle.disk_model.specs.Tree.{TreeNode, are_distinct, are_placed, folder_of, is_folder_node}
+use Rattle.disk_model.specs.Tree.{is_placed, is_root, is_tree, node_at}
 use Rattle.disk_model.proofs.LawsOfTrees.{each_mark_has_a_tree}
 use Rattle.disk_model.proofs.Trees.{bytes_same}
 use Rattle.folder_core.specs.Costs.{RaisesAtMost}
@@ -21,12 +22,13 @@ use Rattle.folder_core.specs.Directory.{file_at, is_folder_at, node_file}
 use Rattle.folder_core.specs.Looked.{IsContents, SawAt}
 use Rattle.folder_core.specs.Maildir.{directory}
 use Rattle.folder_core.specs.declared.error.ScanError.{ScanError}
-use Rattle.folder_core.specs.declared.error.ScanError.TheVariants.{Missing, NotMailbox, TooMany, TooLarge, Unfinished}
+use Rattle.folder_core.specs.declared.error.ScanError.TheVariants.{Missing, NotMailbox, TooMany}
+use Rattle.folder_core.specs.declared.error.ScanError.TheVariants.{TooLarge, Unfinished}
 use Rattle.folder_core.specs.declared.error.ScanError.TheVariants.{ArchiveFull, Fault, NoMemory}
 use Rattle.folder_core.specs.declared.looks.Contents.{Contents}
 use Rattle.folder_core.specs.declared.looks.Contents.TheVariants.{Nothing}
-use Rattle.folder_core.proofs.SeenLemmas.{goes_as, goes_then, longer_later, only_then, rose_later, saw_earlier}
-use Rattle.folder_core.proofs.SeenLemmas.{saw_later}
+use Rattle.folder_core.proofs.SeenLemmas.{goes_as, goes_then, longer_later, only_then, rose_later}
+use Rattle.folder_core.proofs.SeenLemmas.{saw_earlier, saw_later}
 use Rattle.maildir_folder.specs.Files.{CurSeen, Finds, FolderSeen, NamesSeen, NewSeen, WasRefused}
 use Rattle.maildir_folder.specs.Files.{plain_names}
 
@@ -41,7 +43,8 @@ no_names tree dir [] none placed = refl
 no_names tree dir (node ∷ nodes) none placed =
     let parts = and_parts (is_placed tree node.path) (are_placed tree nodes) placed in
     by_folder (bytes_eq (folder_of node.path) dir) refl
-    (and_parts (not (is_root node.path) && is_utf8 node.path) (is_folder_node (node_at tree (folder_of node.path)))
+    (and_parts (not (is_root node.path) && is_utf8 node.path)
+    (is_folder_node (node_at tree (folder_of node.path)))
     parts.0).1 (no_names tree dir nodes none parts.1)
   where
     by_folder : (t : Bool) → bytes_eq (folder_of node.path) dir ≡ t
@@ -59,12 +62,27 @@ nothing_in tree dir is none =
 
 -- Refusals.
 
-pub refused_from : (path : List ℕ) (why : ScanError) (old mid new : Past) → length old.journal ≤ length mid.journal
+pub refused_from : (path : List ℕ) (why : ScanError) (old mid new : Past)
+    → length old.journal ≤ length mid.journal
     → WasRefused path why mid new → WasRefused path why old new
 refused_from path Missing old mid new low was =
-    record { mark = was.mark; from = omega (arith, was.from, low); to = was.to; nothing = was.nothing }
-refused_from path (NotMailbox place) old mid new low was =
-    (was.0, record { mark = was.1.mark; from = omega (arith, was.1.from, low); to = was.1.to; other = was.1.other })
+    record {
+      mark = was.mark;
+      from = omega (arith, was.from, low);
+      to = was.to;
+      nothing =
+          was.nothing;
+    }
+refused_from path (NotMailbox place) old mid new low was = (
+  was.0,
+  record {
+    mark = was.1.mark;
+    from = omega (arith, was.1.from, low);
+    to = was.1.to;
+    other =
+        was.1.other;
+  },
+)
 refused_from path (TooMany count) old mid new low was = absurd was.saw
 refused_from path (TooLarge bytes) old mid new low was = absurd was.saw
 refused_from path Unfinished old mid new low was = was
@@ -74,12 +92,14 @@ refused_from path NoMemory old mid new low was = tt
 
 -- a refusal behind other looks
 pub refused_later : {A B : Type 0} {Sees : A → Option Past → Option Past → Type 0}
-    {Gives : B → Option Past → Option Past → Type 0} (path : List ℕ) (why : ScanError) (a b c : Seen) → OnlyLooks a b
+    {Gives : B → Option Past → Option Past → Type 0} (path : List ℕ) (why : ScanError)
+    (a b c : Seen) → OnlyLooks a b
     → Finds path (Err why) Sees b c → Finds path (Err why) Gives a c
 refused_later path why a b c before found = record {
   saw = tt;
   refused = goes_then {P = HasLooked} a.told b.told c.told (λ p q r x y looked was.
-      refused_from path why p q r (longer_later p q x) was) before.looks found.only.looks before.looks found.refused;
+      refused_from path why p q r (longer_later p q x) was) before.looks found.only.looks
+      before.looks found.refused;
   errors = found.errors;
   only = only_then a b c before found.only;
   reads = tt;
@@ -88,7 +108,8 @@ refused_later path why a b c before found = record {
 }
 
 -- memory ran out behind looks
-pub no_memory : {A : Type 0} {Sees : A → Option Past → Option Past → Type 0} (path : List ℕ) (a b : Seen)
+pub no_memory : {A : Type 0} {Sees : A → Option Past → Option Past → Type 0} (path : List ℕ)
+    (a b : Seen)
     → OnlyLooks a b → Finds path (Err NoMemory) Sees a b
 no_memory path a b before = record {
   saw = tt;
@@ -100,7 +121,8 @@ no_memory path a b before = record {
 }
 
 -- what was found
-pub was_found : {A : Type 0} {Sees : A → Option Past → Option Past → Type 0} (path : List ℕ) (given : A) (a b : Seen)
+pub was_found : {A : Type 0} {Sees : A → Option Past → Option Past → Type 0} (path : List ℕ)
+    (given : A) (a b : Seen)
     → OnlyLooks a b → RaisesAtMost a.bytes_read b.bytes_read 0 → Sees given a.told b.told
     → Finds path (Ok given) Sees a b
 was_found path given a b only reads saw = record {
@@ -114,9 +136,11 @@ was_found path given a b only reads saw = record {
 
 -- The directories.
 
-pub new_missing : (path : List ℕ) (names : Held (Held ℕ)) (marks : ℕ) (a b : Option Past) → names.items ≡ []
+pub new_missing : (path : List ℕ) (names : Held (Held ℕ)) (marks : ℕ) (a b : Option Past)
+    → names.items ≡ []
     → IfSome b (IsLawful marks)
-    → GoesOn (SawAt (ListDir (directory false path)) (λ tree. IsContents Nothing tree (directory false path))) a b
+    → GoesOn (SawAt (ListDir (directory false path))
+    (λ tree. IsContents Nothing tree (directory false path))) a b
     → GoesOn (NewSeen path (plain_names names)) a b
 new_missing path names marks None b none lawful saw = saw
 new_missing path names marks (Some p) None none lawful saw = absurd saw
@@ -128,23 +152,27 @@ new_missing path names marks (Some p) (Some q) none lawful saw = record {
   own = saw.own;
   tells = (
     ap (map (λ (name : Held ℕ). name.items)) none
-        ∙ sym (nothing_in (tree_at q saw.mark) (directory false path) (each_mark_has_a_tree q marks saw.mark lawful)
+        ∙ sym (nothing_in (tree_at q saw.mark) (directory false path)
+        (each_mark_has_a_tree q marks saw.mark lawful)
         saw.tells),
     ap (option_and_then node_file) saw.tells,
   );
 }
 
 -- what a look at a directory told, by its path and by what it gave
-pub contents_told : (at dir : List ℕ) (contents given : Contents) (a b : Option Past) → at ≡ dir → contents ≡ given
+pub contents_told : (at dir : List ℕ) (contents given : Contents) (a b : Option Past) → at ≡ dir
+    → contents ≡ given
     → GoesOn (SawAt (ListDir at) (λ tree. IsContents contents tree at)) a b
     → GoesOn (SawAt (ListDir dir) (λ tree. IsContents given tree dir)) a b
 contents_told at dir contents given a b same is saw =
     subst (λ (l : List ℕ). GoesOn (SawAt (ListDir l) (λ tree. IsContents given tree l)) a b) same
-    (subst (λ (x : Contents). GoesOn (SawAt (ListDir at) (λ tree. IsContents x tree at)) a b) is saw)
+    (subst (λ (x : Contents). GoesOn (SawAt (ListDir at) (λ tree. IsContents x tree at)) a b) is
+    saw)
 
 -- All of them.
 
-pub names_seen : (path : List ℕ) (cur new : List (List ℕ)) (a b c d : Option Past) → LooksOnly a b → LooksOnly b c
+pub names_seen : (path : List ℕ) (cur new : List (List ℕ)) (a b c d : Option Past) → LooksOnly a b
+    → LooksOnly b c
     → LooksOnly c d → LooksOnly b d → GoesOn (FolderSeen path) a b → GoesOn (NewSeen path new) b c
     → GoesOn (CurSeen path cur) c d → GoesOn (NamesSeen path cur new) a d
 names_seen path cur new a b c d first second third last folder news curs =

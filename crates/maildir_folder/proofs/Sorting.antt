@@ -2,7 +2,8 @@
 use Rattle.std.proofs.Common.{◌≡◌, ℕ, suc, Bool, true, false, not, List, [], ◌∷◌, map, refl, sym}
 use Rattle.std.proofs.Common.{◌∙◌}
 use Rattle.std.proofs.Common.{ap, subst, arith, Some, None}
-use Rattle.std.proofs.lemmas.Cmp.{on_total, then_total, back_total, nat_cmp_total, nat_list_cmp_total}
+use Rattle.std.proofs.lemmas.Cmp.{on_total, then_total, back_total, nat_cmp_total}
+use Rattle.std.proofs.lemmas.Cmp.{nat_list_cmp_total}
 use Rattle.std.proofs.lemmas.List.Sorted.{IsPermutation-map, All-permutation, ranks_by}
 use Rattle.std.specs.Cmp.{IsTotalOrder, IsStrictWeakOrder, bool_cmp_total}
 use Rattle.std.specs.Cmp.Lexicographic.{slice_cmp}
@@ -54,7 +55,8 @@ file_tie a b first second = by_cmp (file_cmp a b) refl first
     by_cmp Less e off = absurd (true_false off)
     by_cmp Equal e off = file_same a b e
     by_cmp Greater e off =
-        absurd (true_false (sym (ap is_lt (file_total.antisymm b a ∙ ap ordering_reverse e)) ∙ second))
+        absurd (true_false
+        (sym (ap is_lt (file_total.antisymm b a ∙ ap ordering_reverse e)) ∙ second))
 
 file_order : IsStrictWeakOrder comes_before
 file_order = ranks_by file_total (λ (f : MaildirFile). f)
@@ -81,7 +83,8 @@ same_cmp a b p q = λ i.
     (ordering_then (new_last a.is_new b.is_new i) (slice_cmp nat_cmp a.name.items b.name.items)))
 
 files_fall : (files : List Candidate) → All IsCandidate files
-    → NeverFalls (λ a b. is_lt (candidate_cmp a b)) files → NeverFalls comes_before (map plain_file files)
+    → NeverFalls (λ a b. is_lt (candidate_cmp a b)) files
+    → NeverFalls comes_before (map plain_file files)
 files_fall [] all falls = tt
 files_fall (a ∷ []) all falls = tt
 files_fall (a ∷ b ∷ files) all falls = (
@@ -97,14 +100,16 @@ not_lower Equal Equal r e = refl
 not_lower Equal Greater r e = refl
 not_lower Greater q r e = refl
 
-rises_behind : (last : List ℕ) (files : List MaildirFile) → (file : MaildirFile) → base_of file ≡ last
+rises_behind : (last : List ℕ) (files : List MaildirFile) → (file : MaildirFile)
+    → base_of file ≡ last
     → NeverFalls comes_before (file ∷ files) → Rises (Some last) files
 rises_behind last [] file is falls = tt
 rises_behind last (next ∷ files) file is falls = (
   subst (λ (b : List ℕ). is_lt (base_cmp (base_of next) b) ≡ false) is
       (not_lower (nat_cmp (order_of (base_of next)) (order_of (base_of file)))
       (slice_cmp nat_cmp (base_of next) (base_of file))
-      (ordering_then (bool_cmp file.in_cur next.in_cur) (slice_cmp nat_cmp next.name file.name)) falls.0),
+      (ordering_then (bool_cmp file.in_cur next.in_cur) (slice_cmp nat_cmp next.name file.name))
+      falls.0),
   rises_behind (base_of next) files next refl falls.1,
 )
 
@@ -112,7 +117,8 @@ pub files_rise : (files : List MaildirFile) → NeverFalls comes_before files �
 files_rise [] falls = tt
 files_rise (file ∷ files) falls = (tt, rises_behind (base_of file) files file refl falls)
 
-pub sorted_files : (files sorted : List Candidate) → All IsCandidate files → IsPermutation files sorted
+pub sorted_files : (files sorted : List Candidate) → All IsCandidate files
+    → IsPermutation files sorted
     → IsSortedBy (λ a b. is_lt (candidate_cmp a b)) sorted
     → (All IsCandidate sorted) × Rises None (map plain_file sorted)
     × (map plain_file sorted ≡ in_order_by comes_before (map plain_file files))
@@ -123,6 +129,7 @@ sorted_files files sorted each moved order =
       all,
       files_rise (map plain_file sorted) falls,
       sym (in_order_same comes_before (map plain_file sorted) falls)
-          ∙ in_order_permutation comes_before file_order file_tie (map plain_file files) (map plain_file sorted)
+          ∙ in_order_permutation comes_before file_order file_tie (map plain_file files)
+          (map plain_file sorted)
           (IsPermutation-map plain_file files sorted moved),
     )

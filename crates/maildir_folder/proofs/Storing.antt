@@ -6,7 +6,8 @@ use Rattle.disk_model.specs.declared.answers.FileRead.{FileRead}
 use Rattle.folder_core.specs.Limits.{most_bytes, told_sum}
 use Rattle.folder_core.specs.ListedSoFar.{Store, store_message}
 use Rattle.folder_core.specs.Looked.{FileSeen, IsContent, IsPast, SawAt}
-use Rattle.folder_core.specs.Maildir.{MaildirFile, maildir_format, maildir_letter, message_of, path_of}
+use Rattle.folder_core.specs.Maildir.{MaildirFile, maildir_format, maildir_letter, message_of}
+use Rattle.folder_core.specs.Maildir.{path_of}
 use Rattle.folder_core.specs.declared.looks.Content.{Content}
 use Rattle.folder_core.specs.declared.looks.Content.TheVariants.{TooLong, Whole}
 use Rattle.folder_core.proofs.ListedSoFarLemmas.{long_past, long_seen, long_stored, whole_seen}
@@ -29,7 +30,8 @@ met_file path file bytes stamp a b saw = goes_as a b (λ p q s. (
 )) saw
 
 -- a file that is read
-pub took_whole : (path : List ℕ) (file : MaildirFile) (at : List ℕ) (limit : ℕ) (content : Content) (read : FileRead)
+pub took_whole : (path : List ℕ) (file : MaildirFile) (at : List ℕ) (limit : ℕ) (content : Content)
+    (read : FileRead)
     (store new_store : Store) (a b : Option Past)
     → at ≡ path_of path file → content ≡ Whole read
     → new_store ≡ store_message maildir_format (message_of file read.bytes.items) store
@@ -44,9 +46,11 @@ took_whole path file at limit content read store new_store a b is told stored sa
 }
 
 -- a file that is too long to be read
-pub took_long : (path : List ℕ) (file : MaildirFile) (at : List ℕ) (limit : ℕ) (content : Content) (size : ℕ)
+pub took_long : (path : List ℕ) (file : MaildirFile) (at : List ℕ) (limit : ℕ) (content : Content)
+    (size : ℕ)
     (store new_store : Store) (a b : Option Past)
-    → at ≡ path_of path file → limit ≡ most_bytes - store.bytes → content ≡ TooLong size → IsPast limit content
+    → at ≡ path_of path file → limit ≡ most_bytes - store.bytes → content ≡ TooLong size
+    → IsPast limit content
     → new_store ≡ record store { count = store.count + 1; bytes = told_sum (store.bytes + size) }
     → GoesOn (SawAt (ReadAll at limit) (λ tree. IsContent limit content tree at)) a b
     → Takes path file true store new_store a b

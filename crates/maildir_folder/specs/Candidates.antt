@@ -1,5 +1,6 @@
 -- The files of a folder that may be messages, in the order of their messages.
-use Rattle.std.specs.Prelude.{◌≡◌, ℕ, true, false, not, List, [], ◌∷◌, ◌++◌, Option, Some, None, map}
+use Rattle.std.specs.Prelude.{◌≡◌, ℕ, true, false, not, List, [], ◌∷◌, ◌++◌, Option, Some, None}
+use Rattle.std.specs.Prelude.{map}
 use Rattle.std.specs.Cmp.Lexicographic.{slice_cmp}
 use Rattle.std.specs.Ordering.{is_lt, nat_cmp, ordering_then}
 use Rattle.std.specs.declared.cmp.Ordering.{Ordering}
@@ -39,4 +40,5 @@ Rises last (file ∷ files) = NotBefore last (base_of file) × Rises (Some (base
 pub record AreInOrder (cur new : List (List ℕ)) (files : List Candidate) : Type 0 where
   pub each : All IsCandidate files
   pub rises : Rises None (map plain_file files)
-  pub sorted : map plain_file files ≡ in_order_by comes_before (files_in true cur ++ files_in false new)
+  pub sorted : map plain_file files
+      ≡ in_order_by comes_before (files_in true cur ++ files_in false new)

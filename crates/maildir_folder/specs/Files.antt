@@ -1,5 +1,6 @@
 -- What looks at a folder's directories have found.
-use Rattle.std.specs.Prelude.{◌≡◌, ℕ, true, false, List, Option, None, Result, IfErr, IfOk, IsErrOf, length, map}
+use Rattle.std.specs.Prelude.{◌≡◌, ℕ, true, false, List, Option, None, Result, IfErr, IfOk, IsErrOf}
+use Rattle.std.specs.Prelude.{length, map}
 use Rattle.mail_base.specs.Faults.{Rose}
 use Rattle.mail_base.specs.Series.{Held}
 use Rattle.disk_model.specs.Journal.{ListDir, Past, StatPath}
@@ -12,7 +13,8 @@ use Rattle.folder_core.specs.Directory.{DirectoryRefused, file_at, is_folder_at}
 use Rattle.folder_core.specs.Looked.{SawAt}
 use Rattle.folder_core.specs.Maildir.{directory, is_maildir}
 use Rattle.folder_core.specs.declared.error.ScanError.{ScanError}
-use Rattle.folder_core.specs.declared.error.ScanError.TheVariants.{Missing, NotMailbox, TooMany, TooLarge, Unfinished}
+use Rattle.folder_core.specs.declared.error.ScanError.TheVariants.{Missing, NotMailbox, TooMany}
+use Rattle.folder_core.specs.declared.error.ScanError.TheVariants.{TooLarge, Unfinished}
 use Rattle.folder_core.specs.declared.error.ScanError.TheVariants.{ArchiveFull, Fault, NoMemory}
 use Rattle.maildir_folder.specs.declared.candidates.Candidate.{Candidate}
 use Rattle.maildir_folder.specs.Candidates.{AreInOrder}
@@ -40,16 +42,18 @@ pub record NamesSeen (path : List ℕ) (cur new : List (List ℕ)) (before after
   pub cur_names : CurSeen path cur before after
 
 -- the files that may be messages of the Maildir at the path
-pub record ListsFiles (path : List ℕ) (files : List Candidate) (old new : Option Past) : Type 0 where
-  pub cur : List (List ℕ)
-  pub new_names : List (List ℕ)
-  pub order : AreInOrder cur new_names files
-  pub saw : GoesOn (NamesSeen path cur new_names) old new
+pub record ListsFiles (path : List ℕ) (files : List Candidate) (old new : Option Past) : Type 0
+  where
+    pub cur : List (List ℕ)
+    pub new_names : List (List ℕ)
+    pub order : AreInOrder cur new_names files
+    pub saw : GoesOn (NamesSeen path cur new_names) old new
 
 -- the folder was refused before its files were looked for
 abbrev pub WasRefused : List ℕ → ScanError → Past → Past → Type 0
 WasRefused path why old new =
-    DirectoryRefused is_maildir (λ messages. ⊥) 0 path why (length old.journal) (length new.journal) new
+    DirectoryRefused is_maildir (λ messages. ⊥) 0 path why (length old.journal) (length new.journal)
+    new
 
 abbrev pub IsListError : ScanError → Type 0
 IsListError Missing = Unit {0}

@@ -5,7 +5,14 @@ use Rattle.std.specs.Prelude.{is_none, if◌then◌else◌}
 use Rattle.std.specs.List.{filter}
 use Rattle.std.specs.Str.{byte}
 use Rattle.mail_base.specs.declared.flags.Flags.{Flags}
-pub use Rattle.folder_core.specs.MaildirNames.{begins_dot, flags_of, has_letter, last_letters, mark, split_at_mark}
+pub use Rattle.folder_core.specs.MaildirNames.{
+  begins_dot,
+  flags_of,
+  has_letter,
+  last_letters,
+  mark,
+  split_at_mark,
+}
 pub use Rattle.folder_core.specs.MaildirNames.{split_name}
 use Rattle.maildir_folder.specs.declared.maildir_name.MaildirName.{MaildirName}
 

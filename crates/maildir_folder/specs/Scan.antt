@@ -6,4 +6,5 @@ use Rattle.folder_core.specs.Message.{Message}
 
 -- the messages were seen in the Maildir at the path
 abbrev pub MessagesSeen : List ℕ → List Message → Past → Past → Type 0
-MessagesSeen path messages old new = SawMaildir path messages (length old.journal) (length new.journal) new
+MessagesSeen path messages old new =
+    SawMaildir path messages (length old.journal) (length new.journal) new

@@ -1,24 +1,28 @@
 -- How a file is cut into messages line by line.
-use Rattle.std.proofs.Common.{◌≡◌, ◌+◌, ◌-◌, ◌<◌, ◌≤◌, ℕ, zero, suc, Bool, true, false, ◌&&◌, List, [], ◌∷◌, ◌++◌, length}
-use Rattle.std.proofs.Common.{take, drop, slice_index, Some, None, refl, sym, ap, subst, ◌∙◌, arith, inr, append-nil}
-use Rattle.std.proofs.Common.{get_or-take, length-drop, length-take-le, take-append-drop}
+use Rattle.std.proofs.Common.{◌≡◌, ◌+◌, ◌-◌, ◌<◌, ◌≤◌, ℕ, zero, suc, Bool, true, false, ◌&&◌, List}
+use Rattle.std.proofs.Common.{[], ◌∷◌, ◌++◌, length, take, drop, slice_index, Some, None, refl, sym}
+use Rattle.std.proofs.Common.{ap, subst, ◌∙◌, arith, inr, append-nil, get_or-take, length-drop}
+use Rattle.std.proofs.Common.{length-take-le, take-append-drop}
 use Rattle.std.specs.Prelude.{if◌then◌else◌, codes, is_some}
 use Rattle.std.specs.List.{concat}
 use Rattle.std.specs.Str.{bytes_eq}
 use Rattle.std.proofs.lemmas.List.{get_or-drop, length-take}
 use Rattle.memchr.specs.Find.{FindsNeedle, OccursAt}
 use Rattle.bstr.specs.Text.{line_len, lines_of}
-use Rattle.bstr.proofs.lemmas.LineLemmas.{line_len-bounds, lines-append, lines-empty, lines-nil, lines-step}
+use Rattle.bstr.proofs.lemmas.LineLemmas.{line_len-bounds, lines-append, lines-empty, lines-nil}
+use Rattle.bstr.proofs.lemmas.LineLemmas.{lines-step}
 use Rattle.mail_base.specs.Lines.{behind_first, first_line, is_empty_line, without_feed}
 use Rattle.mail_base.proofs.LinesLemmas.{line_ends}
 use Rattle.disk_model.proofs.Trees.{bytes_same}
 use Rattle.folder_core.specs.declared.region.Region.{Region}
-use Rattle.folder_core.specs.Mbox.{is_postmark, postmark, stamp_behind, ends_message, messages, spans, regions}
-use Rattle.folder_core.specs.Mbox.{begins_mailbox, begins_with_postmark}
-use Rattle.folder_core.proofs.Messages.{region_at, widened, spans-messages, length-concat, concat-lines}
+use Rattle.folder_core.specs.Mbox.{is_postmark, postmark, stamp_behind, ends_message, messages}
+use Rattle.folder_core.specs.Mbox.{spans, regions, begins_mailbox, begins_with_postmark}
+use Rattle.folder_core.proofs.Messages.{region_at, widened, spans-messages, length-concat}
+use Rattle.folder_core.proofs.Messages.{concat-lines}
 use Rattle.mbox_folder.specs.Regions.{last_empty}
 
--- the regions from a message on that began at `start`: `at` is the place of the lines left, and `empty` tells of the
+-- the regions from a message on that began at `start`: `at` is the place of the lines left, and
+-- `empty` tells of the
 -- line before them
 abbrev pub opened : ℕ → ℕ → Bool → List (List ℕ) → List Region
 opened start at empty [] = region_at start at ∷ []
@@ -36,22 +40,26 @@ widened-widened a b c false (region ∷ rest) = refl
 by_cut : (start at : ℕ) (next : List ℕ) (lines : List (List ℕ)) (rest : List Region)
     → ((from : ℕ) → opened from (at + length next) (is_empty_line next) lines
     ≡ widened from (at + length next) (ends_message next lines) rest)
-    → spans at (messages (next ∷ lines)) ≡ widened at (at + length next) (ends_message next lines) rest
+    → spans at (messages (next ∷ lines))
+    ≡ widened at (at + length next) (ends_message next lines) rest
     → (cut : Bool)
     → (if cut then region_at start at ∷ opened at (at + length next) (is_empty_line next) lines
     else opened start (at + length next) (is_empty_line next) lines)
     ≡ widened start at cut (spans at (messages (next ∷ lines)))
-by_cut start at next lines rest behind step true = ap (λ l. region_at start at ∷ l) (behind at ∙ sym step)
+by_cut start at next lines rest behind step true =
+    ap (λ l. region_at start at ∷ l) (behind at ∙ sym step)
 by_cut start at next lines rest behind step false =
     behind start ∙ sym (widened-widened start at (at + length next) (ends_message next lines) rest)
     ∙ ap (widened start at false) (sym step)
 
-opened-widened : (start at : ℕ) (line : List ℕ) (lines : List (List ℕ)) → opened start at (is_empty_line line) lines
+opened-widened : (start at : ℕ) (line : List ℕ) (lines : List (List ℕ))
+    → opened start at (is_empty_line line) lines
     ≡ widened start at (ends_message line lines) (spans at (messages lines))
 opened-widened start at line [] = refl
 opened-widened start at line (next ∷ lines) =
     let behind = λ (from : ℕ). opened-widened from (at + length next) next lines in
-    by_cut start at next lines _ behind (spans-messages at next lines) (is_empty_line line && is_postmark next)
+    by_cut start at next lines _ behind (spans-messages at next lines)
+    (is_empty_line line && is_postmark next)
 
 -- the places of the messages of some lines
 pub opened-spans : (line : List ℕ) (lines : List (List ℕ))
@@ -89,10 +97,12 @@ opened-quiet : (start at : ℕ) (empty : Bool) (quiet lines : List (List ℕ)) �
 opened-quiet start at empty [] lines none =
     let same : at ≡ at + 0 = omega arith in ap (λ n. opened start n empty lines) same
 opened-quiet start at empty (line ∷ quiet) lines none =
-    let stays : (empty && is_postmark line) ≡ false = ap (λ t. empty && t) none.0 ∙ and_false empty in
+    let stays : (empty && is_postmark line) ≡ false =
+    ap (λ t. empty && t) none.0 ∙ and_false empty in
     let place : at + length line + length (concat quiet) ≡ at + length (concat (line ∷ quiet)) =
     omega (arith, length-concat line quiet) in
-    ap (λ t. if t then region_at start at ∷ opened at (at + length line) (is_empty_line line) (quiet ++ lines)
+    ap (λ t. if t then region_at start at
+    ∷ opened at (at + length line) (is_empty_line line) (quiet ++ lines)
     else opened start (at + length line) (is_empty_line line) (quiet ++ lines)) stays
     ∙ opened-quiet start (at + length line) (is_empty_line line) quiet lines none.1
     ∙ ap (λ n. opened start n (last_empty (is_empty_line line) quiet) lines) place
@@ -116,7 +126,8 @@ open_front start at (line ∷ quiet) (next ∷ rest) some more none =
 -- the last region
 pub open_last : (start at : ℕ) (lines : List (List ℕ)) → NoMarks (behind_first lines)
     → open_at start at lines ≡ region_at start (at + length (concat lines)) ∷ []
-open_last start at [] none = let same : at ≡ at + 0 = omega arith in ap (λ n. region_at start n ∷ []) same
+open_last start at [] none = let same : at ≡ at + 0 =
+    omega arith in ap (λ n. region_at start n ∷ []) same
 open_last start at (line ∷ quiet) none =
     let place : at + length line + length (concat quiet) ≡ at + length (concat (line ∷ quiet)) =
     omega (arith, length-concat line quiet) in
@@ -149,7 +160,8 @@ occurs s n some within feed begins = record {
     rest = drop n s
 
     by_place : (j : ℕ) → j < 6 → slice_index s (n - 1 + j) ≡ slice_index feed_from j
-    by_place zero less = let same : n - 1 + 0 ≡ n - 1 = omega arith in ap (slice_index s) same ∙ feed
+    by_place zero less = let same : n - 1 + 0 ≡ n - 1 =
+        omega arith in ap (slice_index s) same ∙ feed
     by_place (suc i) less =
         let line = take (line_len rest) rest in
         let place : n - 1 + suc i ≡ n + i = omega arith in
@@ -205,17 +217,21 @@ no_marks_by (suc f) (b ∷ r) le none =
 -- no line but the first is a postmark where a search finds none
 pub no_marks : (s : List ℕ) → FindsNeedle s feed_from 0 None → NoMarks (behind_first (lines_of s))
 no_marks s none =
-    no_marks_by (length s) s (omega arith) (λ k at. none k (omega arith) (omega (arith, at.fits)) at)
+    no_marks_by (length s) s (omega arith)
+    (λ k at. none k (omega arith) (omega (arith, at.fits)) at)
 
 -- nor where it stands behind them
 pub no_marks_before : (s : List ℕ) (k : ℕ) → FindsNeedle s feed_from 0 (Some k)
     → NoMarks (behind_first (lines_of (take (k + 1) s)))
 no_marks_before s k found =
-    let size : length (take (k + 1) s) ≡ k + 1 = length-take-le (k + 1) s (omega (arith, found.1.fits)) in
-    no_marks_by (k + 1) (take (k + 1) s) (omega arith) (λ j at. found.0.before j (omega arith) (omega (arith, at.fits))
+    let size : length (take (k + 1) s) ≡ k + 1 =
+    length-take-le (k + 1) s (omega (arith, found.1.fits)) in
+    no_marks_by (k + 1) (take (k + 1) s) (omega arith)
+    (λ j at. found.0.before j (omega arith) (omega (arith, at.fits))
     (record {
       fits = omega (arith, at.fits, found.1.fits);
-      reads = λ i less. sym (get_or-take (k + 1) s (j + i) 0 (omega (arith, at.fits))) ∙ at.reads i less;
+      reads = λ i less. sym (get_or-take (k + 1) s (j + i) 0 (omega (arith, at.fits)))
+          ∙ at.reads i less;
     }))
 
 -- A step of the search.
@@ -224,7 +240,8 @@ no_marks_before s k found =
 pub found_lines : (s : List ℕ) (k : ℕ) → FindsNeedle s feed_from 0 (Some k)
     → lines_of s ≡ lines_of (take (k + 1) s) ++ lines_of (drop (k + 1) s)
 found_lines s k found =
-    let size : length (take (k + 1) s) ≡ k + 1 = length-take-le (k + 1) s (omega (arith, found.1.fits)) in
+    let size : length (take (k + 1) s) ≡ k + 1 =
+    length-take-le (k + 1) s (omega (arith, found.1.fits)) in
     let place : length (take (k + 1) s) - 1 ≡ k = omega arith in
     let zero_place : k + 0 ≡ k = omega arith in
     let feed : slice_index (take (k + 1) s) (length (take (k + 1) s) - 1) ≡ 10 =
@@ -238,8 +255,10 @@ some_lines s some = subst (λ ls. 0 < length ls) (sym (lines-step s some)) (omeg
 
 pub found_step : (start at : ℕ) (s : List ℕ) (k : ℕ) → FindsNeedle s feed_from 0 (Some k)
     → open_at start at (lines_of s)
-    ≡ (if last_empty false (lines_of (take (k + 1) s)) && is_postmark (first_line (lines_of (drop (k + 1) s)))
-    then region_at start (at + k + 1) ∷ open_at (at + k + 1) (at + k + 1) (lines_of (drop (k + 1) s))
+    ≡ (if last_empty false (lines_of (take (k + 1) s))
+    && is_postmark (first_line (lines_of (drop (k + 1) s)))
+    then region_at start (at + k + 1)
+    ∷ open_at (at + k + 1) (at + k + 1) (lines_of (drop (k + 1) s))
     else open_at start (at + k + 1) (lines_of (drop (k + 1) s)))
 found_step start at s k found =
     let front = take (k + 1) s in
@@ -249,7 +268,8 @@ found_step start at s k found =
     let place : at + length (concat (lines_of front)) ≡ at + k + 1 = omega arith in
     ap (open_at start at) (found_lines s k found)
     ∙ open_front start at (lines_of front) (lines_of back) (some_lines front (omega arith))
-    (some_lines back (omega (arith, length-drop (k + 1) s, found.1.fits))) (no_marks_before s k found)
+    (some_lines back (omega (arith, length-drop (k + 1) s, found.1.fits)))
+    (no_marks_before s k found)
     ∙ ap (λ n. if last_empty false (lines_of front) && is_postmark (first_line (lines_of back))
     then region_at start n ∷ open_at n n (lines_of back) else open_at start n (lines_of back)) place
 
@@ -260,7 +280,8 @@ found_none start at s none =
     ∙ ap (λ n. region_at start (at + n) ∷ []) (ap length (concat-lines s))
 
 -- the regions of a file that is not empty
-pub open_regions : (bytes : List ℕ) → 0 < length bytes → open_at 0 0 (lines_of bytes) ≡ regions bytes
+pub open_regions : (bytes : List ℕ) → 0 < length bytes
+    → open_at 0 0 (lines_of bytes) ≡ regions bytes
 open_regions bytes some =
     let step = lines-step bytes some in
     let line = take (line_len bytes) bytes in

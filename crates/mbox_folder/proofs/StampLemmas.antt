@@ -1,5 +1,6 @@
 -- Days that `jiff` has, in seconds from 1970.
-use Rattle.std.proofs.Common.{◌≡◌, ◌≤◌, ◌&&◌, ℕ, ℤ, pos, ◌*ℤ◌, ◌-ℤ◌, true, leb, Some, sym, ap, subst, ◌∙◌, arith}
+use Rattle.std.proofs.Common.{◌≡◌, ◌≤◌, ◌&&◌, ℕ, ℤ, pos, ◌*ℤ◌, ◌-ℤ◌, true, leb, Some, sym, ap}
+use Rattle.std.proofs.Common.{subst, ◌∙◌, arith}
 use Rattle.std.specs.Prelude.{int_div}
 use Rattle.std.proofs.lemmas.Bool.{cond-true}
 use Rattle.std.proofs.lemmas.Bool.Decides.{nat_tests}
@@ -31,7 +32,8 @@ midnight-date d year month day h =
     ap (λ y. days_from_civil y d.month d.day) h.0 ∙ ap (λ k. days_from_civil (pos year) k d.day) m
     ∙ ap (days_from_civil (pos year) month) n in
     ap (λ days. Some (days *ℤ pos 86_400)) same
-    ∙ sym (cond-true _ _ _ (in_month day (days_in_month (pos year) month) low (omega (arith, high, n))))
+    ∙ sym (cond-true _ _ _
+    (in_month day (days_in_month (pos year) month) low (omega (arith, high, n))))
 
 -- the day from which seconds are counted
 pub unix_day : (d : Date) → IsYmd (pos 1970) (pos 1) (pos 1) d → epoch_day d ≡ pos 0
@@ -42,6 +44,7 @@ unix_day d h =
     ∙ ap (days_from_civil (pos 1970) 1) n ∙ first_day
 
 pub seconds_of_days : (days first nanos seconds : ℤ) → first ≡ pos 0
-    → nanos ≡ (days -ℤ first) *ℤ pos 86_400_000_000_000 → seconds ≡ int_div nanos (pos 1_000_000_000)
+    → nanos ≡ (days -ℤ first) *ℤ pos 86_400_000_000_000
+    → seconds ≡ int_div nanos (pos 1_000_000_000)
     → seconds ≡ days *ℤ pos 86_400
 seconds_of_days days first nanos seconds z n s = omega (arith, signed_arith)

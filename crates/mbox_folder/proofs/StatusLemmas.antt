@@ -1,7 +1,7 @@
 -- Letters in unfolded fields, and the flags that a header block tells line by line.
-use Rattle.std.proofs.Common.{◌≡◌, ◌+◌, ◌-◌, ◌<◌, ℕ, zero, suc, Bool, true, false, cond, ◌&&◌, ◌||◌, ◌==◌, List, []}
-use Rattle.std.proofs.Common.{◌∷◌, ◌++◌, map, Option, Some, None, length, take, drop, slice_index, unwrap_or, refl, sym}
-use Rattle.std.proofs.Common.{ap, ◌∙◌, arith}
+use Rattle.std.proofs.Common.{◌≡◌, ◌+◌, ◌-◌, ◌<◌, ℕ, zero, suc, Bool, true, false, cond, ◌&&◌, ◌||◌}
+use Rattle.std.proofs.Common.{◌==◌, List, [], ◌∷◌, ◌++◌, map, Option, Some, None, length, take}
+use Rattle.std.proofs.Common.{drop, slice_index, unwrap_or, refl, sym, ap, ◌∙◌, arith}
 use Rattle.std.specs.Prelude.{if◌then◌else◌, is_some, nat_lt, codes}
 use Rattle.std.specs.List.{concat, list_any}
 use Rattle.std.specs.Char.{to_ascii_lowercase}
@@ -11,10 +11,11 @@ use Rattle.std.proofs.lemmas.Bool.Decides.{nat_tests}
 use Rattle.bstr.specs.Text.{without_terminator, no_cr}
 use Rattle.mail_base.specs.declared.flags.Flags.{Flags}
 use Rattle.mail_base.specs.Blanks.{is_blank, without_blanks}
-use Rattle.mail_base.specs.Lines.{is_continuation, colon_of, behind_colon, unfolded, more_text, continuations}
-use Rattle.mail_base.specs.Lines.{fields_of, PlainField}
+use Rattle.mail_base.specs.Lines.{is_continuation, colon_of, behind_colon, unfolded, more_text}
+use Rattle.mail_base.specs.Lines.{continuations, fields_of, PlainField}
 use Rattle.folder_core.specs.Mbox.{holds, is_status_name, without_status}
-use Rattle.mbox_folder.specs.Status.{drops, has, lines_hold, starts_status, told_by, is_status, is_x_status}
+use Rattle.mbox_folder.specs.Status.{drops, has, lines_hold, starts_status, told_by, is_status}
+use Rattle.mbox_folder.specs.Status.{is_x_status}
 use Rattle.mbox_folder.specs.declared.status.StatusField.{StatusField}
 use Rattle.mbox_folder.specs.declared.status.Told.{Told}
 
@@ -35,7 +36,8 @@ fields_of-field : (line : List ℕ) (k : ℕ) (lines : List (List ℕ)) → colo
 fields_of-field line k lines e =
     cond-true _ _ _ (ap is_some e)
     ∙ ap (λ (o : Option ℕ). let f : PlainField =
-    record { name = take (unwrap_or o 0) line; value = unfolded line (continuations lines) } in f ∷ fields_of lines) e
+    record { name = take (unwrap_or o 0) line; value = unfolded line (continuations lines) } in f
+    ∷ fields_of lines) e
 
 fields_of-more : (line : List ℕ) (lines : List (List ℕ)) → colon_of line ≡ None
     → fields_of (line ∷ lines) ≡ fields_of lines
@@ -46,7 +48,8 @@ continuations-field : (line : List ℕ) (k : ℕ) (lines : List (List ℕ)) → 
 continuations-field line k lines e = cond-true _ _ _ (ap is_some e)
 
 continuations-more : (line : List ℕ) (lines : List (List ℕ)) → colon_of line ≡ None
-    → continuations (line ∷ lines) ≡ (if is_continuation line then line ∷ continuations lines else continuations lines)
+    → continuations (line ∷ lines)
+    ≡ (if is_continuation line then line ∷ continuations lines else continuations lines)
 continuations-more line lines e = cond-false _ _ _ (ap is_some e)
 
 or_left : (a b : Bool) → (a || b) ≡ false → a ≡ false
@@ -72,7 +75,8 @@ in_field true false here more rest = refl
 in_field false true here more rest = sym (or_assoc here more rest)
 in_field false false here more rest = refl
 
-in_more : (is here more rest : Bool) → (is && here) || ((is && more) || rest) ≡ (is && (here || more)) || rest
+in_more : (is here more rest : Bool)
+    → (is && here) || ((is && more) || rest) ≡ (is && (here || more)) || rest
 in_more true here more rest = sym (or_assoc here more rest)
 in_more false here more rest = refl
 
@@ -96,7 +100,8 @@ module _ (letter : ℕ) (ink : IsInk letter) where
   has-front n [] e other = absurd (omega arith)
   has-front zero (b ∷ []) e other = sym (ap (λ t. t || false) other)
   has-front zero (b ∷ c ∷ rest) e other = absurd (omega arith)
-  has-front (suc n) (b ∷ rest) e other = ap (λ t. (b == letter) || t) (has-front n rest (omega arith) other)
+  has-front (suc n) (b ∷ rest) e other =
+      ap (λ t. (b == letter) || t) (has-front n rest (omega arith) other)
 
   -- the last byte is b, and is dropped
   has-last : (b : ℕ) (text : List ℕ) → (b == letter) ≡ false
@@ -116,35 +121,45 @@ module _ (letter : ℕ) (ink : IsInk letter) where
       by_cr false e = refl
 
   has-without_terminator : (text : List ℕ) → has letter (without_terminator text) ≡ has letter text
-  has-without_terminator text = by_feed (nat_lt 0 (length text) && slice_index text (length text - 1) == 10) refl
+  has-without_terminator text =
+      by_feed (nat_lt 0 (length text) && slice_index text (length text - 1) == 10) refl
     where
-      by_feed : (t : Bool) → (nat_lt 0 (length text) && slice_index text (length text - 1) == 10) ≡ t
+      by_feed : (t : Bool)
+          → (nat_lt 0 (length text) && slice_index text (length text - 1) == 10) ≡ t
           → has letter (cond t (no_cr (take (length text - 1) text)) text) ≡ has letter text
       by_feed true e = has-no_cr (take (length text - 1) text) ∙ has-last 10 text ink.no_feed e
       by_feed false e = refl
 
-  has-more : (more : List (List ℕ)) → has letter (concat (map more_text more)) ≡ list_any (has letter) more
+  has-more : (more : List (List ℕ))
+      → has letter (concat (map more_text more)) ≡ list_any (has letter) more
   has-more [] = refl
   has-more (line ∷ more) =
       let text = without_blanks (without_terminator line) in
       let rest = concat (map more_text more) in
       let same = has-without_blanks (without_terminator line) ∙ has-without_terminator line in
-      has-append (more_text line) rest ∙ ap (λ t. (t || has letter text) || has letter rest) (ink.no_space)
+      has-append (more_text line) rest
+      ∙ ap (λ t. (t || has letter text) || has letter rest) (ink.no_space)
       ∙ ap (λ t. t || has letter rest) same
       ∙ ap (λ t. has letter line || t) (has-more more)
 
   -- an unfolded value holds the letters of its lines
   has-unfolded : (line : List ℕ) (more : List (List ℕ))
-      → has letter (unfolded line more) ≡ has letter (behind_colon line) || list_any (has letter) more
+      → has letter (unfolded line more) ≡ has letter (behind_colon line)
+      || list_any (has letter) more
   has-unfolded line more =
-      has-without_blanks _ ∙ has-append (without_terminator (behind_colon line)) (concat (map more_text more))
-      ∙ ap (λ t. t || has letter (concat (map more_text more))) (has-without_terminator (behind_colon line))
+      has-without_blanks _
+      ∙ has-append (without_terminator (behind_colon line)) (concat (map more_text more))
+      ∙ ap (λ t. t || has letter (concat (map more_text more)))
+      (has-without_terminator (behind_colon line))
       ∙ ap (λ t. has letter (behind_colon line) || t) (has-more more)
 
   -- a line that begins a field
-  pub lines_hold-field : (name line text : List ℕ) (k : ℕ) (lines : List (List ℕ)) (before is : Bool)
-      → colon_of line ≡ Some k → text ≡ drop (k + 1) line → is ≡ str_eq_ignore_ascii_case (take k line) name
-      → (is && has letter text) || lines_hold is name letter lines ≡ lines_hold before name letter (line ∷ lines)
+  pub lines_hold-field : (name line text : List ℕ) (k : ℕ) (lines : List (List ℕ))
+      (before is : Bool)
+      → colon_of line ≡ Some k → text ≡ drop (k + 1) line
+      → is ≡ str_eq_ignore_ascii_case (take k line) name
+      → (is && has letter text) || lines_hold is name letter lines
+      ≡ lines_hold before name letter (line ∷ lines)
   lines_hold-field name line text k lines before is e t named =
       let here = has letter text in
       let more = list_any (has letter) (continuations lines) in
@@ -155,37 +170,50 @@ module _ (letter : ℕ) (ink : IsInk letter) where
       ∙ ap (λ l. has letter l || more) (sym t) in
       in_field before is here more rest
       ∙ ap (λ m. (before && false) || ((m && (here || more)) || rest)) named
-      ∙ ap (λ u. (before && false) || ((str_eq_ignore_ascii_case (take k line) name && u) || rest)) (sym value)
+      ∙ ap (λ u. (before && false) || ((str_eq_ignore_ascii_case (take k line) name && u) || rest))
+      (sym value)
       ∙ ap (λ fs. (before && false) || holds name letter fs) (sym (fields_of-field line k lines e))
-      ∙ ap (λ cs. (before && list_any (has letter) cs) || holds name letter (fields_of (line ∷ lines)))
+      ∙ ap (λ cs. (before && list_any (has letter) cs)
+      || holds name letter (fields_of (line ∷ lines)))
       (sym (continuations-field line k lines e))
 
 -- a line that continues one
-pub lines_hold-continued : (letter : ℕ) (name line : List ℕ) (lines : List (List ℕ)) (continued : Bool)
+pub lines_hold-continued : (letter : ℕ) (name line : List ℕ) (lines : List (List ℕ))
+    (continued : Bool)
     → colon_of line ≡ None → is_continuation line ≡ true
     → (continued && has letter line) || lines_hold continued name letter lines
     ≡ lines_hold continued name letter (line ∷ lines)
 lines_hold-continued letter name line lines continued e c =
     let more = list_any (has letter) (continuations lines) in
     in_more continued (has letter line) more (holds name letter (fields_of lines))
-    ∙ ap (λ fs. (continued && (has letter line || more)) || holds name letter fs) (sym (fields_of-more line lines e))
-    ∙ ap (λ cs. (continued && list_any (has letter) cs) || holds name letter (fields_of (line ∷ lines)))
+    ∙ ap (λ fs. (continued && (has letter line || more)) || holds name letter fs)
+    (sym (fields_of-more line lines e))
+    ∙ ap (λ cs. (continued && list_any (has letter) cs)
+    || holds name letter (fields_of (line ∷ lines)))
     (sym (continuations-more line lines e ∙ cond-true _ _ _ c))
 
 -- a line that is skipped
-pub lines_hold-skipped : (letter : ℕ) (name line : List ℕ) (lines : List (List ℕ)) (continued : Bool)
+pub lines_hold-skipped : (letter : ℕ) (name line : List ℕ) (lines : List (List ℕ))
+    (continued : Bool)
     → colon_of line ≡ None → is_continuation line ≡ false
     → lines_hold continued name letter lines ≡ lines_hold continued name letter (line ∷ lines)
 lines_hold-skipped letter name line lines continued e c =
     let more = list_any (has letter) (continuations lines) in
     ap (λ fs. (continued && more) || holds name letter fs) (sym (fields_of-more line lines e))
-    ∙ ap (λ cs. (continued && list_any (has letter) cs) || holds name letter (fields_of (line ∷ lines)))
+    ∙ ap (λ cs. (continued && list_any (has letter) cs)
+    || holds name letter (fields_of (line ∷ lines)))
     (sym (continuations-more line lines e ∙ cond-false _ _ _ c))
 
 -- flags and further ones
 joined : Flags → Bool → Bool → Bool → Bool → Flags
 joined f a b c d =
-    record f { seen = f.seen || a; aged = f.aged || b; replied = f.replied || c; flagged = f.flagged || d }
+    record f {
+      seen = f.seen || a;
+      aged = f.aged || b;
+      replied = f.replied || c;
+      flagged =
+          f.flagged || d;
+    }
 
 joined-joined : (f : Flags) (a b c d p q r s : Bool)
     → joined (joined f a b c d) p q r s ≡ joined f (a || p) (b || q) (c || r) (d || s)
@@ -225,21 +253,25 @@ unfolding joined
 told_by-line t u field line text lines same flags status x_status =
     let e82 = status 82 (record { no_space = refl; no_tab = refl; no_cr = refl; no_feed = refl }) in
     let e79 = status 79 (record { no_space = refl; no_tab = refl; no_cr = refl; no_feed = refl }) in
-    let e65 = x_status 65 (record { no_space = refl; no_tab = refl; no_cr = refl; no_feed = refl }) in
-    let e70 = x_status 70 (record { no_space = refl; no_tab = refl; no_cr = refl; no_feed = refl }) in
+    let e65 =
+    x_status 65 (record { no_space = refl; no_tab = refl; no_cr = refl; no_feed = refl }) in
+    let e70 =
+    x_status 70 (record { no_space = refl; no_tab = refl; no_cr = refl; no_feed = refl }) in
     ap (λ (f : StatusField). told_by (record { field = f; flags = u.flags }) lines) same
     ∙ ap (λ (f : Flags). told_by (record { field = field; flags = f }) lines) flags
     ∙ joined-joined t.flags (is_status field && has 82 text) (is_status field && has 79 text)
     (is_x_status field && has 65 text) (is_x_status field && has 70 text) _ _ _ _
     ∙ joined-same t.flags e82 e79 e65 e70
 
-pub GoOn-field : (name line text : List ℕ) (k : ℕ) (lines : List (List ℕ)) (before is : Bool) → colon_of line ≡ Some k
+pub GoOn-field : (name line text : List ℕ) (k : ℕ) (lines : List (List ℕ)) (before is : Bool)
+    → colon_of line ≡ Some k
     → text ≡ drop (k + 1) line → is ≡ str_eq_ignore_ascii_case (take k line) name
     → GoOn before is name line text lines
 GoOn-field name line text k lines before is e t named =
     λ letter ink. lines_hold-field letter ink name line text k lines before is e t named
 
-pub GoOn-continued : (name line : List ℕ) (lines : List (List ℕ)) (continued : Bool) → colon_of line ≡ None
+pub GoOn-continued : (name line : List ℕ) (lines : List (List ℕ)) (continued : Bool)
+    → colon_of line ≡ None
     → is_continuation line ≡ true → GoOn continued continued name line line lines
 GoOn-continued name line lines continued e c =
     λ letter ink. lines_hold-continued letter name line lines continued e c
@@ -260,7 +292,8 @@ not_status [] other zero = refl
 not_status [] other (suc k) = refl
 not_status (b ∷ rest) other zero = refl
 not_status (b ∷ rest) other (suc k) =
-    ap (λ t. t && bytes_eq (str_to_ascii_lowercase (take k rest)) (codes "tatus")) (other_name b other).0
+    ap (λ t. t && bytes_eq (str_to_ascii_lowercase (take k rest)) (codes "tatus"))
+    (other_name b other).0
 
 not_x_status : (line : List ℕ) → starts_status line ≡ false → NotNamed (codes "X-Status") line
 unfolding NotNamed
@@ -268,7 +301,8 @@ not_x_status [] other zero = refl
 not_x_status [] other (suc k) = refl
 not_x_status (b ∷ rest) other zero = refl
 not_x_status (b ∷ rest) other (suc k) =
-    ap (λ t. t && bytes_eq (str_to_ascii_lowercase (take k rest)) (codes "-status")) (other_name b other).1
+    ap (λ t. t && bytes_eq (str_to_ascii_lowercase (take k rest)) (codes "-status"))
+    (other_name b other).1
 
 holds-passed : (letter : ℕ) (name line : List ℕ) (lines : List (List ℕ)) → NotNamed name line
     → holds name letter (fields_of lines) ≡ holds name letter (fields_of (line ∷ lines))
@@ -280,31 +314,41 @@ holds-passed letter name line lines other = by_colon (colon_of line) refl
     by_colon None e = ap (holds name letter) (sym (fields_of-more line lines e))
     by_colon (Some k) e =
         sym (ap (holds name letter) (fields_of-field line k lines e)
-        ∙ ap (λ t. (t && has letter (unfolded line (continuations lines))) || holds name letter (fields_of lines))
+        ∙ ap (λ t. (t && has letter (unfolded line (continuations lines)))
+        || holds name letter (fields_of lines))
         (other k))
 
-lines_hold-passed : (letter : ℕ) (name line : List ℕ) (lines : List (List ℕ)) (continued : Bool) → continued ≡ false
-    → NotNamed name line → lines_hold continued name letter lines ≡ lines_hold continued name letter (line ∷ lines)
+lines_hold-passed : (letter : ℕ) (name line : List ℕ) (lines : List (List ℕ)) (continued : Bool)
+    → continued ≡ false
+    → NotNamed name line
+    → lines_hold continued name letter lines ≡ lines_hold continued name letter (line ∷ lines)
 lines_hold-passed letter name line lines continued ends other =
     ap (λ c. lines_hold c name letter lines) ends ∙ holds-passed letter name line lines other
     ∙ ap (λ c. lines_hold c name letter (line ∷ lines)) (sym ends)
 
 -- what is told past a line that begins and continues no status field
-pub told_by-passed : (t : Told) (line : List ℕ) (lines : List (List ℕ)) → drops t ≡ false → starts_status line ≡ false
+pub told_by-passed : (t : Told) (line : List ℕ) (lines : List (List ℕ)) → drops t ≡ false
+    → starts_status line ≡ false
     → told_by t lines ≡ told_by t (line ∷ lines)
 unfolding joined
 told_by-passed t line lines ends other =
     let status : is_status t.field ≡ false = or_left _ _ ends in
     let x_status : is_x_status t.field ≡ false = or_right _ _ ends in
-    let first = λ (letter : ℕ). lines_hold-passed letter (codes "Status") line lines (is_status t.field) status
+    let first =
+    λ (letter : ℕ). lines_hold-passed letter (codes "Status") line lines (is_status t.field)
+    status
     (not_status line other) in
-    let second = λ (letter : ℕ). lines_hold-passed letter (codes "X-Status") line lines (is_x_status t.field) x_status
+    let second =
+    λ (letter : ℕ). lines_hold-passed letter (codes "X-Status") line lines (is_x_status t.field)
+    x_status
     (not_x_status line other) in
     joined-same t.flags (first 82) (first 79) (second 65) (second 70)
 
 -- and it stays
-pub without_status-passed : (dropped : Bool) (line : List ℕ) (lines : List (List ℕ)) → dropped ≡ false
-    → starts_status line ≡ false → without_status dropped (line ∷ lines) ≡ line ∷ without_status dropped lines
+pub without_status-passed : (dropped : Bool) (line : List ℕ) (lines : List (List ℕ))
+    → dropped ≡ false
+    → starts_status line ≡ false
+    → without_status dropped (line ∷ lines) ≡ line ∷ without_status dropped lines
 unfolding NotNamed
 without_status-passed dropped line lines ends other =
     ap (λ d. without_status d (line ∷ lines)) ends ∙ by_colon (colon_of line) refl
@@ -326,7 +370,8 @@ without_status-passed dropped line lines ends other =
         else line ∷ without_status false lines)
         else (if is_continuation line && false then without_status false lines
         else line ∷ without_status false lines)) e
-        ∙ ap (λ t. if t || str_eq_ignore_ascii_case (take k line) (codes "X-Status") then without_status true lines
+        ∙ ap (λ t. if t || str_eq_ignore_ascii_case (take k line) (codes "X-Status")
+        then without_status true lines
         else line ∷ without_status false lines) (not_status line other k)
         ∙ ap (λ t. if t then without_status true lines else line ∷ without_status false lines)
         (not_x_status line other k)

@@ -5,9 +5,11 @@ use Rattle.disk_model.specs.Journal.{Past, NoForeign}
 use Rattle.disk_model.specs.State.{tree_at, tree_after}
 use Rattle.disk_model.specs.declared.answers.FileRead.{FileRead}
 use Rattle.folder_core.specs.declared.error.ScanError.{ScanError}
-use Rattle.folder_core.specs.declared.error.ScanError.TheVariants.{Missing, NotMailbox, TooMany, TooLarge, Unfinished}
+use Rattle.folder_core.specs.declared.error.ScanError.TheVariants.{Missing, NotMailbox, TooMany}
+use Rattle.folder_core.specs.declared.error.ScanError.TheVariants.{TooLarge, Unfinished}
 use Rattle.folder_core.specs.declared.error.ScanError.TheVariants.{ArchiveFull, Fault, NoMemory}
-use Rattle.folder_core.specs.Mbox.{bytes_of, bytes_refusal, mbox_refusal, messages_of, node_reads, stamps_of}
+use Rattle.folder_core.specs.Mbox.{bytes_of, bytes_refusal, mbox_refusal, messages_of, node_reads}
+use Rattle.folder_core.specs.Mbox.{stamps_of}
 
 -- the file is what stands there, of a length that is allowed
 pub record IsFile (file : FileRead) (there : Option TreeNode) : Type 0 where
@@ -23,13 +25,15 @@ IsRead (Err Fault) there = Unit {0}
 IsRead (Err NoMemory) there = Unit {0}
 IsRead (Err why) there = (letters : ℕ) → mbox_refusal letters there ≡ Some why
 
--- it stood there at one mark between these two pasts, and where no others acted between them it stands there now
-pub record FileSeen (result : Result FileRead ScanError) (path : List ℕ) (old new : Past) : Type 0 where
-  pub mark : ℕ
-  pub from : length old.journal ≤ mark
-  pub to : mark ≤ length new.journal
-  pub is : IsRead result (node_at (tree_at new mark) path)
-  pub alone : NoForeign old new → tree_at new mark ≡ tree_after new
+-- it stood there at one mark between these two pasts, and where no others acted between them it
+-- stands there now
+pub record FileSeen (result : Result FileRead ScanError) (path : List ℕ) (old new : Past) : Type 0
+  where
+    pub mark : ℕ
+    pub from : length old.journal ≤ mark
+    pub to : mark ≤ length new.journal
+    pub is : IsRead result (node_at (tree_at new mark) path)
+    pub alone : NoForeign old new → tree_at new mark ≡ tree_after new
 
 -- an error that a read of the file may have
 abbrev pub IsFileError : ScanError → Type 0

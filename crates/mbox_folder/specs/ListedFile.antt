@@ -17,10 +17,12 @@ letters_from id (raw ∷ messages) = mbox_letter id raw ∷ letters_from (id + 1
 -- their listing
 abbrev pub listed_from : ℕ → List (List ℕ) → List Listed
 listed_from id [] = []
-listed_from id (raw ∷ messages) = record { id = record { 0 = id }; flags = status raw } ∷ listed_from (id + 1) messages
+listed_from id (raw ∷ messages) =
+    record { id = record { 0 = id }; flags = status raw } ∷ listed_from (id + 1) messages
 
 -- the letters of the file stand at the end of the archive, and these are their listing
-pub record IsListedFile (bytes : List ℕ) (archive new_archive : List Mail) (came : List Listed) : Type 0 where
+pub record IsListedFile (bytes : List ℕ) (archive new_archive : List Mail)
+    (came : List Listed) : Type 0 where
   pub taken : bytes_refusal (length archive) bytes ≡ None
   pub letters : new_archive ≡ archive ++ letters_from (length archive) (raw_messages bytes)
   pub listed : came ≡ listed_from (length archive) (raw_messages bytes)
@@ -38,10 +40,12 @@ IsStatedCause why shown = shown ≡ Some why
 
 -- what is known of a folder once a file was read and its messages are listed
 abbrev pub known_file : KnownFolder → List Listed → FileRead → KnownFolder
-known_file known came file = record known { listing = came; bytes = file.bytes.items; stamps = file.stat.stamp ∷ [] }
+known_file known came file =
+    record known { listing = came; bytes = file.bytes.items; stamps = file.stat.stamp ∷ [] }
 
 -- the messages of a file are found, all of them new, and known
-pub record ListsFile (file : FileRead) (archive new_archive : List Mail) (known new_known : KnownFolder)
+pub record ListsFile (file : FileRead) (archive new_archive : List Mail)
+    (known new_known : KnownFolder)
     (found : Found) : Type 0 where
   pub listed : IsListedFile file.bytes.items archive new_archive found.came.items
   pub gone : found.gone.items ≡ []

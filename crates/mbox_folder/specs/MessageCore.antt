@@ -1,4 +1,5 @@
--- What stays of the lines that a walk over a message has left. For the code alone: no public clause cites this.
+-- What stays of the lines that a walk over a message has left. For the code alone: no public clause
+-- cites this.
 use Rattle.std.specs.Prelude.{ℕ, Bool, List, ◌++◌}
 use Rattle.mail_base.specs.Lines.{header_block, after_block}
 use Rattle.folder_core.specs.Mbox.{without_status}

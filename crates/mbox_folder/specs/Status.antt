@@ -1,4 +1,5 @@
--- What the lines of a header block tell of a message's flags. For the code alone: no public clause cites this.
+-- What the lines of a header block tell of a message's flags. For the code alone: no public clause
+-- cites this.
 use Rattle.std.specs.Prelude.{◌==◌, ℕ, Bool, true, false, ◌&&◌, ◌||◌, List, [], ◌∷◌, codes}
 use Rattle.std.specs.List.{list_any}
 use Rattle.mail_base.specs.declared.flags.Flags.{Flags}
@@ -15,7 +16,8 @@ has letter text = list_any (λ b. b == letter) text
 -- the lines hold the letter: where they continue a field of that name, or by a field of that name
 abbrev pub lines_hold : Bool → List ℕ → ℕ → List (List ℕ) → Bool
 lines_hold continued name letter lines =
-    (continued && list_any (has letter) (continuations lines)) || holds name letter (fields_of lines)
+    (continued && list_any (has letter) (continuations lines))
+    || holds name letter (fields_of lines)
 
 -- the line may begin a status field, by its first byte
 abbrev pub starts_status : List ℕ → Bool

@@ -1,7 +1,7 @@
 -- Others act, one after another.
-use Rattle.std.proofs.Common.{◌≡◌, ◌<◌, ◌++◌, ◌∷◌, ◌∙◌, [], ℕ, Bool, true, false, List, not}
-use Rattle.std.proofs.Common.{length, map, drop, get_or, nat_lt, if◌then◌else◌, refl, sym, ap, arith, append_assoc}
-use Rattle.std.proofs.Common.{length-append}
+use Rattle.std.proofs.Common.{◌≡◌, ◌<◌, ◌++◌, ◌∷◌, ◌∙◌, [], ℕ, Bool, true, false, List, not, length}
+use Rattle.std.proofs.Common.{map, drop, get_or, nat_lt, if◌then◌else◌, refl, sym, ap, arith}
+use Rattle.std.proofs.Common.{append_assoc, length-append}
 use Rattle.std.proofs.lemmas.List.{map-append}
 use Rattle.disk_model.specs.Journal.{Action, Entry, Others}
 use Rattle.disk_model.specs.State.{State, after_action, barrier}
@@ -47,7 +47,8 @@ acts_more call first old new foreign h plan is state waiting =
           ∙ h.due;
       left =
           sym (ap (left call) plan
-          ∙ left_front (nat_lt call foreign.before_call) (foreign ∷ new.plan) (left call new.plan) front)
+          ∙ left_front (nat_lt call foreign.before_call) (foreign ∷ new.plan) (left call new.plan)
+          front)
           ∙ h.left;
       count = omega (arith, h.count, ap length plan, length-append h.actions (foreign.action ∷ []));
       clock =
@@ -61,7 +62,8 @@ acts_more call first old new foreign h plan is state waiting =
     }
 
 -- the first of a list
-pub first_item : {A : Type 0} (xs : List A) (x : A) → 0 < length xs → x ≡ get_or xs 0 x → xs ≡ x ∷ drop 1 xs
+pub first_item : {A : Type 0} (xs : List A) (x : A) → 0 < length xs → x ≡ get_or xs 0 x
+    → xs ≡ x ∷ drop 1 xs
 first_item [] x some is = absurd (omega arith)
 first_item {A} (y ∷ xs) x some is = ap (λ (z : A). z ∷ xs) (sym is)
 

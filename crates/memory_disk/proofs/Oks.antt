@@ -10,10 +10,12 @@ pub ok_names : (names other : List (List ℕ)) → names ≡ other
     → ◌≡◌ {A = Result (List (List ℕ)) DiskError} (Ok names) (Ok other)
 ok_names names other same = cc
 
-pub ok_front : (bytes other : List ℕ) → bytes ≡ other → ◌≡◌ {A = Result (List ℕ) DiskError} (Ok bytes) (Ok other)
+pub ok_front : (bytes other : List ℕ) → bytes ≡ other
+    → ◌≡◌ {A = Result (List ℕ) DiskError} (Ok bytes) (Ok other)
 ok_front bytes other same = cc
 
-ok_second : (a b : Stat × List ℕ) → ◌≡◌ {A = Result (Stat × List ℕ) DiskError} (Ok a) (Ok b) → length a.1 ≡ length b.1
+ok_second : (a b : Stat × List ℕ) → ◌≡◌ {A = Result (Stat × List ℕ) DiskError} (Ok a) (Ok b)
+    → length a.1 ≡ length b.1
 ok_second a b same = by_pair (pair_of a b same)
   where
     pair_of : (a b : Stat × List ℕ) → ◌≡◌ {A = Result (Stat × List ℕ) DiskError} (Ok a) (Ok b)
@@ -28,7 +30,8 @@ err_no_read : (why : DiskError) (value : Stat × List ℕ)
 err_no_read why value same = cc
 
 -- the bytes of a whole read
-pub read_length_by : (answer : Result FileRead DiskError) (value : Stat × List ℕ) → plain_read answer ≡ Ok value
+pub read_length_by : (answer : Result FileRead DiskError) (value : Stat × List ℕ)
+    → plain_read answer ≡ Ok value
     → read_length answer ≡ length value.1
 read_length_by (Ok read) value same = ok_second (read.stat, read.bytes.items) value same
 read_length_by (Err why) value same = absurd (err_no_read why value same)

@@ -1,7 +1,7 @@
 -- What is kept of a disk stays sound.
-use Rattle.std.proofs.Common.{◌≡◌, ◌≤◌, ◌^◌, ◌++◌, ◌∷◌, ◌∙◌, [], ℕ, Bool, true, false, List, Option, Some, None, length}
-use Rattle.std.proofs.Common.{Result, Ok, Err, OnOk, map, nat_lt, if◌then◌else◌, refl, sym, ap, subst, arith}
-use Rattle.std.proofs.Common.{append_assoc, length-append}
+use Rattle.std.proofs.Common.{◌≡◌, ◌≤◌, ◌^◌, ◌++◌, ◌∷◌, ◌∙◌, [], ℕ, Bool, true, false, List, Option}
+use Rattle.std.proofs.Common.{Some, None, length, Result, Ok, Err, OnOk, map, nat_lt, if◌then◌else◌}
+use Rattle.std.proofs.Common.{refl, sym, ap, subst, arith, append_assoc, length-append}
 use Rattle.std.proofs.lemmas.List.{append-nil, length-map, map-append}
 use Rattle.disk_model.specs.Tree.{TreeNode, is_first_tree}
 use Rattle.disk_model.specs.Journal.{Action, Call}
@@ -11,7 +11,8 @@ use Rattle.disk_model.specs.State.{first_clock, run_entries, state_of, tree_of}
 use Rattle.disk_model.specs.Lawful.{AreLawful, IsAllowed, is_text}
 use Rattle.disk_model.specs.Refusals.{refusal}
 use Rattle.disk_model.specs.declared.answers.DiskError.{DiskError}
-use Rattle.disk_model.specs.declared.answers.DiskError.TheVariants.{Missing, WrongNode, Exists, Long, Fault, NoMemory}
+use Rattle.disk_model.specs.declared.answers.DiskError.TheVariants.{Missing, WrongNode, Exists}
+use Rattle.disk_model.specs.declared.answers.DiskError.TheVariants.{Long, Fault, NoMemory}
 use Rattle.disk_model.proofs.Clocks.{clock-after_entry}
 use Rattle.disk_model.proofs.Runs.{run_entries-append}
 use Rattle.disk_model.proofs.TextNames.{AllText, text_begins, text_run}
@@ -22,7 +23,8 @@ use Rattle.memory_disk.specs.Remembered.{IsSound, Remembered, met}
 
 -- Others have acted.
 
-pub sound_acts : (first : List TreeNode) (clock : ℕ) (journal : List Entry) (call : ℕ) (old new : Scene)
+pub sound_acts : (first : List TreeNode) (clock : ℕ) (journal : List Entry) (call : ℕ)
+    (old new : Scene)
     → IsSound first clock journal old.waiting old.state → Acts call old new
     → IsSound first clock journal new.waiting new.state
 sound_acts first clock journal call old new h acts = record {
@@ -31,14 +33,16 @@ sound_acts first clock journal call old new h acts = record {
   now =
       acts.state
       ∙ ap (run_entries (map Others acts.actions)) h.now
-      ∙ sym (run_entries-append (journal ++ map Others old.waiting) (map Others acts.actions) (state_of first))
+      ∙ sym (run_entries-append (journal ++ map Others old.waiting) (map Others acts.actions)
+      (state_of first))
       ∙ ap (λ (l : List Entry). run_entries l (state_of first))
       (append_assoc journal (map Others old.waiting) (map Others acts.actions)
       ∙ ap (λ (l : List Entry). journal ++ l) (sym (ap (map Others) acts.waiting
       ∙ map-append Others old.waiting acts.actions)));
   lawful = h.lawful;
   small = h.small;
-  later = omega (arith, h.later, acts.clock, ap length acts.waiting, length-append old.waiting acts.actions);
+  later = omega
+      (arith, h.later, acts.clock, ap length acts.waiting, length-append old.waiting acts.actions);
 }
 
 -- where none is due, none is left out
@@ -53,8 +57,10 @@ left_all call (foreign ∷ plan) none = by_test (nat_lt call foreign.before_call
 
 -- A disk begins.
 
-pub sound_first : {first : List TreeNode} {clock : ℕ} {journal : List Entry} {waiting : List Action} {state : State}
-    → is_first_tree first ≡ true → clock ≡ first_clock first → state ≡ record (state_of first) { clock = clock }
+pub sound_first : {first : List TreeNode} {clock : ℕ} {journal : List Entry} {waiting : List Action}
+    {state : State}
+    → is_first_tree first ≡ true → clock ≡ first_clock first
+    → state ≡ record (state_of first) { clock = clock }
     → clock ≤ 2 ^ 64 → journal ≡ [] → waiting ≡ [] → IsSound first clock journal waiting state
 sound_first {first} {clock} {journal} {waiting} {state} tree begins now small none nobody = record {
   tree = tree;
@@ -70,16 +76,20 @@ sound_first {first} {clock} {journal} {waiting} {state} tree begins now small no
 
 -- An entry is made.
 
-AreLawful-append : (a b : List Entry) (state : State) → AreLawful a state → AreLawful b (run_entries a state)
+AreLawful-append : (a b : List Entry) (state : State) → AreLawful a state
+    → AreLawful b (run_entries a state)
     → AreLawful (a ++ b) state
 AreLawful-append [] b state x y = y
-AreLawful-append (entry ∷ a) b state x y = (x.0, AreLawful-append a b (after_entry state entry) x.1 y)
+AreLawful-append (entry ∷ a) b state x y =
+    (x.0, AreLawful-append a b (after_entry state entry) x.1 y)
 
 others_lawful : (actions : List Action) (state : State) → AreLawful (map Others actions) state
 others_lawful [] state = tt
-others_lawful (action ∷ actions) state = (tt, others_lawful actions (after_entry state (Others action)))
+others_lawful (action ∷ actions) state =
+    (tt, others_lawful actions (after_entry state (Others action)))
 
-pub allowed_by : (call : Call) (tree : List TreeNode) (refused : Option DiskError) → refused ≡ refusal call tree
+pub allowed_by : (call : Call) (tree : List TreeNode) (refused : Option DiskError)
+    → refused ≡ refusal call tree
     → IsAllowed call (answer_by_refusal refused) tree
 allowed_by call tree None is = sym is
 allowed_by call tree (Some Missing) is = (refl, sym is)
@@ -89,7 +99,8 @@ allowed_by call tree (Some (Long size)) is = (refl, sym is)
 allowed_by call tree (Some Fault) is = omega arith
 allowed_by call tree (Some NoMemory) is = (refl, sym is)
 
-pub sound_enters : {first : List TreeNode} {clock : ℕ} {journal journal' : List Entry} {waiting waiting' : List Action}
+pub sound_enters : {first : List TreeNode} {clock : ℕ} {journal journal' : List Entry}
+    {waiting waiting' : List Action}
     {state state' : State} (call : Call) (refused : Option DiskError)
     → IsSound first clock journal waiting state → is_text call ≡ true
     → IsAllowed call (answer_by_refusal refused) (tree_of state)
@@ -97,10 +108,12 @@ pub sound_enters : {first : List TreeNode} {clock : ℕ} {journal journal' : Lis
     → journal' ≡ journal ++ (map Others waiting ++ Own call (answer_by_refusal refused) ∷ [])
     → waiting' ≡ []
     → IsSound first clock journal' waiting' state'
-sound_enters {first} {clock} {journal} {journal'} {waiting} {waiting'} {state} {state'} call refused h text allowed now grown none =
+sound_enters {first} {clock} {journal} {journal'} {waiting} {waiting'} {state} {state'} call refused
+    h text allowed now grown none =
     let own : List Entry = Own call (answer_by_refusal refused) ∷ [] in
     let acted : List Entry = journal ++ map Others waiting in
-    let all : journal' ≡ acted ++ own = grown ∙ sym (append_assoc journal (map Others waiting) own) in
+    let all : journal' ≡ acted ++ own =
+    grown ∙ sym (append_assoc journal (map Others waiting) own) in
     record {
       tree = h.tree;
       begins = h.begins;
@@ -108,13 +121,20 @@ sound_enters {first} {clock} {journal} {journal'} {waiting} {waiting'} {state} {
           now ∙ ap (λ (s : State). after_entry s (Own call (answer_by_refusal refused))) h.now
           ∙ sym (run_entries-append acted own (state_of first))
           ∙ ap (λ (l : List Entry). run_entries l (state_of first))
-          (sym (ap (λ (l : List Action). journal' ++ map Others l) none ∙ append-nil journal' ∙ all));
+          (sym (ap (λ (l : List Action). journal' ++ map Others l) none ∙ append-nil journal'
+          ∙ all));
       lawful =
           subst (λ (l : List Entry). AreLawful l (state_of first)) (sym all)
           (AreLawful-append acted own (state_of first)
           (AreLawful-append journal (map Others waiting) (state_of first) h.lawful
-          (others_lawful waiting (run_entries journal (state_of first))))
-          ((text, subst (λ (s : State). IsAllowed call (answer_by_refusal refused) (tree_of s)) h.now allowed), tt));
+          (others_lawful waiting (run_entries journal (state_of first)))) (
+            (
+              text,
+              subst (λ (s : State). IsAllowed call (answer_by_refusal refused) (tree_of s))
+                  h.now allowed,
+            ),
+            tt,
+          ));
       small = h.small;
       later =
           omega (
@@ -133,27 +153,34 @@ sound_enters {first} {clock} {journal} {journal'} {waiting} {waiting'} {state} {
 abbrev pub with_scene : Remembered → List Action → List Planned → Remembered
 with_scene disk waiting plan = record disk { waiting = waiting; plan = plan }
 
-met_by : (call : ℕ) (old new : Scene) (disk : Remembered) → Acts call old new → due call new.plan ≡ []
-    → old.waiting ≡ disk.waiting → old.plan ≡ disk.plan → with_scene disk new.waiting new.plan ≡ met call disk
+met_by : (call : ℕ) (old new : Scene) (disk : Remembered) → Acts call old new
+    → due call new.plan ≡ []
+    → old.waiting ≡ disk.waiting → old.plan ≡ disk.plan
+    → with_scene disk new.waiting new.plan ≡ met call disk
 met_by call old new disk acts none waiting plan =
     ap (λ (w : List Action). with_scene disk w new.plan)
     (acts.waiting ∙ ap (λ (l : List Action). l ++ acts.actions) waiting
     ∙ ap (λ (l : List Action). disk.waiting ++ l)
-    (sym (ap (λ (l : List Action). acts.actions ++ l) none ∙ append-nil acts.actions) ∙ acts.due ∙ ap (due call) plan))
+    (sym (ap (λ (l : List Action). acts.actions ++ l) none ∙ append-nil acts.actions) ∙ acts.due
+    ∙ ap (due call) plan))
     ∙ ap (λ (p : List Planned). with_scene disk (disk.waiting ++ due call disk.plan) p)
     (sym (left_all call new.plan none) ∙ acts.left ∙ ap (left call) plan)
 
 -- all have met: the disk with these parts is the one that others met
-pub all_met : {A E : Type 0} (result : Result A E) (call : ℕ) (old new : Scene) (inside disk : Remembered)
-    → with_scene inside old.waiting old.plan ≡ disk → Acts call old new → OnOk result (due call new.plan ≡ [])
+pub all_met : {A E : Type 0} (result : Result A E) (call : ℕ) (old new : Scene)
+    (inside disk : Remembered)
+    → with_scene inside old.waiting old.plan ≡ disk → Acts call old new
+    → OnOk result (due call new.plan ≡ [])
     → OnOk result (with_scene inside new.waiting new.plan ≡ met call disk)
 all_met (Ok value) call old new inside disk is acts none =
     ap (λ (d : Remembered). with_scene d new.waiting new.plan) is
-    ∙ met_by call old new disk acts none (ap (λ (d : Remembered). d.waiting) is) (ap (λ (d : Remembered). d.plan) is)
+    ∙ met_by call old new disk acts none (ap (λ (d : Remembered). d.waiting) is)
+    (ap (λ (d : Remembered). d.plan) is)
 all_met (Err e) call old new inside disk is acts none = tt
 
 -- its names are text
-pub sound_text : {first : List TreeNode} {clock : ℕ} {journal : List Entry} {waiting : List Action} {state : State}
+pub sound_text : {first : List TreeNode} {clock : ℕ} {journal : List Entry} {waiting : List Action}
+    {state : State}
     → IsSound first clock journal waiting state → AllText state.names
 sound_text {first} {clock} {journal} {waiting} {state} h =
     subst (λ (s : State). AllText s.names) (sym h.now)

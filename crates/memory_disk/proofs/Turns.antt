@@ -1,12 +1,14 @@
 -- A call that had its turn: what was answered, and what it left.
-use Rattle.std.proofs.Common.{◌≡◌, ◌≤◌, ◌⊎◌, ◌↔◌, ◌++◌, ◌∷◌, ◌∙◌, [], ℕ, Bool, true, false, List, Option, Some, None, Result}
-use Rattle.std.proofs.Common.{Ok, Err, IsErrOf, IsTrue, map, length, nat_lt, if◌then◌else◌, refl, sym, ap, subst, arith}
-use Rattle.std.proofs.Common.{inl, inr, length-append, append_assoc}
+use Rattle.std.proofs.Common.{◌≡◌, ◌≤◌, ◌⊎◌, ◌↔◌, ◌++◌, ◌∷◌, ◌∙◌, [], ℕ, Bool, true, false, List}
+use Rattle.std.proofs.Common.{Option, Some, None, Result, Ok, Err, IsErrOf, IsTrue, map, length}
+use Rattle.std.proofs.Common.{nat_lt, if◌then◌else◌, refl, sym, ap, subst, arith, inl, inr}
+use Rattle.std.proofs.Common.{length-append, append_assoc}
 use Rattle.std.proofs.lemmas.List.{append-nil}
 use Rattle.mail_base.specs.Faults.{Rose}
 use Rattle.disk_model.specs.Tree.{TreeNode}
-use Rattle.disk_model.specs.Journal.{Call, ListDir, StatPath, ReadFront, ReadAll, Create, WriteAt, Cut, Sync, Rename, Remove}
-use Rattle.disk_model.specs.Journal.{SyncDir, MakeDir, Done, Entry, Own, Others, Action}
+use Rattle.disk_model.specs.Journal.{Call, ListDir, StatPath, ReadFront, ReadAll, Create, WriteAt}
+use Rattle.disk_model.specs.Journal.{Cut, Sync, Rename, Remove, SyncDir, MakeDir, Done, Entry, Own}
+use Rattle.disk_model.specs.Journal.{Others, Action}
 use Rattle.disk_model.specs.State.{State, after_done, run_entries, state_of, tree_of}
 use Rattle.disk_model.specs.Reading.{given}
 use Rattle.disk_model.specs.Answers.{IsErrorOf}
@@ -14,11 +16,13 @@ use Rattle.disk_model.specs.Looking.{is_look}
 use Rattle.disk_model.specs.Judge.{IsJudged, MakesStep, answer_by}
 use Rattle.disk_model.specs.Refusals.{refusal}
 use Rattle.disk_model.specs.declared.answers.DiskError.{DiskError}
-use Rattle.disk_model.specs.declared.answers.DiskError.TheVariants.{Missing, WrongNode, Exists, Long, Fault, NoMemory}
+use Rattle.disk_model.specs.declared.answers.DiskError.TheVariants.{Missing, WrongNode, Exists}
+use Rattle.disk_model.specs.declared.answers.DiskError.TheVariants.{Long, Fault, NoMemory}
 use Rattle.disk_model.proofs.Runs.{run_entries-append}
 use Rattle.disk_model.proofs.Refusing.{IsCause, MayRefuse, may_refuse}
 use Rattle.memory_disk.specs.Plan.{Planned, due, left}
-use Rattle.memory_disk.specs.Remembered.{Faces, IsFaulty, IsMeeting, Leaves, Plays, Remembered, Settles, begun}
+use Rattle.memory_disk.specs.Remembered.{Faces, IsFaulty, IsMeeting, Leaves, Plays, Remembered}
+use Rattle.memory_disk.specs.Remembered.{Settles, begun}
 use Rattle.disk_state.specs.Plain.{answer_by_refusal}
 use Rattle.memory_disk.specs.Remembered.{entered, met, seen_of, state_now, tree_now}
 use Rattle.memory_disk.proofs.Steps.{IsGiven, makes_step, memory_step, no_memory}
@@ -36,8 +40,10 @@ pub record Turns (asked : Call) (refused : Option DiskError) (old new : Remember
   pub faults : old.faults ≤ new.faults
   pub cause : refused ≡ Some Fault → Rose old.faults new.faults
 
-pub turns : {asked call : Call} {is_faulty : Bool} {refused : Option DiskError} {old mid new : Remembered}
-    → Faces asked call is_faulty old mid → Settles refused is_faulty call mid new → Turns asked refused old new
+pub turns : {asked call : Call} {is_faulty : Bool} {refused : Option DiskError}
+    {old mid new : Remembered}
+    → Faces asked call is_faulty old mid → Settles refused is_faulty call mid new
+    → Turns asked refused old new
 turns {asked} {call} {is_faulty} {refused} {old} {mid} {new} faces settles =
     let same : Settles refused is_faulty asked (met_by old) new =
     subst (λ (c : Call). Settles refused is_faulty c (met_by old) new) faces.same_call
@@ -74,13 +80,15 @@ none_faulty true asked old faulty is f = none_some Fault is
 none_faulty false asked old faulty is f = false_true (faulty.1 f)
 
 why_by : (b : Bool) (asked : Call) (why : DiskError) (old : Remembered) → IsTrue b ↔ IsFaulty old
-    → Some why ≡ (if b then Some Fault else refusal asked (tree_now (met_by old))) → Why asked why old
+    → Some why ≡ (if b then Some Fault else refusal asked (tree_now (met_by old)))
+    → Why asked why old
 why_by true asked why old faulty is = inl (some_same why Fault is, faulty.0 refl)
 why_by false asked why old faulty is = inr (sym is, λ f. absurd (false_true (faulty.1 f)))
 
 refused_why : (asked : Call) (refused : Option DiskError) (why : DiskError) (old new : Remembered)
     → Turns asked refused old new → refused ≡ Some why → Why asked why old
-refused_why asked refused why old new t is = why_by t.is_faulty asked why old t.faulty (sym is ∙ t.is)
+refused_why asked refused why old new t is =
+    why_by t.is_faulty asked why old t.faulty (sym is ∙ t.is)
 
 -- what every call may answer
 system_error : (call : Call) → IsErrorOf call Fault × IsErrorOf call NoMemory
@@ -97,10 +105,13 @@ system_error (Remove path) = (tt, tt)
 system_error (SyncDir dir) = (tt, tt)
 system_error (MakeDir path) = (tt, tt)
 
-why_error : (asked : Call) (why : DiskError) (old : Remembered) → Why asked why old → IsErrorOf asked why
+why_error : (asked : Call) (why : DiskError) (old : Remembered) → Why asked why old
+    → IsErrorOf asked why
 why_error asked why old w = elim w [
   | inl h ↦ subst (λ (e : DiskError). IsErrorOf asked e) (sym h.0) (system_error asked).0
-  | inr h ↦ (subst (λ (r : Option DiskError). MayRefuse asked r) h.0 (may_refuse asked (tree_now (met_by old)))).0
+  | inr h ↦
+      (subst (λ (r : Option DiskError). MayRefuse asked r) h.0
+      (may_refuse asked (tree_now (met_by old)))).0
 ]
 
 -- it is a fault, or a cause that the tree has
@@ -109,7 +120,11 @@ why_cause : (asked : Call) (why : DiskError) (old : Remembered) → Why asked wh
 why_cause asked why old w = elim w [
   | inl h ↦ inl h.0
   | inr h ↦
-      inr ((subst (λ (r : Option DiskError). MayRefuse asked r) h.0 (may_refuse asked (tree_now (met_by old)))).1, h.0)
+      inr (
+        (subst (λ (r : Option DiskError). MayRefuse asked r) h.0
+            (may_refuse asked (tree_now (met_by old)))).1,
+        h.0,
+      )
 ]
 
 -- an answer that is this error
@@ -138,26 +153,31 @@ leaves_by A NoMemory asked old new w is = absurd (elim w [ inl h ↦ memory_faul
     memory_fault : ◌≡◌ {A = DiskError} NoMemory Fault → ⊥
     memory_fault e = cc
 
-refused_leaves : (A : Type 0) (asked : Call) (refused : Option DiskError) (why : DiskError) (old new : Remembered)
+refused_leaves : (A : Type 0) (asked : Call) (refused : Option DiskError) (why : DiskError)
+    (old new : Remembered)
     → Turns asked refused old new → refused ≡ Some why → Leaves (error A why) asked old new
 refused_leaves A asked refused why old new t is =
-    leaves_by A why asked old new (why_cause asked why old (refused_why asked refused why old new t is))
+    leaves_by A why asked old new
+    (why_cause asked why old (refused_why asked refused why old new t is))
     (t.entered ∙ ap (λ (r : Option DiskError). entered r asked (met_by old)) is)
 
-done_leaves : {A : Type 0} (asked : Call) (refused : Option DiskError) (value : A) (old new : Remembered)
+done_leaves : {A : Type 0} (asked : Call) (refused : Option DiskError) (value : A)
+    (old new : Remembered)
     → Turns asked refused old new → refused ≡ None → Leaves (Ok value) asked old new
 done_leaves asked refused value old new t is =
     t.entered ∙ ap (λ (r : Option DiskError). entered r asked (met_by old)) is
 
 -- The counts.
 
-longer : (asked : Call) (refused : Option DiskError) (old new : Remembered) → Turns asked refused old new
+longer : (asked : Call) (refused : Option DiskError) (old new : Remembered)
+    → Turns asked refused old new
     → length old.past.journal ≤ length new.past.journal
 longer asked refused old new t = omega (
   arith,
   ap (λ (d : Remembered). length d.past.journal) t.entered,
   length-append
-      old.past.journal (map Others (met_by old).waiting ++ Own asked (answer_by_refusal refused) ∷ []),
+      old.past.journal
+      (map Others (met_by old).waiting ++ Own asked (answer_by_refusal refused) ∷ []),
 )
 
 err_fault : {A : Type 0} (why : DiskError) → IsErrOf (error A why) Fault → why ≡ Fault
@@ -182,27 +202,33 @@ judged_same Exists wanted is = sym is
 judged_same (Long size) wanted is = sym is
 judged_same NoMemory wanted is = sym is
 
-judged_by : {A : Type 0} (why : DiskError) (asked : Call) (wanted : List TreeNode → Result A DiskError)
-    (old : Remembered) → (why ≡ Fault) ⊎ (IsCause why × (refusal asked (tree_now (met_by old)) ≡ Some why))
+judged_by : {A : Type 0} (why : DiskError) (asked : Call)
+    (wanted : List TreeNode → Result A DiskError)
+    (old : Remembered)
+    → (why ≡ Fault) ⊎ (IsCause why × (refusal asked (tree_now (met_by old)) ≡ Some why))
     → Refuses asked wanted → IsJudged (error A why) (wanted (tree_now (met_by old)))
 judged_by {A} why asked wanted old w refuses = elim w [
   | inl h ↦
       subst (λ (e : DiskError). IsJudged (error A e) (wanted (tree_now (met_by old)))) (sym h) tt
-  | inr h ↦ judged_same why (wanted (tree_now (met_by old))) (refuses (tree_now (met_by old)) why h.1)
+  | inr h ↦ judged_same why (wanted (tree_now (met_by old)))
+      (refuses (tree_now (met_by old)) why h.1)
 ]
 
 -- The steps.
 
-given_by_error : (A : Type 0) (why : DiskError) (asked : Call) (tree : List TreeNode) → IsGiven (error A why) asked tree 0
+given_by_error : (A : Type 0) (why : DiskError) (asked : Call) (tree : List TreeNode)
+    → IsGiven (error A why) asked tree 0
 given_by_error A why asked tree = refl
 
 pub refused_step : {A : Type 0} (asked : Call) (refused : Option DiskError) (why : DiskError)
-    (wanted : List TreeNode → Result A DiskError) (old new : Remembered) → Turns asked refused old new
+    (wanted : List TreeNode → Result A DiskError) (old new : Remembered)
+    → Turns asked refused old new
     → refused ≡ Some why → Refuses asked wanted
     → MakesStep (error A why) asked wanted 0 (seen_of old) (seen_of new)
 refused_step {A} asked refused why wanted old new t is refuses =
     let w = refused_why asked refused why old new t is in
-    makes_step (error A why) asked wanted 0 old new (refused_leaves A asked refused why old new t is)
+    makes_step (error A why) asked wanted 0 old new
+    (refused_leaves A asked refused why old new t is)
     (judged_by why asked wanted old (why_cause asked why old w) refuses)
     (record {
       marks = longer asked refused old new t;
@@ -211,23 +237,28 @@ refused_step {A} asked refused why wanted old new t is refuses =
     })
     (why_error asked why old w) (given_by_error A why asked (tree_now (met_by old)))
 
-pub refused_plays : {A : Type 0} {asked : Call} {refused : Option DiskError} {why : DiskError} {old new : Remembered}
+pub refused_plays : {A : Type 0} {asked : Call} {refused : Option DiskError} {why : DiskError}
+    {old new : Remembered}
     → Turns asked refused old new → refused ≡ Some why → Plays (error A why) asked old new
 refused_plays {A} {asked} {refused} {why} {old} {new} t is =
     let w = refused_why asked refused why old new t is in
     record {
       leaves = refused_leaves A asked refused why old new t is;
-      due = λ faulty. inl (elim w [ inl h ↦ ap (λ (e : DiskError). error A e) h.0 | inr h ↦ absurd (h.1 faulty) ]);
-      only = λ fault. elim w [ inl h ↦ h.1 | inr h ↦ absurd (cause_no_fault asked why old (err_fault why fault) h.0) ];
+      due = λ faulty. inl
+          (elim w [ inl h ↦ ap (λ (e : DiskError). error A e) h.0 | inr h ↦ absurd (h.1 faulty) ]);
+      only = λ fault. elim w
+          [ inl h ↦ h.1 | inr h ↦ absurd (cause_no_fault asked why old (err_fault why fault) h.0) ];
     }
 
 pub done_step : {A : Type 0} (asked : Call) (refused : Option DiskError) (value : A)
-    (wanted : List TreeNode → Result A DiskError) (bytes : ℕ) (old new : Remembered) → Turns asked refused old new
+    (wanted : List TreeNode → Result A DiskError) (bytes : ℕ) (old new : Remembered)
+    → Turns asked refused old new
     → refused ≡ None → Ok value ≡ wanted (tree_now (met_by old))
     → bytes ≡ given (Own asked Done) (tree_now (met_by old))
     → MakesStep (Ok value) asked wanted bytes (seen_of old) (seen_of new)
 done_step asked refused value wanted bytes old new t is judged gives =
-    makes_step (Ok value) asked wanted bytes old new (done_leaves asked refused value old new t is) judged
+    makes_step (Ok value) asked wanted bytes old new (done_leaves asked refused value old new t is)
+    judged
     (record {
       marks = longer asked refused old new t;
       faults = t.faults;
@@ -235,7 +266,8 @@ done_step asked refused value wanted bytes old new t is judged gives =
     })
     tt gives
 
-pub done_plays : {A : Type 0} (asked : Call) (refused : Option DiskError) (value : A) (old new : Remembered)
+pub done_plays : {A : Type 0} (asked : Call) (refused : Option DiskError) (value : A)
+    (old new : Remembered)
     → Turns asked refused old new → refused ≡ None → Plays (Ok value) asked old new
 done_plays asked refused value old new t is = record {
   leaves = done_leaves asked refused value old new t is;
@@ -245,34 +277,44 @@ done_plays asked refused value old new t is = record {
 
 -- For want of memory those who acted wait.
 
-due_if : (call : ℕ) (foreign : Planned) (plan : List Planned) (b : Bool) → nat_lt call foreign.before_call ≡ b
+due_if : (call : ℕ) (foreign : Planned) (plan : List Planned) (b : Bool)
+    → nat_lt call foreign.before_call ≡ b
     → due call (left call plan) ≡ [] → due call (if b then foreign ∷ plan else left call plan) ≡ []
-due_if call foreign plan true is none = ap (λ (t : Bool). if t then [] else foreign.action ∷ due call plan) is
+due_if call foreign plan true is none =
+    ap (λ (t : Bool). if t then [] else foreign.action ∷ due call plan) is
 due_if call foreign plan false is none = none
 
 none_due : (call : ℕ) (plan : List Planned) → due call (left call plan) ≡ []
 none_due call [] = refl
-none_due call (foreign ∷ plan) = due_if call foreign plan (nat_lt call foreign.before_call) refl (none_due call plan)
+none_due call (foreign ∷ plan) =
+    due_if call foreign plan (nat_lt call foreign.before_call) refl (none_due call plan)
 
-left_if : (call : ℕ) (foreign : Planned) (plan : List Planned) (b : Bool) → nat_lt call foreign.before_call ≡ b
+left_if : (call : ℕ) (foreign : Planned) (plan : List Planned) (b : Bool)
+    → nat_lt call foreign.before_call ≡ b
     → left call (left call plan) ≡ left call plan
-    → left call (if b then foreign ∷ plan else left call plan) ≡ (if b then foreign ∷ plan else left call plan)
-left_if call foreign plan true is twice = ap (λ (t : Bool). if t then foreign ∷ plan else left call plan) is
+    → left call (if b then foreign ∷ plan else left call plan)
+    ≡ (if b then foreign ∷ plan else left call plan)
+left_if call foreign plan true is twice =
+    ap (λ (t : Bool). if t then foreign ∷ plan else left call plan) is
 left_if call foreign plan false is twice = twice
 
 left_twice : (call : ℕ) (plan : List Planned) → left call (left call plan) ≡ left call plan
 left_twice call [] = refl
-left_twice call (foreign ∷ plan) = left_if call foreign plan (nat_lt call foreign.before_call) refl (left_twice call plan)
+left_twice call (foreign ∷ plan) =
+    left_if call foreign plan (nat_lt call foreign.before_call) refl (left_twice call plan)
 
 memory_no_fault : {A : Type 0} → IsErrOf (no_memory A) Fault → ⊥
 memory_no_fault e = cc
 
-pub begins_step : (A : Type 0) (asked : Call) (wanted : List TreeNode → Result A DiskError) (old new : Remembered)
-    → IsMeeting old.calls (begun old) new → MakesStep (no_memory A) asked wanted 0 (seen_of old) (seen_of new)
+pub begins_step : (A : Type 0) (asked : Call) (wanted : List TreeNode → Result A DiskError)
+    (old new : Remembered)
+    → IsMeeting old.calls (begun old) new
+    → MakesStep (no_memory A) asked wanted 0 (seen_of old) (seen_of new)
 begins_step A asked wanted old new h =
     memory_step asked wanted old new h (system_error asked).1
 
-pub begins_plays : (A : Type 0) (asked : Call) (old new : Remembered) → IsMeeting old.calls (begun old) new
+pub begins_plays : (A : Type 0) (asked : Call) (old new : Remembered)
+    → IsMeeting old.calls (begun old) new
     → Plays (no_memory A) asked old new
 begins_plays A asked old new h = record {
   leaves = h;
@@ -281,7 +323,8 @@ begins_plays A asked old new h = record {
 }
 
 -- where others have acted who were due, some have
-meeting : (asked call : Call) (is_faulty : Bool) (old mid new : Remembered) → Faces asked call is_faulty old mid
+meeting : (asked call : Call) (is_faulty : Bool) (old mid new : Remembered)
+    → Faces asked call is_faulty old mid
     → new ≡ mid → IsMeeting old.calls (begun old) new
 meeting asked call is_faulty old mid new faces same =
     subst (λ (n : Remembered). IsMeeting old.calls (begun old) n) (sym (same ∙ faces.met)) (record {
@@ -302,13 +345,15 @@ pub record Answers {A : Type 0} (asked : Call) (wanted : List TreeNode → Resul
     (value : List TreeNode → A) : Type 0 where
   pub is : (tree : List TreeNode) → wanted tree ≡ answer_by (refusal asked tree) (value tree)
 
-refuses_by : {A : Type 0} (asked : Call) (wanted : List TreeNode → Result A DiskError) (value : List TreeNode → A)
+refuses_by : {A : Type 0} (asked : Call) (wanted : List TreeNode → Result A DiskError)
+    (value : List TreeNode → A)
     → Answers asked wanted value → Refuses asked wanted
 refuses_by asked wanted value h tree why is =
     h.is tree ∙ ap (λ (r : Option DiskError). answer_by r (value tree)) is
 
 -- the call is refused
-pub err_step : {A : Type 0} {asked : Call} {refused : Option DiskError} {why : DiskError} {old new : Remembered}
+pub err_step : {A : Type 0} {asked : Call} {refused : Option DiskError} {why : DiskError}
+    {old new : Remembered}
     (wanted : List TreeNode → Result A DiskError) (value : List TreeNode → A)
     → Turns asked refused old new → refused ≡ Some why → Answers asked wanted value
     → MakesStep (error A why) asked wanted 0 (seen_of old) (seen_of new)
@@ -332,36 +377,45 @@ granted {A} {asked} {refused} {old} {new} wanted value t is h =
     (none_refusal t.is_faulty asked old (sym is ∙ t.is))
 
 pub value_step : {A : Type 0} {asked : Call} {refused : Option DiskError} {old new : Remembered}
-    (result : Result A DiskError) (wanted : List TreeNode → Result A DiskError) (value : List TreeNode → A) (bytes : ℕ)
+    (result : Result A DiskError) (wanted : List TreeNode → Result A DiskError)
+    (value : List TreeNode → A) (bytes : ℕ)
     → Turns asked refused old new → refused ≡ None → Answers asked wanted value
-    → result ≡ Ok (value (tree_now (met_by old))) → bytes ≡ given (Own asked Done) (tree_now (met_by old))
+    → result ≡ Ok (value (tree_now (met_by old)))
+    → bytes ≡ given (Own asked Done) (tree_now (met_by old))
     → MakesStep result asked wanted bytes (seen_of old) (seen_of new)
 value_step {A} {asked} {refused} {old} {new} result wanted value bytes t is h same gives =
-    subst (λ (r : Result A DiskError). MakesStep r asked wanted bytes (seen_of old) (seen_of new)) (sym same)
+    subst (λ (r : Result A DiskError). MakesStep r asked wanted bytes (seen_of old) (seen_of new))
+    (sym same)
     (done_step asked refused (value (tree_now (met_by old))) wanted bytes old new t is
     (sym (granted wanted value t is h)) gives)
 
 -- The tree that a call meets.
 
 -- by the parts of the disk
-pub tree_met : (state : State) (inside mid old : Remembered) → state ≡ state_now inside → inside ≡ mid → mid ≡ met_by old
+pub tree_met : (state : State) (inside mid old : Remembered) → state ≡ state_now inside
+    → inside ≡ mid → mid ≡ met_by old
     → tree_of state ≡ tree_now (met_by old)
 tree_met state inside mid old now view met =
-    ap tree_of now ∙ ap (λ (d : Remembered). tree_now d) view ∙ ap (λ (d : Remembered). tree_now d) met
+    ap tree_of now ∙ ap (λ (d : Remembered). tree_now d) view
+    ∙ ap (λ (d : Remembered). tree_now d) met
 
 -- an entry that changes nothing leaves it
-pub tree_now-entered : (call : Call) (disk : Remembered) → ((state : State) → after_done call state ≡ state)
+pub tree_now-entered : (call : Call) (disk : Remembered)
+    → ((state : State) → after_done call state ≡ state)
     → tree_now (entered None call disk) ≡ tree_now disk
 tree_now-entered call disk keeps =
     let own : List Entry = Own call Done ∷ [] in
     ap (λ (l : List Entry). tree_of (run_entries l (state_of disk.past.first)))
     (append-nil (disk.past.journal ++ (map Others disk.waiting ++ own))
     ∙ sym (append_assoc disk.past.journal (map Others disk.waiting) own))
-    ∙ ap tree_of (run_entries-append (disk.past.journal ++ map Others disk.waiting) own (state_of disk.past.first)
+    ∙ ap tree_of
+    (run_entries-append (disk.past.journal ++ map Others disk.waiting) own
+    (state_of disk.past.first)
     ∙ keeps (state_now disk))
 
 -- behind a look
-pub tree_left : (state : State) (inside : Remembered) (asked : Call) (refused : Option DiskError) (old new : Remembered)
+pub tree_left : (state : State) (inside : Remembered) (asked : Call) (refused : Option DiskError)
+    (old new : Remembered)
     → state ≡ state_now inside → inside ≡ new → Turns asked refused old new → refused ≡ None
     → ((s : State) → after_done asked s ≡ s) → tree_of state ≡ tree_now (met_by old)
 tree_left state inside asked refused old new now view t is keeps =
@@ -371,7 +425,8 @@ tree_left state inside asked refused old new now view t is keeps =
     ∙ tree_now-entered asked (met_by old) keeps
 
 -- a change gives no bytes
-pub no_bytes : (call : Call) (tree : List TreeNode) → is_look call ≡ false → 0 ≡ given (Own call Done) tree
+pub no_bytes : (call : Call) (tree : List TreeNode) → is_look call ≡ false
+    → 0 ≡ given (Own call Done) tree
 no_bytes (ListDir dir) tree change = refl
 no_bytes (StatPath path) tree change = refl
 no_bytes (ReadFront path size) tree change = absurd (cc)

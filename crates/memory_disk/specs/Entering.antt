@@ -1,5 +1,6 @@
 -- How others act before a call.
-use Rattle.std.specs.Prelude.{◌≡◌, ◌≤◌, ◌+◌, ◌++◌, ℕ, Bool, false, not, List, [], ◌∷◌, length, map, nat_lt}
+use Rattle.std.specs.Prelude.{◌≡◌, ◌≤◌, ◌+◌, ◌++◌, ℕ, Bool, false, not, List, [], ◌∷◌, length, map}
+use Rattle.std.specs.Prelude.{nat_lt}
 use Rattle.disk_model.specs.Journal.{Action, Others}
 use Rattle.disk_model.specs.State.{State, run_entries}
 use Rattle.memory_disk.specs.Plan.{Planned, due, left}

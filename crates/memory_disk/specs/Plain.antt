@@ -1,16 +1,21 @@
 -- What the parts of a disk in memory mean.
 use Rattle.std.specs.Prelude.{Vec, map}
 use Rattle.std.specs.Global.{Global}
-use Rattle.disk_model.specs.Journal.{Call as PlainCall, ListDir, StatPath, ReadFront, ReadAll, Create, WriteAt, Cut, Sync}
-use Rattle.disk_model.specs.Journal.{Rename, Remove, SyncDir, MakeDir}
+use Rattle.disk_model.specs.Journal.{Call as PlainCall, ListDir, StatPath, ReadFront, ReadAll}
+use Rattle.disk_model.specs.Journal.{Create, WriteAt, Cut, Sync, Rename, Remove, SyncDir, MakeDir}
 use Rattle.memory_disk.specs.Plan.{Planned}
 use Rattle.memory_disk.specs.Entering.{Scene}
 use Rattle.memory_disk.specs.declared.asked.Asked.{Asked}
-use Rattle.memory_disk.specs.declared.asked.Asked.TheVariants.{ListDir as ListAsked, StatPath as StatAsked}
-use Rattle.memory_disk.specs.declared.asked.Asked.TheVariants.{ReadFront as FrontAsked, ReadAll as WholeAsked}
-use Rattle.memory_disk.specs.declared.asked.Asked.TheVariants.{Create as CreateAsked, WriteAt as WriteAsked}
-use Rattle.memory_disk.specs.declared.asked.Asked.TheVariants.{Cut as CutAsked, Sync as SyncAsked, Rename as RenameAsked}
-use Rattle.memory_disk.specs.declared.asked.Asked.TheVariants.{Remove as RemoveAsked, SyncDir as SyncDirAsked}
+use Rattle.memory_disk.specs.declared.asked.Asked.TheVariants.{ListDir as ListAsked}
+use Rattle.memory_disk.specs.declared.asked.Asked.TheVariants.{StatPath as StatAsked}
+use Rattle.memory_disk.specs.declared.asked.Asked.TheVariants.{ReadFront as FrontAsked}
+use Rattle.memory_disk.specs.declared.asked.Asked.TheVariants.{ReadAll as WholeAsked}
+use Rattle.memory_disk.specs.declared.asked.Asked.TheVariants.{Create as CreateAsked}
+use Rattle.memory_disk.specs.declared.asked.Asked.TheVariants.{WriteAt as WriteAsked}
+use Rattle.memory_disk.specs.declared.asked.Asked.TheVariants.{Cut as CutAsked, Sync as SyncAsked}
+use Rattle.memory_disk.specs.declared.asked.Asked.TheVariants.{Rename as RenameAsked}
+use Rattle.memory_disk.specs.declared.asked.Asked.TheVariants.{Remove as RemoveAsked}
+use Rattle.memory_disk.specs.declared.asked.Asked.TheVariants.{SyncDir as SyncDirAsked}
 use Rattle.memory_disk.specs.declared.asked.Asked.TheVariants.{MakeDir as MakeDirAsked}
 use Rattle.memory_disk.specs.declared.script.Foreign.{Foreign}
 use Rattle.disk_state.specs.Plain.{plain_action, plain_state}
@@ -19,7 +24,8 @@ use Rattle.disk_state.specs.declared.state.State.{State}
 
 -- an action that is planned
 abbrev pub plain_planned : Foreign → Planned
-plain_planned foreign = record { before_call = foreign.before_call; action = plain_action foreign.action }
+plain_planned foreign =
+    record { before_call = foreign.before_call; action = plain_action foreign.action }
 
 -- a call as it is asked for
 abbrev pub plain_asked : Asked → PlainCall

@@ -11,7 +11,8 @@ pub record Planned : Type 0 where
 -- the place behind the actions that stand before that call or an earlier one
 abbrev pub place_before : ℕ → List Planned → ℕ
 place_before call [] = 0
-place_before call (other ∷ plan) = if nat_lt call other.before_call then 0 else place_before call plan + 1
+place_before call (other ∷ plan) =
+    if nat_lt call other.before_call then 0 else place_before call plan + 1
 
 -- a plan with one action more
 abbrev pub planned : Planned → List Planned → List Planned
@@ -29,9 +30,11 @@ in_order script = planned_all [] script
 -- the actions that are due at a call
 abbrev pub due : ℕ → List Planned → List Action
 due call [] = []
-due call (foreign ∷ plan) = if nat_lt call foreign.before_call then [] else foreign.action ∷ due call plan
+due call (foreign ∷ plan) =
+    if nat_lt call foreign.before_call then [] else foreign.action ∷ due call plan
 
 -- the others
 abbrev pub left : ℕ → List Planned → List Planned
 left call [] = []
-left call (foreign ∷ plan) = if nat_lt call foreign.before_call then foreign ∷ plan else left call plan
+left call (foreign ∷ plan) =
+    if nat_lt call foreign.before_call then foreign ∷ plan else left call plan

@@ -1,6 +1,7 @@
 -- What contracts see of a disk in memory.
-use Rattle.std.specs.Prelude.{◌≡◌, ◌≤◌, ◌+◌, ◌^◌, ◌⊎◌, ◌++◌, ◌∷◌, [], ℕ, List, Option, Some, None, Result, Ok, Err}
-use Rattle.std.specs.Prelude.{Bool, true, map, length, Contains, IsErrOf, IsTrue, ◌↔◌, if◌then◌else◌}
+use Rattle.std.specs.Prelude.{◌≡◌, ◌≤◌, ◌+◌, ◌^◌, ◌⊎◌, ◌++◌, ◌∷◌, [], ℕ, List, Option, Some, None}
+use Rattle.std.specs.Prelude.{Result, Ok, Err, Bool, true, map, length, Contains, IsErrOf, IsTrue}
+use Rattle.std.specs.Prelude.{◌↔◌, if◌then◌else◌}
 use Rattle.mail_base.specs.Faults.{Rose}
 use Rattle.disk_model.specs.Tree.{TreeNode, is_first_tree, stamped}
 use Rattle.disk_model.specs.Journal.{Action, Answer, Call, Done, Entry, Others, Own, Past, Refused}
@@ -15,7 +16,8 @@ use Rattle.disk_model.specs.declared.answers.DiskError.TheVariants.{Fault, NoMem
 use Rattle.disk_state.specs.Plain.{answer_by_refusal}
 use Rattle.memory_disk.specs.Plan.{Planned, due, in_order, left}
 
--- A disk in memory: its past, what others have done since, what they have still to do, which calls fail, the call from
+-- A disk in memory: its past, what others have done since, what they have still to do, which calls
+-- fail, the call from
 -- which on all fail, and the calls and the faults so far.
 pub record Remembered : Type 0 where
   pub past : Past
@@ -38,14 +40,16 @@ seen_of disk =
 
 -- the state that the next call meets, when no others act before it
 abbrev pub state_now : Remembered → State
-state_now disk = run_entries (disk.past.journal ++ map Others disk.waiting) (state_of disk.past.first)
+state_now disk =
+    run_entries (disk.past.journal ++ map Others disk.waiting) (state_of disk.past.first)
 
 -- its tree
 abbrev pub tree_now : Remembered → List TreeNode
 tree_now disk = tree_of (state_now disk)
 
 -- What is kept is sound: a first tree with its clock, its state now, and a lawful journal.
-pub record IsSound (first : List TreeNode) (clock : ℕ) (journal : List Entry) (waiting : List Action) (state : State)
+pub record IsSound (first : List TreeNode) (clock : ℕ) (journal : List Entry)
+    (waiting : List Action) (state : State)
     : Type 0 where
   pub tree : is_first_tree first ≡ true
   pub begins : clock ≡ first_clock first
@@ -73,7 +77,8 @@ begun disk = record disk { calls = counted_up disk.calls }
 
 -- all others have acted who are due at a call
 abbrev pub met : ℕ → Remembered → Remembered
-met call disk = record disk { waiting = disk.waiting ++ due call disk.plan; plan = left call disk.plan }
+met call disk =
+    record disk { waiting = disk.waiting ++ due call disk.plan; plan = left call disk.plan }
 
 -- some of them have acted
 pub record IsMeeting (call : ℕ) (old new : Remembered) : Type 0 where
@@ -98,7 +103,8 @@ abbrev pub answered : {A : Type 0} → Result A DiskError → Call → Remembere
 answered result call disk =
     record disk {
       past = record disk.past {
-        journal = disk.past.journal ++ (map Others disk.waiting ++ Own call (answer_of result) ∷ []);
+        journal =
+            disk.past.journal ++ (map Others disk.waiting ++ Own call (answer_of result) ∷ []);
       };
       waiting = [];
       faults = faulted result disk.faults;
@@ -114,26 +120,31 @@ abbrev pub entered : Option DiskError → Call → Remembered → Remembered
 entered refused call disk =
     record disk {
       past = record disk.past {
-        journal = disk.past.journal ++ (map Others disk.waiting ++ Own call (answer_by_refusal refused) ∷ []);
+        journal =
+            disk.past.journal
+            ++ (map Others disk.waiting ++ Own call (answer_by_refusal refused) ∷ []);
       };
       waiting = [];
       faults = faults_by refused disk.faults;
     }
 
 -- The call was answered: by a fault where it is to fail, and else as the tree asks for.
-pub record Settles (refused : Option DiskError) (is_faulty : Bool) (call : Call) (old new : Remembered) : Type 0 where
+pub record Settles (refused : Option DiskError) (is_faulty : Bool) (call : Call)
+    (old new : Remembered) : Type 0 where
   pub is : refused ≡ (if is_faulty then Some Fault else refusal call (tree_now old))
   pub entered : new ≡ entered refused call old
   pub faults : old.faults ≤ new.faults
   pub cause : refused ≡ Some Fault → Rose old.faults new.faults
 
--- what a call with this result leaves: for want of memory no more than that others may have acted already
+-- what a call with this result leaves: for want of memory no more than that others may have acted
+-- already
 abbrev pub Leaves : {A : Type 0} → Result A DiskError → Call → Remembered → Remembered → Type 0
 Leaves (Err NoMemory) call old new = IsMeeting old.calls (begun old) new
 Leaves result call old new = new ≡ answered result call (met old.calls (begun old))
 
 -- What every call of a disk in memory does: it fails exactly where it is to fail.
-pub record Plays {A : Type 0} (result : Result A DiskError) (call : Call) (old new : Remembered) : Type 0 where
+pub record Plays {A : Type 0} (result : Result A DiskError) (call : Call)
+    (old new : Remembered) : Type 0 where
   pub leaves : Leaves result call old new
   pub due : IsFaulty old → IsErrOf result Fault ⊎ IsErrOf result NoMemory
   pub only : IsErrOf result Fault → IsFaulty old

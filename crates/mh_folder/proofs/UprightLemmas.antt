@@ -1,6 +1,7 @@
 -- No range that is read or made is upside down.
 use Rattle.std.proofs.Common.{◌≡◌, ◌==◌, ℕ, Bool, true, false, nat_le, List, [], ◌∷◌, ◌++◌, map}
-use Rattle.std.proofs.Common.{Option, Some, None, refl, sym, subst, ◌∙◌, arith, if◌then◌else◌, codes, unwrap_or}
+use Rattle.std.proofs.Common.{Option, Some, None, refl, sym, subst, ◌∙◌, arith, if◌then◌else◌}
+use Rattle.std.proofs.Common.{codes, unwrap_or}
 use Rattle.std.specs.List.{list_all}
 use Rattle.std.specs.Str.{byte}
 use Rattle.std.proofs.lemmas.Bool.{and_parts, and_from}
@@ -133,7 +134,8 @@ read_upright ranges word (b ∷ rest) all =
 pub ranges_upright : (text : List ℕ) (ranges : List Range) → Some ranges ≡ ranges_from [] [] text
     → list_all is_upright ranges ≡ true
 ranges_upright text ranges is =
-    subst (λ (o : Option (List Range)). uprights_or_none o ≡ true) (sym is) (read_upright [] [] text refl)
+    subst (λ (o : Option (List Range)). uprights_or_none o ≡ true) (sym is)
+    (read_upright [] [] text refl)
 
 abbrev pub line_or_none : Option PlainLine → Bool
 line_or_none None = true

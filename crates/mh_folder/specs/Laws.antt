@@ -45,4 +45,5 @@ StaysUpright =
 
 -- a number is in a sequence that is read exactly where a range of the file writes it there
 abbrev pub HoldsWritten : Type 0
-HoldsWritten = (bytes name : List ℕ) (n : ℕ) → holds name n (sequences_of bytes) ≡ in_sequence name n bytes
+HoldsWritten =
+    (bytes name : List ℕ) (n : ℕ) → holds name n (sequences_of bytes) ≡ in_sequence name n bytes

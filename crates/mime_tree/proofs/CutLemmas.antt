@@ -1,15 +1,19 @@
--- A section cut at its first delimiter line, which is the one of a place among those of its lines that begin with two
+-- A section cut at its first delimiter line, which is the one of a place among those of its lines
+-- that begin with two
 -- dashes.
-use Rattle.std.proofs.Common.{◌≡◌, ℕ, zero, suc, ◌+◌, ◌-◌, ◌<◌, ◌≤◌, ◌==◌, Bool, true, false, ◌&&◌, List, [], ◌∷◌}
-use Rattle.std.proofs.Common.{◌++◌, length, take, drop, map, get_or, slice_index, Option, Some, None, nat_lt, refl, sym}
-use Rattle.std.proofs.Common.{ap, ◌∙◌, arith, take-append-drop, drop-cons, add-one, length-drop, get_or-take, position}
+use Rattle.std.proofs.Common.{◌≡◌, ℕ, zero, suc, ◌+◌, ◌-◌, ◌<◌, ◌≤◌, ◌==◌, Bool, true, false, ◌&&◌}
+use Rattle.std.proofs.Common.{List, [], ◌∷◌, ◌++◌, length, take, drop, map, get_or, slice_index}
+use Rattle.std.proofs.Common.{Option, Some, None, nat_lt, refl, sym, ap, ◌∙◌, arith}
+use Rattle.std.proofs.Common.{take-append-drop, drop-cons, add-one, length-drop, get_or-take}
+use Rattle.std.proofs.Common.{position}
 use Rattle.std.specs.Prelude.{is_some, if◌then◌else◌}
 use Rattle.std.proofs.Common.{append_assoc, codes, cond}
 use Rattle.std.specs.List.{concat, list_any}
 use Rattle.std.proofs.Common.{⊎_elim, min}
 use Rattle.std.proofs.lemmas.Bool.{cases_lt, false_from_ne_true}
 use Rattle.std.proofs.lemmas.Bool.Decides.{nat_tests}
-use Rattle.std.proofs.lemmas.List.{append-nil, get_or-map, drop_all, get_or_default, length-map, length-take, take_all}
+use Rattle.std.proofs.lemmas.List.{append-nil, get_or-map, drop_all, get_or_default, length-map}
+use Rattle.std.proofs.lemmas.List.{length-take, take_all}
 use Rattle.std.proofs.lemmas.List.Folds.{list_any_at, list_any_none}
 use Rattle.std.proofs.lemmas.List.Quantifiers.{position-Some}
 use Rattle.std.proofs.lemmas.List.Sums.{fails_before_first}
@@ -23,7 +27,8 @@ use Rattle.mime_tree.specs.declared.delimiter.LineKind.{LineKind}
 use Rattle.mime_tree.specs.declared.delimiter.LineKind.TheVariants.{Text, Delimiter, Closing}
 use Rattle.mime_tree.specs.Delimiter.{is_closing, is_cut, is_delimiter, kind_behind, kind_of}
 use Rattle.mime_tree.specs.Section.{PlainSection, section_at, section_text, sections, sections_with}
-use Rattle.mime_tree.specs.DashLines.{DashLine, dash_kind, dash_lines, dash_starts, delimits, delimits_at, may_delimit}
+use Rattle.mime_tree.specs.DashLines.{DashLine, dash_kind, dash_lines, dash_starts, delimits}
+use Rattle.mime_tree.specs.DashLines.{delimits_at, may_delimit}
 use Rattle.mime_tree.proofs.DashLinesLemmas as dashes
 use Rattle.mime_tree.proofs.SectionLemmas.{take_short, without_terminator_short}
 
@@ -42,7 +47,8 @@ map-drop f (suc k) [] = refl
 map-drop f (suc k) (x ∷ xs) = map-drop f k xs
 
 -- lines of which none is a delimiter line
-none_delimits : (boundary : List ℕ) (lines : List DashLine) → position (delimits boundary) lines ≡ None
+none_delimits : (boundary : List ℕ) (lines : List DashLine)
+    → position (delimits boundary) lines ≡ None
     → list_any (delimits boundary) lines ≡ false
 none_delimits boundary lines e =
     let past = place_none (delimits boundary) lines e in
@@ -50,7 +56,8 @@ none_delimits boundary lines e =
     (λ k d less. fails_before_first (delimits boundary) lines k d (omega (arith, past, less)))
 
 -- the pieces of a section that is cut at the line of a place
-pub record IsCut (boundary : List ℕ) (s : PlainSection) (places : List ℕ) (k : ℕ) (front line_on tail : List ℕ)
+pub record IsCut (boundary : List ℕ) (s : PlainSection) (places : List ℕ) (k : ℕ)
+    (front line_on tail : List ℕ)
     : Type 0 where
   pub marked : places ≡ dash_starts s.start (lines_of s.text)
   pub first : position (λ at. delimits_at boundary s.text (at - s.start)) places ≡ Some k
@@ -58,7 +65,8 @@ pub record IsCut (boundary : List ℕ) (s : PlainSection) (places : List ℕ) (k
   pub line_on_is : line_on ≡ drop (slice_index places k - s.start) s.text
   pub tail_is : tail ≡ behind_line line_on
 
-by_closing : (kind : LineKind) (first : PlainSection) (more : List PlainSection) → is_delimiter kind ≡ true
+by_closing : (kind : LineKind) (first : PlainSection) (more : List PlainSection)
+    → is_delimiter kind ≡ true
     → sections_with kind first more ≡ (if is_closing kind then [] else first ∷ more)
 by_closing Text first more e = absurd (cc)
 by_closing Delimiter first more e = refl
@@ -74,7 +82,8 @@ first_line_of boundary s places o marked first =
     ∙ ap (position (λ at. delimits_at boundary s.text (at - s.start))) (sym marked)
     ∙ first
 
-module _ {boundary : List ℕ} {s : PlainSection} {places : List ℕ} {k : ℕ} {front line_on tail : List ℕ}
+module _ {boundary : List ℕ} {s : PlainSection} {places : List ℕ} {k : ℕ}
+    {front line_on tail : List ℕ}
     (is : IsCut boundary s places k front line_on tail) where
   abbrev all : List DashLine
   all = dash_lines s.start (lines_of s.text)
@@ -91,7 +100,8 @@ module _ {boundary : List ℕ} {s : PlainSection} {places : List ℕ} {k : ℕ} 
   passes : (k < length all) × (delimits boundary found ≡ true) ×
       ((i : ℕ) → i < k → delimits boundary (get_or all i none_there) ≡ false)
   passes =
-      position-Some (delimits boundary) all k none_there (first_line_of boundary s places (Some k) is.marked is.first)
+      position-Some (delimits boundary) all k none_there
+      (first_line_of boundary s places (Some k) is.marked is.first)
 
   split : all ≡ before ++ found ∷ after
   split =
@@ -103,7 +113,8 @@ module _ {boundary : List ℕ} {s : PlainSection} {places : List ℕ} {k : ℕ} 
   many = ap length is.marked ∙ length-map all (λ d. d.start)
 
   at_is : slice_index places k ≡ found.start
-  at_is = ap (λ l. slice_index l k) is.marked ∙ get_or-map (λ d. d.start) all k none_there 0 passes.0
+  at_is = ap (λ l. slice_index l k) is.marked
+      ∙ get_or-map (λ d. d.start) all k none_there 0 passes.0
 
   abbrev pub next : ℕ
   next = slice_index places k + (length line_on - length tail)
@@ -115,7 +126,8 @@ module _ {boundary : List ℕ} {s : PlainSection} {places : List ℕ} {k : ℕ} 
       let size = length-take k all in
       let below : i < k = omega (arith, size, less) in
       let within : i < length all = omega (arith, below, passes.0) in
-      ap (delimits boundary) (get_or-take k all i d below ∙ get_or_default all i d none_there within)
+      ap (delimits boundary)
+      (get_or-take k all i d below ∙ get_or_default all i d none_there within)
       ∙ passes.2 i below)
 
   front_same : front ≡ take (found.start - s.start) s.text
@@ -148,10 +160,16 @@ module _ {boundary : List ℕ} {s : PlainSection} {places : List ℕ} {k : ℕ} 
 
   pub front_fits : s.start + length (without_terminator front) ≤ s.start + length s.text
   front_fits =
-      omega
-      (arith, without_terminator_short front, ap length front_same, take_short (found.start - s.start) s.text)
+      omega (
+        arith,
+        without_terminator_short front,
+        ap length front_same,
+        take_short
+            (found.start - s.start) s.text,
+      )
 
-  pub rest_marked : take (length places - (k + 1)) (drop (k + 1) places) ≡ dash_starts next (lines_of tail)
+  pub rest_marked : take (length places - (k + 1)) (drop (k + 1) places)
+      ≡ dash_starts next (lines_of tail)
   rest_marked =
       take_all _ _ (omega (arith, length-drop (k + 1) places))
       ∙ ap (drop (k + 1)) is.marked
@@ -161,17 +179,20 @@ module _ {boundary : List ℕ} {s : PlainSection} {places : List ℕ} {k : ℕ} 
       ∙ ap (λ t. dash_starts next (lines_of t)) (sym tail_same)
 
   pub rest_fits : next + length tail ≡ s.start + length s.text
-  rest_fits = omega (arith, next_same, ap length tail_same, dashes.next_fits s before found after split)
+  rest_fits =
+      omega (arith, next_same, ap length tail_same, dashes.next_fits s before found after split)
 
   pub front_text : section_text boundary [] (lines_of s.text) ≡ without_terminator front
   front_text =
       dashes.front_text s before found after split boundary none passes.1
       ∙ ap without_terminator (sym front_same)
 
-  pub rest_sections : (in_digest closes : Bool) → closes ≡ is_closing (kind_of boundary (first_line (lines_of line_on)))
+  pub rest_sections : (in_digest closes : Bool)
+      → closes ≡ is_closing (kind_of boundary (first_line (lines_of line_on)))
       → sections boundary in_digest s.start (lines_of s.text)
       ≡ (if closes then []
-      else section_at boundary in_digest next (lines_of tail) ∷ sections boundary in_digest next (lines_of tail))
+      else section_at boundary in_digest next (lines_of tail)
+      ∷ sections boundary in_digest next (lines_of tail))
   rest_sections in_digest closes e =
       dashes.rest_sections s before found after split boundary in_digest none
       ∙ by_closing (dash_kind boundary found.text) _ _ passes.1
@@ -192,9 +213,12 @@ module _ {boundary : List ℕ} {s : PlainSection} {places : List ℕ} {k : ℕ} 
           ∙ ap is_closing (dashes.kind_on s before found after split boundary)
 
       behind : ℕ → List ℕ → List PlainSection
-      behind at text = section_at boundary in_digest at (lines_of text) ∷ sections boundary in_digest at (lines_of text)
+      behind at text =
+          section_at boundary in_digest at (lines_of text)
+          ∷ sections boundary in_digest at (lines_of text)
 
-some_delimits : (boundary : List ℕ) (lines : List DashLine) (o : Option ℕ) → position (delimits boundary) lines ≡ o
+some_delimits : (boundary : List ℕ) (lines : List DashLine) (o : Option ℕ)
+    → position (delimits boundary) lines ≡ o
     → is_some o ≡ list_any (delimits boundary) lines
 some_delimits boundary lines None e = sym (none_delimits boundary lines e)
 some_delimits boundary lines (Some k) e =
@@ -206,12 +230,15 @@ above_zero zero h = absurd (cc)
 above_zero (suc n) h = grind (arith, nat_tests)
 
 -- the places show whether the boundary of a multipart occurs
-pub delimits_is_cut : (boundary : List ℕ) (s : PlainSection) (places : List ℕ) → (length boundary == 0) ≡ false
+pub delimits_is_cut : (boundary : List ℕ) (s : PlainSection) (places : List ℕ)
+    → (length boundary == 0) ≡ false
     → places ≡ dash_starts s.start (lines_of s.text)
-    → is_some (position (λ at. delimits_at boundary s.text (at - s.start)) places) ≡ is_cut boundary s.text
+    → is_some (position (λ at. delimits_at boundary s.text (at - s.start)) places)
+    ≡ is_cut boundary s.text
 delimits_is_cut boundary s places some marked =
     let o = position (λ at. delimits_at boundary s.text (at - s.start)) places in
-    some_delimits boundary (dash_lines s.start (lines_of s.text)) o (first_line_of boundary s places o marked refl)
+    some_delimits boundary (dash_lines s.start (lines_of s.text)) o
+    (first_line_of boundary s places o marked refl)
     ∙ sym (dashes.any_delimiter boundary s.start (lines_of s.text))
     ∙ ap (λ t. t && list_any (λ line. is_delimiter (kind_of boundary line)) (lines_of s.text))
     (sym (above_zero (length boundary) some))
@@ -223,7 +250,8 @@ pub none_in : (boundary : List ℕ) (s : PlainSection) (places : List ℕ)
     → dashes.HasNone boundary (lines_of s.text)
 none_in boundary s places marked none =
     dashes.any_delimiter boundary s.start (lines_of s.text)
-    ∙ none_delimits boundary (dash_lines s.start (lines_of s.text)) (first_line_of boundary s places None marked none)
+    ∙ none_delimits boundary (dash_lines s.start (lines_of s.text))
+    (first_line_of boundary s places None marked none)
 
 -- the place of the first delimiter line is in the section
 pub place_within : (boundary : List ℕ) (s : PlainSection) (places : List ℕ) (k : ℕ)
@@ -232,7 +260,8 @@ pub place_within : (boundary : List ℕ) (s : PlainSection) (places : List ℕ) 
     → (s.start ≤ slice_index places k) × (slice_index places k - s.start ≤ length s.text)
 place_within boundary s places k marked first =
     let size = slice_index places k - s.start in
-    let cut : IsCut boundary s places k (take size s.text) (drop size s.text) (behind_line (drop size s.text)) = record {
+    let cut : IsCut boundary s places k (take size s.text) (drop size s.text)
+    (behind_line (drop size s.text)) = record {
       marked = marked;
       first = first;
       front_is = refl;
@@ -267,7 +296,8 @@ terminator_front s = by_feed (nat_lt 0 (length s) && slice_index s (length s - 1
         let rest = drop (length s - 1) s in
         let cut = no_cr_front text in (
           cut.0 ++ rest,
-          sym (take-append-drop (length s - 1) s) ∙ ap (λ l. l ++ rest) cut.1 ∙ append_assoc (no_cr text) cut.0 rest,
+          sym (take-append-drop (length s - 1) s) ∙ ap (λ l. l ++ rest) cut.1
+              ∙ append_assoc (no_cr text) cut.0 rest,
         )
     by_feed false = ([], sym (append-nil s))
 
@@ -314,4 +344,5 @@ may_delimit-true boundary text e =
 pub delimits_at-false : (boundary text : List ℕ) → may_delimit boundary text ≡ false
     → delimits_at boundary text 0 ≡ false
 delimits_at-false boundary text none =
-    false_from_ne_true (delimits_at boundary text 0) (λ e. let some = may_delimit-true boundary text e in cc)
+    false_from_ne_true (delimits_at boundary text 0)
+    (λ e. let some = may_delimit-true boundary text e in cc)

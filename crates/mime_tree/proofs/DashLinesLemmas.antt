@@ -1,8 +1,8 @@
 -- Lines cut at one of those among them that begin with two dashes.
 use Rattle.std.proofs.Common.{◌≡◌, ℕ, ◌+◌, ◌-◌, ◌≤◌, Bool, true, false, ◌||◌, List, [], ◌∷◌, ◌++◌}
-use Rattle.std.proofs.Common.{length, take, drop, Option, Some, None, refl, sym, ap, ◌∙◌, arith, length-append}
-use Rattle.std.proofs.Common.{append_assoc, length-drop}
-use Rattle.std.proofs.Common.{cond, not, nat_lt, map, position}
+use Rattle.std.proofs.Common.{length, take, drop, Option, Some, None, refl, sym, ap, ◌∙◌, arith}
+use Rattle.std.proofs.Common.{length-append, append_assoc, length-drop, cond, not, nat_lt, map}
+use Rattle.std.proofs.Common.{position}
 use Rattle.std.specs.List.{concat, list_any, position_or_len}
 use Rattle.std.proofs.Math.Seq.{take-append_seam}
 use Rattle.std.proofs.lemmas.List.{append-nil, length-map}
@@ -16,12 +16,13 @@ use Rattle.mime_tree.specs.declared.delimiter.LineKind.{LineKind}
 use Rattle.mime_tree.specs.declared.delimiter.LineKind.TheVariants.{Text, Delimiter, Closing}
 use Rattle.mime_tree.specs.Delimiter.{is_delimiter, kind_behind, kind_of}
 use Rattle.mime_tree.specs.Section.{PlainSection, section_at, section_text, sections, sections_with}
-use Rattle.mime_tree.specs.DashLines.{DashLine, behind_dashes, dash_kind, dash_lines, dash_lines_with, dash_starts}
-use Rattle.mime_tree.specs.DashLines.{delimits, delimits_at}
+use Rattle.mime_tree.specs.DashLines.{DashLine, behind_dashes, dash_kind, dash_lines}
+use Rattle.mime_tree.specs.DashLines.{dash_lines_with, dash_starts, delimits, delimits_at}
 use Rattle.mime_tree.proofs.LineEndLemmas.{dash_lines_without}
 
 -- lines at a place, split at one that begins with two dashes
-pub record Split (at : ℕ) (lines : List (List ℕ)) (before : List DashLine) (found : DashLine) (after : List DashLine)
+pub record Split (at : ℕ) (lines : List (List ℕ)) (before : List DashLine) (found : DashLine)
+    (after : List DashLine)
     : Type 0 where
   pub front : List (List ℕ)
   pub line : List ℕ
@@ -38,7 +39,8 @@ dash_at at text = record { start = at; text = text }
 same_parts : (x y : DashLine) (xs ys : List DashLine) → x ∷ xs ≡ y ∷ ys → (x ≡ y) × (xs ≡ ys)
 same_parts x y xs ys e = ((cc), (cc))
 
-split_next : (at : ℕ) (line : List ℕ) (lines : List (List ℕ)) (o : Option (List ℕ)) (before : List DashLine)
+split_next : (at : ℕ) (line : List ℕ) (lines : List (List ℕ)) (o : Option (List ℕ))
+    (before : List DashLine)
     (found : DashLine) (after : List DashLine)
     → behind_dashes line ≡ o
     → ((less : List DashLine) → dash_lines (at + length line) lines ≡ less ++ found ∷ after
@@ -51,7 +53,8 @@ split_next at line lines None before found after o more e =
       line = s.line;
       back = s.back;
       whole = ap (λ ls. line ∷ ls) s.whole;
-      before_is = ap (λ t. dash_lines_with at t (dash_lines (at + length line) s.front)) o ∙ s.before_is;
+      before_is =
+          ap (λ t. dash_lines_with at t (dash_lines (at + length line) s.front)) o ∙ s.before_is;
       place = omega (arith, s.place, length-append line (concat s.front));
       text = s.text;
       after_is = s.after_is;
@@ -70,7 +73,9 @@ split_next at line lines (Some text) [] found after o more e =
       after_is = ap (λ n. dash_lines (n + length line) lines) (sym start) ∙ same.1;
     }
 split_next at line lines (Some text) (d ∷ before) found after o more e =
-    let same = same_parts (dash_at at text) d (dash_lines (at + length line) lines) (before ++ found ∷ after) e in
+    let same =
+    same_parts (dash_at at text) d (dash_lines (at + length line) lines)
+    (before ++ found ∷ after) e in
     let s = more before same.1 in record {
       front = line ∷ s.front;
       line = s.line;
@@ -84,7 +89,8 @@ split_next at line lines (Some text) (d ∷ before) found after o more e =
       after_is = s.after_is;
     }
 
-pub split_lines : (at : ℕ) (lines : List (List ℕ)) (before : List DashLine) (found : DashLine) (after : List DashLine)
+pub split_lines : (at : ℕ) (lines : List (List ℕ)) (before : List DashLine) (found : DashLine)
+    (after : List DashLine)
     → dash_lines at lines ≡ before ++ found ∷ after → Split at lines before found after
 split_lines at [] [] found after e = absurd (cc)
 split_lines at [] (d ∷ before) found after e = absurd (cc)
@@ -102,21 +108,26 @@ any_next boundary at (Some text) t more e = ap (λ x. is_delimiter (dash_kind bo
 
 -- a delimiter line begins with two dashes
 pub any_delimiter : (boundary : List ℕ) (at : ℕ) (lines : List (List ℕ))
-    → list_any (λ line. is_delimiter (kind_of boundary line)) lines ≡ list_any (delimits boundary) (dash_lines at lines)
+    → list_any (λ line. is_delimiter (kind_of boundary line)) lines
+    ≡ list_any (delimits boundary) (dash_lines at lines)
 any_delimiter boundary at [] = refl
 any_delimiter boundary at (line ∷ lines) =
     any_next boundary at (behind_dashes line) _ (dash_lines (at + length line) lines)
     (any_delimiter boundary (at + length line) lines)
 
 -- the line of a text that starts behind others
-delimits_here : (boundary text : List ℕ) (front : List (List ℕ)) (line : List ℕ) (lines : List (List ℕ))
+delimits_here : (boundary text : List ℕ) (front : List (List ℕ)) (line : List ℕ)
+    (lines : List (List ℕ))
     → lines_of text ≡ front ++ line ∷ lines → (o : Option (List ℕ)) → behind_dashes line ≡ o
-    → delimits_at boundary text (length (concat front)) ≡ is_delimiter (kind_behind (o >>= behind_text boundary))
+    → delimits_at boundary text (length (concat front))
+    ≡ is_delimiter (kind_behind (o >>= behind_text boundary))
 delimits_here boundary text front line lines whole o e =
-    ap (λ ls. is_delimiter (kind_of boundary (first_line ls))) (back_lines text front (line ∷ lines) whole)
+    ap (λ ls. is_delimiter (kind_of boundary (first_line ls)))
+    (back_lines text front (line ∷ lines) whole)
     ∙ ap (λ p. is_delimiter (kind_behind (p >>= behind_text boundary))) e
 
-starts_same : (boundary text : List ℕ) (start at : ℕ) (front lines : List (List ℕ)) → lines_of text ≡ front ++ lines
+starts_same : (boundary text : List ℕ) (start at : ℕ) (front lines : List (List ℕ))
+    → lines_of text ≡ front ++ lines
     → at ≡ start + length (concat front)
     → position_or_len (λ place. delimits_at boundary text (place - start)) (dash_starts at lines)
     ≡ position_or_len (delimits boundary) (dash_lines at lines)
@@ -134,23 +145,29 @@ starts_same boundary text start at front (line ∷ lines) whole is =
     )))
   where
     by_line : (o : Option (List ℕ)) → behind_dashes line ≡ o
-        → position_or_len (λ place. delimits_at boundary text (place - start)) (dash_starts (at + length line) lines)
+        → position_or_len (λ place. delimits_at boundary text (place - start))
+        (dash_starts (at + length line) lines)
         ≡ position_or_len (delimits boundary) (dash_lines (at + length line) lines)
         → position_or_len (λ place. delimits_at boundary text (place - start))
         (map (λ d. d.start) (dash_lines_with at o (dash_lines (at + length line) lines)))
-        ≡ position_or_len (delimits boundary) (dash_lines_with at o (dash_lines (at + length line) lines))
+        ≡ position_or_len (delimits boundary)
+        (dash_lines_with at o (dash_lines (at + length line) lines))
     by_line None e more = more
     by_line (Some found) e more =
         let place : at - start ≡ length (concat front) = omega (arith, is) in
-        let here : delimits_at boundary text (at - start) ≡ is_delimiter (dash_kind boundary found) =
-        ap (delimits_at boundary text) place ∙ delimits_here boundary text front line lines whole (Some found) e in
-        ap (λ t. cond (not t) (1 + position_or_len (λ place. delimits_at boundary text (place - start))
+        let here : delimits_at boundary text (at - start)
+        ≡ is_delimiter (dash_kind boundary found) =
+        ap (delimits_at boundary text) place
+        ∙ delimits_here boundary text front line lines whole (Some found) e in
+        ap (λ t. cond (not t)
+        (1 + position_or_len (λ place. delimits_at boundary text (place - start))
         (dash_starts (at + length line) lines)) 0) here
         ∙ ap (λ n. cond (not (is_delimiter (dash_kind boundary found))) (1 + n) 0) more
 
 -- the places show which of the lines is the first delimiter line
 pub position-starts : (boundary text : List ℕ) (start : ℕ)
-    → position (λ place. delimits_at boundary text (place - start)) (dash_starts start (lines_of text))
+    → position (λ place. delimits_at boundary text (place - start))
+    (dash_starts start (lines_of text))
     ≡ position (delimits boundary) (dash_lines start (lines_of text))
 position-starts boundary text start =
     let all = dash_lines start (lines_of text) in
@@ -172,18 +189,22 @@ none_first : (boundary line : List ℕ) (lines : List (List ℕ)) → HasNone bo
     → (is_delimiter (kind_of boundary line) ≡ false) × HasNone boundary lines
 none_first boundary line lines none = neither _ _ none
 
-text_line : (boundary front line : List ℕ) (lines : List (List ℕ)) → is_delimiter (kind_of boundary line) ≡ false
+text_line : (boundary front line : List ℕ) (lines : List (List ℕ))
+    → is_delimiter (kind_of boundary line) ≡ false
     → section_text boundary front (line ∷ lines) ≡ section_text boundary (front ++ line) lines
 text_line boundary front line lines h = rw h refl
 
-text_end : (boundary front line : List ℕ) (lines : List (List ℕ)) → is_delimiter (kind_of boundary line) ≡ true
+text_end : (boundary front line : List ℕ) (lines : List (List ℕ))
+    → is_delimiter (kind_of boundary line) ≡ true
     → section_text boundary front (line ∷ lines) ≡ without_terminator front
 text_end boundary front line lines h = rw h refl
 
 -- a part ends before the first delimiter line
-pub text_before : (boundary front : List ℕ) (lines : List (List ℕ)) (line : List ℕ) (back : List (List ℕ))
+pub text_before : (boundary front : List ℕ) (lines : List (List ℕ)) (line : List ℕ)
+    (back : List (List ℕ))
     → HasNone boundary lines → is_delimiter (kind_of boundary line) ≡ true
-    → section_text boundary front (lines ++ line ∷ back) ≡ without_terminator (front ++ concat lines)
+    → section_text boundary front (lines ++ line ∷ back)
+    ≡ without_terminator (front ++ concat lines)
 text_before boundary front [] line back none ends =
     text_end boundary front line back ends ∙ ap without_terminator (sym (append-nil front))
 text_before boundary front (l ∷ lines) line back none ends =
@@ -202,7 +223,8 @@ text_whole boundary front (l ∷ lines) none =
     ∙ text_whole boundary (front ++ l) lines both.1
     ∙ append_assoc front l (concat lines)
 
-skip_text : (kind : LineKind) (first : PlainSection) (more : List PlainSection) → is_delimiter kind ≡ false
+skip_text : (kind : LineKind) (first : PlainSection) (more : List PlainSection)
+    → is_delimiter kind ≡ false
     → sections_with kind first more ≡ more
 skip_text Text first more h = refl
 skip_text Delimiter first more h = absurd (cc)
@@ -211,7 +233,8 @@ skip_text Closing first more h = absurd (cc)
 -- no part begins in lines of which none is a delimiter line
 pub sections_from : (boundary : List ℕ) (in_digest : Bool) (at : ℕ) (lines more : List (List ℕ))
     → HasNone boundary lines
-    → sections boundary in_digest at (lines ++ more) ≡ sections boundary in_digest (at + length (concat lines)) more
+    → sections boundary in_digest at (lines ++ more)
+    ≡ sections boundary in_digest (at + length (concat lines)) more
 sections_from boundary in_digest at [] more none =
     let same : at ≡ at + 0 = omega arith in
     ap (λ n. sections boundary in_digest n more) same
@@ -223,10 +246,12 @@ sections_from boundary in_digest at (l ∷ lines) more none =
     ∙ sections_from boundary in_digest (at + length l) lines more both.1
     ∙ ap (λ n. sections boundary in_digest n more) same
 
-pub sections_none : (boundary : List ℕ) (in_digest : Bool) (at : ℕ) (lines : List (List ℕ)) → HasNone boundary lines
+pub sections_none : (boundary : List ℕ) (in_digest : Bool) (at : ℕ) (lines : List (List ℕ))
+    → HasNone boundary lines
     → sections boundary in_digest at lines ≡ []
 sections_none boundary in_digest at lines none =
-    ap (sections boundary in_digest at) (sym (append-nil lines)) ∙ sections_from boundary in_digest at lines [] none
+    ap (sections boundary in_digest at) (sym (append-nil lines))
+    ∙ sections_from boundary in_digest at lines [] none
 
 -- what a section is cut to at one of its lines that begin with two dashes
 module _ (s : PlainSection) (before : List DashLine) (found : DashLine) (after : List DashLine)
@@ -250,11 +275,19 @@ module _ (s : PlainSection) (before : List DashLine) (found : DashLine) (after :
   low = omega (arith, cut.place)
 
   whole_is : s.text ≡ concat cut.front ++ concat (cut.line ∷ cut.back)
-  whole_is = sym (concat-lines_of s.text) ∙ ap concat cut.whole ∙ concat-append cut.front (cut.line ∷ cut.back)
+  whole_is =
+      sym (concat-lines_of s.text) ∙ ap concat cut.whole
+      ∙ concat-append cut.front (cut.line ∷ cut.back)
 
   pub high : size ≤ length s.text
   high =
-      omega (arith, size_is, ap length whole_is, length-append (concat cut.front) (concat (cut.line ∷ cut.back)))
+      omega (
+        arith,
+        size_is,
+        ap length whole_is,
+        length-append (concat cut.front)
+            (concat (cut.line ∷ cut.back)),
+      )
 
   front_is : take size s.text ≡ concat cut.front
   front_is =
@@ -264,24 +297,36 @@ module _ (s : PlainSection) (before : List DashLine) (found : DashLine) (after :
 
   behind_is : lines_of (drop size s.text) ≡ cut.line ∷ cut.back
   behind_is =
-      ap (λ n. lines_of (drop n s.text)) size_is ∙ back_lines s.text cut.front (cut.line ∷ cut.back) cut.whole
+      ap (λ n. lines_of (drop n s.text)) size_is
+      ∙ back_lines s.text cut.front (cut.line ∷ cut.back) cut.whole
 
   tail_is : tail ≡ concat cut.back
   tail_is = ap (λ l. concat (behind_first l)) behind_is
 
   line_on : drop size s.text ≡ cut.line ++ tail
-  line_on = sym (concat-lines_of (drop size s.text)) ∙ ap concat behind_is ∙ ap (λ t. cut.line ++ t) (sym tail_is)
+  line_on =
+      sym (concat-lines_of (drop size s.text)) ∙ ap concat behind_is
+      ∙ ap (λ t. cut.line ++ t) (sym tail_is)
 
   tail_lines : lines_of tail ≡ cut.back
-  tail_lines = ap lines_of tail_is ∙ back_whole (drop size s.text) (cut.line ∷ []) cut.back behind_is
+  tail_lines =
+      ap lines_of tail_is ∙ back_whole (drop size s.text) (cut.line ∷ []) cut.back behind_is
 
   next_is : next ≡ found.start + length cut.line
   next_is = omega (arith, ap length line_on, length-append cut.line tail)
 
   pub next_fits : next + length tail ≡ s.start + length s.text
   next_fits =
-      omega
-      (arith, next_is, low, high, ap length line_on, length-append cut.line tail, length-drop size s.text)
+      omega (
+        arith,
+        next_is,
+        low,
+        high,
+        ap length line_on,
+        length-append cut.line tail,
+        length-drop size
+            s.text,
+      )
 
   pub front_marked : before ≡ dash_lines s.start (lines_of (without_terminator (take size s.text)))
   front_marked =
@@ -303,11 +348,14 @@ module _ (s : PlainSection) (before : List DashLine) (found : DashLine) (after :
       → kind_of boundary (first_line (lines_of (drop size s.text))) ≡ dash_kind boundary found.text
   kind_on boundary = ap (λ ls. kind_of boundary (first_line ls)) behind_is ∙ kind_is boundary
 
-  front_none : (boundary : List ℕ) → list_any (delimits boundary) before ≡ false → HasNone boundary cut.front
+  front_none : (boundary : List ℕ) → list_any (delimits boundary) before ≡ false
+      → HasNone boundary cut.front
   front_none boundary none =
-      any_delimiter boundary s.start cut.front ∙ ap (list_any (delimits boundary)) cut.before_is ∙ none
+      any_delimiter boundary s.start cut.front ∙ ap (list_any (delimits boundary)) cut.before_is
+      ∙ none
 
-  pub front_text : (boundary : List ℕ) → list_any (delimits boundary) before ≡ false → delimits boundary found ≡ true
+  pub front_text : (boundary : List ℕ) → list_any (delimits boundary) before ≡ false
+      → delimits boundary found ≡ true
       → section_text boundary [] (lines_of s.text) ≡ without_terminator (take size s.text)
   front_text boundary none ends =
       ap (section_text boundary []) cut.whole
@@ -315,15 +363,19 @@ module _ (s : PlainSection) (before : List DashLine) (found : DashLine) (after :
       (ap is_delimiter (kind_is boundary) ∙ ends)
       ∙ ap without_terminator (sym front_is)
 
-  pub rest_sections : (boundary : List ℕ) (in_digest : Bool) → list_any (delimits boundary) before ≡ false
+  pub rest_sections : (boundary : List ℕ) (in_digest : Bool)
+      → list_any (delimits boundary) before ≡ false
       → sections boundary in_digest s.start (lines_of s.text)
-      ≡ sections_with (dash_kind boundary found.text) (section_at boundary in_digest next (lines_of tail))
+      ≡ sections_with (dash_kind boundary found.text)
+      (section_at boundary in_digest next (lines_of tail))
       (sections boundary in_digest next (lines_of tail))
   rest_sections boundary in_digest none =
       ap (sections boundary in_digest s.start) cut.whole
-      ∙ sections_from boundary in_digest s.start cut.front (cut.line ∷ cut.back) (front_none boundary none)
+      ∙ sections_from boundary in_digest s.start cut.front (cut.line ∷ cut.back)
+      (front_none boundary none)
       ∙ ap (λ n. sections boundary in_digest n (cut.line ∷ cut.back)) (sym cut.place)
-      ∙ ap (λ n. sections_with (kind_of boundary cut.line) (section_at boundary in_digest n cut.back)
+      ∙ ap (λ n. sections_with (kind_of boundary cut.line)
+      (section_at boundary in_digest n cut.back)
       (sections boundary in_digest n cut.back)) (sym next_is)
       ∙ ap (λ l. sections_with (kind_of boundary cut.line) (section_at boundary in_digest next l)
       (sections boundary in_digest next l)) (sym tail_lines)

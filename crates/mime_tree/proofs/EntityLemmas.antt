@@ -1,6 +1,7 @@
 -- The lines that begin with two dashes behind the header block of a part.
-use Rattle.std.proofs.Common.{◌≡◌, ℕ, ◌+◌, ◌-◌, ◌≤◌, ◌<◌, Bool, true, false, nat_lt, List, [], ◌∷◌, ◌++◌, length, take}
-use Rattle.std.proofs.Common.{drop, Option, Some, None, refl, sym, ap, ◌∙◌, arith, length-append, append_assoc}
+use Rattle.std.proofs.Common.{◌≡◌, ℕ, ◌+◌, ◌-◌, ◌≤◌, ◌<◌, Bool, true, false, nat_lt, List, [], ◌∷◌}
+use Rattle.std.proofs.Common.{◌++◌, length, take, drop, Option, Some, None, refl, sym, ap, ◌∙◌}
+use Rattle.std.proofs.Common.{arith, length-append, append_assoc}
 use Rattle.std.specs.Prelude.{if◌then◌else◌}
 use Rattle.std.proofs.Common.{suc, cond, not, nat_le, map}
 use Rattle.std.specs.List.{concat, position_or_len}
@@ -11,8 +12,8 @@ use Rattle.bstr.specs.Text.{lines_of}
 use Rattle.bstr.proofs.lemmas.RestLemmas.{concat-lines_of}
 use Rattle.mail_base.specs.Lines.{after_block, behind_first, body_of, header_block}
 use Rattle.mail_base.proofs.LinesLemmas.{both_blocks, lines-after_block, lines-body_of}
-use Rattle.mime_tree.specs.DashLines.{DashLine, behind_dashes, dash_lines, dash_lines_with, dash_starts, from_place}
-use Rattle.mime_tree.specs.DashLines.{starts_from}
+use Rattle.mime_tree.specs.DashLines.{DashLine, behind_dashes, dash_lines, dash_lines_with}
+use Rattle.mime_tree.specs.DashLines.{dash_starts, from_place, starts_from}
 
 keep_first : (place at : ℕ) (text : List ℕ) (more : List DashLine) → place ≤ at
     → from_place place (dash_lines_with at (Some text) more) ≡ dash_lines_with at (Some text) more
@@ -27,7 +28,8 @@ skip_first place at text more less =
     rw test refl
 
 keep_next : (place at : ℕ) (o : Option (List ℕ)) (more : List DashLine) → place ≤ at
-    → from_place place more ≡ more → from_place place (dash_lines_with at o more) ≡ dash_lines_with at o more
+    → from_place place more ≡ more
+    → from_place place (dash_lines_with at o more) ≡ dash_lines_with at o more
 keep_next place at None more le same = same
 keep_next place at (Some text) more le same = keep_first place at text more le
 
@@ -36,7 +38,8 @@ from_behind : (place at : ℕ) (lines : List (List ℕ)) → place ≤ at
     → from_place place (dash_lines at lines) ≡ dash_lines at lines
 from_behind place at [] le = refl
 from_behind place at (line ∷ lines) le =
-    keep_next place at (behind_dashes line) _ le (from_behind place (at + length line) lines (omega (arith, le)))
+    keep_next place at (behind_dashes line) _ le
+    (from_behind place (at + length line) lines (omega (arith, le)))
 
 some_bytes : (line text : List ℕ) → behind_dashes line ≡ Some text → 0 < length line
 some_bytes [] text e = absurd (cc)
@@ -58,7 +61,8 @@ from_front place at [] back le =
     ap (λ n. from_place place (dash_lines n back)) same
 from_front place at (line ∷ front) back le =
     let size = length-append line (concat front) in
-    let same : at + length line + length (concat front) ≡ at + length (concat (line ∷ front)) = omega (arith, size) in
+    let same : at + length line + length (concat front) ≡ at + length (concat (line ∷ front)) =
+    omega (arith, size) in
     skip_next place at line (behind_dashes line) _ _ refl (omega (arith, size, le))
     (from_front place (at + length line) front back (omega (arith, same, le)))
     ∙ ap (λ n. from_place place (dash_lines n back)) same
@@ -78,7 +82,8 @@ head_back : (text : List ℕ) → lines_of text ≡ head text ++ back text
 head_back text =
     both_blocks (lines_of text)
     ∙ ap (λ ls. header_block (lines_of text) ++ ls) (first_back (after_block (lines_of text)))
-    ∙ sym (append_assoc (header_block (lines_of text)) (take 1 (after_block (lines_of text))) (back text))
+    ∙ sym (append_assoc (header_block (lines_of text)) (take 1 (after_block (lines_of text)))
+    (back text))
 
 body_is : (text : List ℕ) → body_of text ≡ concat (back text)
 body_is text = ap (λ ls. concat (behind_first ls)) (lines-after_block text)
@@ -89,7 +94,9 @@ head_size text =
       arith,
       ap length (body_is text),
       length-append (concat (head text)) (concat (back text)),
-      ap length (sym (concat-lines_of text) ∙ ap concat (head_back text) ∙ concat-append (head text) (back text)),
+      ap length
+          (sym (concat-lines_of text) ∙ ap concat (head_back text)
+          ∙ concat-append (head text) (back text)),
     )
 
 -- the lines of a part that start in its body are those of its body
@@ -108,12 +115,15 @@ body_marked start text =
 starts_of : (place : ℕ) (lines : List DashLine)
     → starts_from place (map (λ d. d.start) lines) ≡ map (λ d. d.start) (from_place place lines)
 starts_of place [] = refl
-starts_of place (line ∷ lines) = by_place (nat_lt line.start place) (nat_le place line.start) refl refl
+starts_of place (line ∷ lines) =
+    by_place (nat_lt line.start place) (nat_le place line.start) refl refl
     (starts_of place lines)
   where
-    by_place : (before past : Bool) → nat_lt line.start place ≡ before → nat_le place line.start ≡ past
+    by_place : (before past : Bool) → nat_lt line.start place ≡ before
+        → nat_le place line.start ≡ past
         → starts_from place (map (λ d. d.start) lines) ≡ map (λ d. d.start) (from_place place lines)
-        → drop (cond (not past) (1 + position_or_len (λ at. nat_le place at) (map (λ d. d.start) lines)) 0)
+        → drop (cond (not past)
+        (1 + position_or_len (λ at. nat_le place at) (map (λ d. d.start) lines)) 0)
         (line.start ∷ map (λ d. d.start) lines)
         ≡ map (λ d. d.start) (if before then from_place place lines else line ∷ lines)
     by_place true true b p more = absurd (omega (arith, ltb-true _ _ b, leb-true _ _ p))
@@ -127,7 +137,9 @@ starts_of place (line ∷ lines) = by_place (nat_lt line.start place) (nat_le pl
 -- the places of a part that start in its body are those of its body
 pub body_starts : (start : ℕ) (text : List ℕ)
     → let place = start + (length text - length (body_of text)) in
-    starts_from place (dash_starts start (lines_of text)) ≡ dash_starts place (lines_of (body_of text))
+    starts_from place (dash_starts start (lines_of text))
+    ≡ dash_starts place (lines_of (body_of text))
 body_starts start text =
     let place = start + (length text - length (body_of text)) in
-    starts_of place (dash_lines start (lines_of text)) ∙ ap (map (λ d. d.start)) (body_marked start text)
+    starts_of place (dash_lines start (lines_of text))
+    ∙ ap (map (λ d. d.start)) (body_marked start text)

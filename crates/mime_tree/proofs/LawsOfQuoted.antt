@@ -1,16 +1,18 @@
 -- Bytes that are written as `=` and two digits are read back.
 use Rattle.std.proofs.Common.{◌≡◌, ℕ, zero, suc, ◌+◌, ◌*◌, ◌/◌, ◌%◌, ◌<◌, ◌==◌, true, false, not}
-use Rattle.std.proofs.Common.{nat_lt, List, [], ◌∷◌, length, Option, Some, None, slice_index, refl, ap, ◌∙◌}
-use Rattle.std.proofs.Common.{arith, eq-eqb}
+use Rattle.std.proofs.Common.{nat_lt, List, [], ◌∷◌, length, Option, Some, None, slice_index, refl}
+use Rattle.std.proofs.Common.{ap, ◌∙◌, arith, eq-eqb}
 use Rattle.std.specs.Prelude.{if◌then◌else◌}
 use Rattle.std.specs.Char.{digit_value}
 use Rattle.std.specs.List.{list_all, flat_map}
-use Rattle.std.proofs.lemmas.Bool.{agree_below_at, and_parts, cond-true, eqb-true, ltb-true, lt-ltb, not-true}
+use Rattle.std.proofs.lemmas.Bool.{agree_below_at, and_parts, cond-true, eqb-true, ltb-true, lt-ltb}
+use Rattle.std.proofs.lemmas.Bool.{not-true}
 use Rattle.std.proofs.lemmas.List.{append-nil}
 use Rattle.bstr.proofs.lemmas.LineLemmas.{lines-nil}
 use Rattle.mail_base.specs.Hex.{hex_byte, hex_value}
 use Rattle.mime_tree.specs.Laws.{hex_digit, written_byte, QuotedBytesAreRead}
-use Rattle.mime_tree.specs.Quoted.{escaped_by, from_quoted, quoted_line, quoted_with, unquoted, unquoted_from}
+use Rattle.mime_tree.specs.Quoted.{escaped_by, from_quoted, quoted_line, quoted_with, unquoted}
+use Rattle.mime_tree.specs.Quoted.{unquoted_from}
 use Rattle.mime_tree.proofs.LineEndLemmas.{NoFeed, feed_stays, feed_lines}
 
 digit_is : (n : ℕ) → n < 16 → digit_value (hex_digit n) ≡ n
@@ -37,7 +39,8 @@ hex_byte_is b rest small =
 abbrev written : List ℕ → List ℕ
 written bytes = flat_map written_byte bytes
 
-unquoted_is : (bytes : List ℕ) → list_all (λ b. nat_lt b 256) bytes ≡ true → unquoted (written bytes) ≡ bytes
+unquoted_is : (bytes : List ℕ) → list_all (λ b. nat_lt b 256) bytes ≡ true
+    → unquoted (written bytes) ≡ bytes
 unquoted_is [] all = refl
 unquoted_is (b ∷ bytes) all =
     let both = and_parts (nat_lt b 256) (list_all (λ c. nat_lt c 256) bytes) all in
@@ -57,10 +60,12 @@ no_feeds (b ∷ bytes) all =
     let low : b % 16 < 16 = omega arith in
     rw (digit_no_feed (b / 16) high, digit_no_feed (b % 16) low) (no_feeds bytes both.1)
 
-none_at : (s : List ℕ) (k : ℕ) → list_all (λ b. not (b == 10)) s ≡ true → k < length s → slice_index s k ≡ 10
+none_at : (s : List ℕ) (k : ℕ) → list_all (λ b. not (b == 10)) s ≡ true → k < length s
+    → slice_index s k ≡ 10
     → (slice_index s k == 10) ≡ false
 none_at [] k all less is = absurd (omega arith)
-none_at (b ∷ s) zero all less is = not-true _ (and_parts (not (b == 10)) (list_all (λ c. not (c == 10)) s) all).0
+none_at (b ∷ s) zero all less is =
+    not-true _ (and_parts (not (b == 10)) (list_all (λ c. not (c == 10)) s) all).0
 none_at (b ∷ s) (suc k) all less is =
     none_at s k (and_parts (not (b == 10)) (list_all (λ c. not (c == 10)) s) all).1 (omega arith) is
 

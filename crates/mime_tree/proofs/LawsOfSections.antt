@@ -1,7 +1,7 @@
 -- Texts that are written between delimiter lines are cut apart again.
 use Rattle.std.proofs.Common.{◌≡◌, ℕ, ◌+◌, ◌-◌, ◌==◌, true, false, not, nat_lt, List, [], ◌∷◌, ◌++◌}
-use Rattle.std.proofs.Common.{length, map, Some, refl, sym, ap, ◌∙◌, arith, append_assoc, inr, codes}
-use Rattle.std.proofs.Common.{length-append, slice_index}
+use Rattle.std.proofs.Common.{length, map, Some, refl, sym, ap, ◌∙◌, arith, append_assoc, inr}
+use Rattle.std.proofs.Common.{codes, length-append, slice_index}
 use Rattle.std.specs.List.{concat, list_all}
 use Rattle.std.proofs.lemmas.Bool.{and_parts, not-true}
 use Rattle.std.proofs.lemmas.List.{append-nil, get_or_push}
@@ -52,7 +52,8 @@ kind_dashed boundary end =
     ap (λ l. 45 ∷ 45 ∷ l) (sym (append_assoc boundary end (13 ∷ 10 ∷ []))) in
     ap (λ l. kind_behind (behind_text (codes "--") l >>= behind_text boundary))
     (ap without_terminator whole ∙ terminator_goes text)
-    ∙ ap (λ o. kind_behind (o >>= behind_text boundary)) (behind_text_front (codes "--") (boundary ++ end))
+    ∙ ap (λ o. kind_behind (o >>= behind_text boundary))
+    (behind_text_front (codes "--") (boundary ++ end))
     ∙ ap kind_behind (behind_text_front boundary end)
 
 abbrev delimiter : List ℕ → List ℕ
@@ -64,7 +65,8 @@ closing boundary = dashed boundary (codes "--\r\n")
 closing_lines : (boundary : List ℕ) → list_all is_line_byte boundary ≡ true
     → lines_of (closing boundary) ≡ closing boundary ∷ lines_of []
 closing_lines boundary all =
-    ap lines_of (sym (append-nil (closing boundary))) ∙ lines_dashed boundary (codes "--\r") [] all refl
+    ap lines_of (sym (append-nil (closing boundary)))
+    ∙ lines_dashed boundary (codes "--\r") [] all refl
 
 -- the first line of what is written, and those behind it
 record Begins (boundary : List ℕ) (text : List ℕ) : Type 0 where
@@ -84,15 +86,18 @@ begins boundary [] all = record {
 begins boundary (text ∷ texts) all = record {
   line = delimiter boundary;
   back = lines_of ((text ++ codes "\r\n") ++ written_sections boundary texts);
-  whole = lines_dashed boundary (codes "\r") ((text ++ codes "\r\n") ++ written_sections boundary texts) all refl;
+  whole = lines_dashed boundary (codes "\r")
+      ((text ++ codes "\r\n") ++ written_sections boundary texts) all refl;
   ends = ap is_delimiter (kind_dashed boundary []);
 }
 
 ends_feed : (text : List ℕ) → EndsLine (text ++ 13 ∷ 10 ∷ [])
 ends_feed text =
     let long = length-append (text ++ 13 ∷ []) (10 ∷ []) in
-    let whole : text ++ 13 ∷ 10 ∷ [] ≡ (text ++ 13 ∷ []) ++ 10 ∷ [] = sym (append_assoc text (13 ∷ []) (10 ∷ [])) in
-    let last : length (text ++ 13 ∷ 10 ∷ []) - 1 ≡ length (text ++ 13 ∷ []) = omega (arith, ap length whole) in
+    let whole : text ++ 13 ∷ 10 ∷ [] ≡ (text ++ 13 ∷ []) ++ 10 ∷ [] =
+    sym (append_assoc text (13 ∷ []) (10 ∷ [])) in
+    let last : length (text ++ 13 ∷ 10 ∷ []) - 1 ≡ length (text ++ 13 ∷ []) =
+    omega (arith, ap length whole) in
     inr (ap (slice_index (text ++ 13 ∷ 10 ∷ [])) last
     ∙ ap (λ l. slice_index l (length (text ++ 13 ∷ []))) whole
     ∙ get_or_push (text ++ 13 ∷ []) 10 0 (length (text ++ 13 ∷ [])) refl)
@@ -100,13 +105,15 @@ ends_feed text =
 texts_of : List PlainSection → List (List ℕ)
 texts_of parts = map (λ s. s.text) parts
 
-cut_at : (boundary : List ℕ) (texts : List (List ℕ)) (at : ℕ) → list_all is_line_byte boundary ≡ true
+cut_at : (boundary : List ℕ) (texts : List (List ℕ)) (at : ℕ)
+    → list_all is_line_byte boundary ≡ true
     → list_all (is_apart boundary) texts ≡ true
     → texts_of (sections boundary false at (lines_of (written_sections boundary texts))) ≡ texts
 unfolding texts_of
 cut_at boundary [] at all apart =
     ap (λ ls. texts_of (sections boundary false at ls)) (closing_lines boundary all)
-    ∙ ap (λ (k : LineKind). texts_of (sections_with k (section_at boundary false (at + length (closing boundary))
+    ∙ ap (λ (k : LineKind). texts_of
+    (sections_with k (section_at boundary false (at + length (closing boundary))
     (lines_of [])) (sections boundary false (at + length (closing boundary)) (lines_of []))))
     (kind_dashed boundary (codes "--"))
 cut_at boundary (text ∷ texts) at all apart =
@@ -130,12 +137,15 @@ cut_at boundary (text ∷ texts) at all apart =
     ∙ cut_at boundary texts later all both.1 in
     ap (λ ls. texts_of (sections boundary false at ls))
     (lines_dashed boundary (codes "\r") (line ++ more) all refl)
-    ∙ ap (λ (k : LineKind). texts_of (sections_with k (section_at boundary false start (lines_of (line ++ more)))
+    ∙ ap (λ (k : LineKind). texts_of
+    (sections_with k (section_at boundary false start (lines_of (line ++ more)))
     (sections boundary false start (lines_of (line ++ more))))) (kind_dashed boundary [])
-    ∙ ap (λ (t : List ℕ). t ∷ texts_of (sections boundary false start (lines_of (line ++ more)))) text_is
+    ∙ ap (λ (t : List ℕ). t ∷ texts_of (sections boundary false start (lines_of (line ++ more))))
+    text_is
     ∙ ap (λ (l : List (List ℕ)). text ∷ l) rest_is
 
 pub written_sections_are_cut : WrittenSectionsAreCut
 unfolding texts_of
 written_sections_are_cut boundary texts is apart =
-    cut_at boundary texts 0 (and_parts (nat_lt 0 (length boundary)) (list_all is_line_byte boundary) is).1 apart
+    cut_at boundary texts 0
+    (and_parts (nat_lt 0 (length boundary)) (list_all is_line_byte boundary) is).1 apart

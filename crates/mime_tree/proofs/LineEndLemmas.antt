@@ -1,10 +1,12 @@
 -- Where a text breaks into lines, and a text without its last line end.
-use Rattle.std.proofs.Common.{◌≡◌, ◌≢◌, ℕ, zero, suc, ◌+◌, ◌-◌, ◌<◌, ◌≤◌, Bool, true, false, cond, nat_lt, ◌&&◌}
-use Rattle.std.proofs.Common.{◌==◌, List, [], ◌∷◌, ◌++◌, length, take, drop, slice_index, refl, sym, ap, subst, ◌∙◌}
-use Rattle.std.proofs.Common.{arith, inr, ⊎_elim, length-append, length-drop, length-take-le, get_or-take}
+use Rattle.std.proofs.Common.{◌≡◌, ◌≢◌, ℕ, zero, suc, ◌+◌, ◌-◌, ◌<◌, ◌≤◌, Bool, true, false, cond}
+use Rattle.std.proofs.Common.{nat_lt, ◌&&◌, ◌==◌, List, [], ◌∷◌, ◌++◌, length, take, drop}
+use Rattle.std.proofs.Common.{slice_index, refl, sym, ap, subst, ◌∙◌, arith, inr, ⊎_elim}
+use Rattle.std.proofs.Common.{length-append, length-drop, length-take-le, get_or-take}
 use Rattle.std.proofs.Common.{take-append-drop, Option, codes}
 use Rattle.std.proofs.Math.Seq.{take-append-add}
-use Rattle.std.proofs.lemmas.Bool.{cases_Bool, cases_eq, cases_lt, cond-true, cond-false, eq-eqb, eqb-true}
+use Rattle.std.proofs.lemmas.Bool.{cases_Bool, cases_eq, cases_lt, cond-true, cond-false, eq-eqb}
+use Rattle.std.proofs.lemmas.Bool.{eqb-true}
 use Rattle.std.proofs.lemmas.List.{append-nil, get_or-append-add, length-take, take_all}
 use Rattle.std.proofs.lemmas.Bool.Decides.{nat_tests}
 use Rattle.bstr.specs.Text.{line_len, lines_of, no_cr, without_terminator}
@@ -33,21 +35,25 @@ ends_append b l s some =
     ∙ ap (λ v. v == b) (get_or-append-add l s (length s - 1) 0)
     ∙ sym (ends_last b s some)
 
-chopped_append : (l s : List ℕ) → 0 < length s → take (length (l ++ s) - 1) (l ++ s) ≡ l ++ take (length s - 1) s
-chopped_append l s some = ap (λ n. take n (l ++ s)) (last_place l s some) ∙ take-append-add l s (length s - 1)
+chopped_append : (l s : List ℕ) → 0 < length s
+    → take (length (l ++ s) - 1) (l ++ s) ≡ l ++ take (length s - 1) s
+chopped_append l s some =
+    ap (λ n. take n (l ++ s)) (last_place l s some) ∙ take-append-add l s (length s - 1)
 
 cond_append : (t : Bool) (l x y : List ℕ) → cond t (l ++ x) (l ++ y) ≡ l ++ cond t x y
 cond_append true l x y = refl
 cond_append false l x y = refl
 
-no_cr_append : (l s : List ℕ) → 0 < length l → slice_index l (length l - 1) ≡ 10 → no_cr (l ++ s) ≡ l ++ no_cr s
+no_cr_append : (l s : List ℕ) → 0 < length l → slice_index l (length l - 1) ≡ 10
+    → no_cr (l ++ s) ≡ l ++ no_cr s
 no_cr_append l [] some is =
     ap no_cr (append-nil l)
     ∙ cond-false (ends_in 13 l) _ _ (ends_last 13 l some ∙ ap (λ v. v == 13) is)
     ∙ sym (append-nil l)
 no_cr_append l (b ∷ r) some is =
     let s = b ∷ r in
-    ap (λ t. cond t (take (length (l ++ s) - 1) (l ++ s)) (l ++ s)) (ends_append 13 l s (omega arith))
+    ap (λ t. cond t (take (length (l ++ s) - 1) (l ++ s)) (l ++ s))
+    (ends_append 13 l s (omega arith))
     ∙ ap (λ x. cond (ends_in 13 s) x (l ++ s)) (chopped_append l s (omega arith))
     ∙ cond_append (ends_in 13 s) l (take (length s - 1) s) s
 
@@ -55,7 +61,8 @@ no_cr_append l (b ∷ r) some is =
 terminator_append : (l s : List ℕ) → 0 < length l → slice_index l (length l - 1) ≡ 10 → 0 < length s
     → without_terminator (l ++ s) ≡ l ++ without_terminator s
 terminator_append l s some is more =
-    ap (λ t. cond t (no_cr (take (length (l ++ s) - 1) (l ++ s))) (l ++ s)) (ends_append 10 l s more)
+    ap (λ t. cond t (no_cr (take (length (l ++ s) - 1) (l ++ s))) (l ++ s))
+    (ends_append 10 l s more)
     ∙ ap (λ x. cond (ends_in 10 s) (no_cr x) (l ++ s)) (chopped_append l s more)
     ∙ ap (λ x. cond (ends_in 10 s) x (l ++ s)) (no_cr_append l (take (length s - 1) s) some is)
     ∙ cond_append (ends_in 10 s) l (no_cr (take (length s - 1) s)) s
@@ -64,7 +71,8 @@ terminator_append l s some is more =
 pub record NoFeed (s : List ℕ) : Type 0 where
   pub none : (k : ℕ) → k < length s → slice_index s k ≢ 10
 
-feed_taken : (s : List ℕ) (m : ℕ) → ((k : ℕ) → k < m → k < length s → slice_index s k ≢ 10) → NoFeed (take m s)
+feed_taken : (s : List ℕ) (m : ℕ) → ((k : ℕ) → k < m → k < length s → slice_index s k ≢ 10)
+    → NoFeed (take m s)
 feed_taken s m none = record {
   none = λ k less is.
       none k (omega (arith, length-take m s, less)) (omega (arith, length-take m s, less))
@@ -87,7 +95,8 @@ last_other s some other is =
 line_feed : (s : List ℕ) → IsLine s → NoFeed (without_terminator s)
 line_feed s line = ⊎_elim
     (λ yes. subst NoFeed (sym (cond-true (ends_in 10 s) _ _ yes))
-    (no_cr_feed (take (length s - 1) s) (feed_taken s (length s - 1) (λ k less _. line.none k (omega (arith, less))))))
+    (no_cr_feed (take (length s - 1) s)
+    (feed_taken s (length s - 1) (λ k less _. line.none k (omega (arith, less))))))
     (λ other. subst NoFeed (sym (cond-false (ends_in 10 s) _ _ other)) (whole other))
     (cases_Bool (ends_in 10 s))
   where
@@ -138,7 +147,8 @@ dashes_without (suc f) at (b ∷ r) le =
     (λ less.
     let more : 0 < length t = omega (arith, length-drop n s, less) in
     let short : length t ≤ f = omega (arith, length-drop n s, bounds.0, le) in
-    let is = ⊎_elim (λ none. absurd (omega (arith, none, size, bounds.0))) (λ yes. yes) (first_ends s less) in
+    let is = ⊎_elim (λ none. absurd (omega (arith, none, size, bounds.0))) (λ yes. yes)
+    (first_ends s less) in
     let whole = sym (take-append-drop n s) in
     ap (λ x. dash_lines at (lines_of (without_terminator x))) whole
     ∙ ap (λ x. dash_lines at (lines_of x)) (terminator_append l t line.some is more)
@@ -147,7 +157,8 @@ dashes_without (suc f) at (b ∷ r) le =
     ∙ sym (ap (dash_lines at) (lines-step s (omega arith))))
     (λ all.
     let one : lines_of s ≡ s ∷ [] = one_line s (subst IsLine (take_all n s all) line) in
-    last_dash at (without_terminator s) (behind_dashes s) (line_feed s (subst IsLine (take_all n s all) line)) refl
+    last_dash at (without_terminator s) (behind_dashes s)
+    (line_feed s (subst IsLine (take_all n s all) line)) refl
     ∙ sym (ap (dash_lines at) one))
     (cases_lt n (length s))
 

@@ -1,7 +1,7 @@
 -- How bodies in quoted-printable are decoded from one `=` to the next.
-use Rattle.std.proofs.Common.{◌≡◌, ℕ, zero, suc, ◌+◌, ◌<◌, ◌==◌, true, false, List, [], ◌∷◌, ◌++◌, length, take}
-use Rattle.std.proofs.Common.{drop, Option, Some, None, refl, sym, ap, subst, ◌∙◌, arith, position, slice_index}
-use Rattle.std.proofs.Common.{option_map, MatchOption}
+use Rattle.std.proofs.Common.{◌≡◌, ℕ, zero, suc, ◌+◌, ◌<◌, ◌==◌, true, false, List, [], ◌∷◌, ◌++◌}
+use Rattle.std.proofs.Common.{length, take, drop, Option, Some, None, refl, sym, ap, subst, ◌∙◌}
+use Rattle.std.proofs.Common.{arith, position, slice_index, option_map, MatchOption}
 use Rattle.std.specs.Prelude.{if◌then◌else◌}
 use Rattle.std.specs.Str.{byte}
 use Rattle.std.proofs.lemmas.List.Quantifiers.{position-Some}
@@ -22,7 +22,8 @@ plain_front zero (b ∷ rest) less at before =
     ap (λ t. if t then escaped_text rest else b ∷ unquoted rest) at
 plain_front (suc k) (b ∷ rest) less at before =
     ap (λ t. if t then escaped_text rest else b ∷ unquoted rest) (before 0 (omega arith))
-    ∙ ap (λ l. b ∷ l) (plain_front k rest (omega arith) at (λ j below. before (suc j) (omega arith)))
+    ∙ ap (λ l. b ∷ l)
+    (plain_front k rest (omega arith) at (λ j below. before (suc j) (omega arith)))
 
 -- a text up to its first `=`, and behind it
 unquoted_some : (s : List ℕ) (k : ℕ) → position (λ b. b == byte "=") s ≡ Some k
@@ -32,7 +33,8 @@ unquoted_some s k found =
     let next : suc k ≡ k + 1 = omega arith in
     plain_front k s first.0 first.1 first.2 ∙ ap (λ n. take k s ++ escaped_text (drop n s)) next
 
-all_plain : (s : List ℕ) → ((j : ℕ) → j < length s → (slice_index s j == byte "=") ≡ false) → unquoted s ≡ s
+all_plain : (s : List ℕ) → ((j : ℕ) → j < length s → (slice_index s j == byte "=") ≡ false)
+    → unquoted s ≡ s
 all_plain [] none = refl
 all_plain (b ∷ rest) none =
     ap (λ t. if t then escaped_text rest else b ∷ unquoted rest) (none 0 (omega arith))
@@ -44,7 +46,8 @@ unquoted_none s none =
     let past = place_none (λ b. b == byte "=") s none in
     all_plain s (λ j below. fails_before_first (λ b. b == byte "=") s j 0 (omega arith))
 
-by_place : (s : List ℕ) (place : Option ℕ) → position (λ b. b == byte "=") s ≡ place → (o : Option (List ℕ × List ℕ))
+by_place : (s : List ℕ) (place : Option ℕ) → position (λ b. b == byte "=") s ≡ place
+    → (o : Option (List ℕ × List ℕ))
     → o ≡ option_map (around s) place
     → MatchOption o (unquoted s ≡ s) (λ p. unquoted s ≡ p.0 ++ escaped_text p.1)
 by_place s None none o e =

@@ -1,5 +1,6 @@
 -- A section cut at its first delimiter line. For the code alone: no public clause cites this.
-use Rattle.std.specs.Prelude.{◌+◌, ◌-◌, ℕ, false, List, [], ◌∷◌, length, Option, Some, None, if◌then◌else◌}
+use Rattle.std.specs.Prelude.{◌+◌, ◌-◌, ℕ, false, List, [], ◌∷◌, length, Option, Some, None}
+use Rattle.std.specs.Prelude.{if◌then◌else◌}
 use Rattle.bstr.specs.Text.{lines_of}
 use Rattle.mail_base.specs.Lines.{body_of}
 use Rattle.mime_tree.specs.Section.{PlainSection, plain_section, section_at, sections}

@@ -1,7 +1,8 @@
--- The lines that begin with two dashes, among which all delimiter lines are (RFC 2046, section 5.1.1).
+-- The lines that begin with two dashes, among which all delimiter lines are (RFC 2046, section
+-- 5.1.1).
 -- For the code alone: no public clause cites this.
-use Rattle.std.specs.Prelude.{◌+◌, ℕ, Bool, nat_lt, nat_le, List, [], ◌∷◌, length, drop, map, Option, Some, None, is_some, codes}
-use Rattle.std.specs.Prelude.{if◌then◌else◌}
+use Rattle.std.specs.Prelude.{◌+◌, ℕ, Bool, nat_lt, nat_le, List, [], ◌∷◌, length, drop, map}
+use Rattle.std.specs.Prelude.{Option, Some, None, is_some, codes, if◌then◌else◌}
 use Rattle.std.specs.List.{position_or_len}
 use Rattle.bstr.specs.Text.{lines_of, without_terminator}
 use Rattle.mail_base.specs.Fronts.{◌>>=◌, behind_text}
@@ -9,7 +10,8 @@ use Rattle.mail_base.specs.Lines.{first_line}
 use Rattle.mime_tree.specs.Delimiter.{is_delimiter, kind_behind, kind_of}
 use Rattle.mime_tree.specs.declared.delimiter.LineKind.{LineKind}
 
--- a line that begins with two dashes: where it starts, and what stands behind the dashes, without the line end
+-- a line that begins with two dashes: where it starts, and what stands behind the dashes, without
+-- the line end
 pub record DashLine : Type 0 where
   pub start : ℕ
   pub text : List ℕ
@@ -26,7 +28,8 @@ dash_lines_with at (Some text) more = record { start = at; text = text } ∷ mor
 -- those among lines that begin at a place
 abbrev pub dash_lines : ℕ → List (List ℕ) → List DashLine
 dash_lines at [] = []
-dash_lines at (line ∷ lines) = dash_lines_with at (behind_dashes line) (dash_lines (at + length line) lines)
+dash_lines at (line ∷ lines) =
+    dash_lines_with at (behind_dashes line) (dash_lines (at + length line) lines)
 
 -- what a line is in a multipart of the boundary, by what stands behind its dashes
 abbrev pub dash_kind : List ℕ → List ℕ → LineKind
@@ -39,7 +42,8 @@ delimits boundary line = is_delimiter (dash_kind boundary line.text)
 -- the lines from the first on that starts at a place or behind it
 abbrev pub from_place : ℕ → List DashLine → List DashLine
 from_place place [] = []
-from_place place (line ∷ lines) = if nat_lt line.start place then from_place place lines else line ∷ lines
+from_place place (line ∷ lines) =
+    if nat_lt line.start place then from_place place lines else line ∷ lines
 
 -- where lines that begin with two dashes start
 abbrev pub dash_starts : ℕ → List (List ℕ) → List ℕ
@@ -51,7 +55,8 @@ starts_from place starts = drop (position_or_len (λ at. nat_le place at) starts
 
 -- the line that starts at a place of a text is a delimiter line
 abbrev pub delimits_at : List ℕ → List ℕ → ℕ → Bool
-delimits_at boundary text place = is_delimiter (kind_of boundary (first_line (lines_of (drop place text))))
+delimits_at boundary text place =
+    is_delimiter (kind_of boundary (first_line (lines_of (drop place text))))
 
 -- two dashes and the boundary stand at the front of a text
 abbrev pub may_delimit : List ℕ → List ℕ → Bool

@@ -1,6 +1,6 @@
 -- What a line is to a boundary (RFC 2046, section 5.1.1).
-use Rattle.std.specs.Prelude.{◌&&◌, ℕ, Bool, true, false, nat_lt, List, length, Option, Some, None, codes}
-use Rattle.std.specs.Prelude.{if◌then◌else◌}
+use Rattle.std.specs.Prelude.{◌&&◌, ℕ, Bool, true, false, nat_lt, List, length, Option, Some, None}
+use Rattle.std.specs.Prelude.{codes, if◌then◌else◌}
 use Rattle.std.specs.List.{list_any}
 use Rattle.bstr.specs.Text.{lines_of, without_terminator}
 use Rattle.mail_base.specs.Blanks.{is_all_blank}
@@ -21,7 +21,8 @@ kind_behind (Some rest) =
 
 -- what a line is in a multipart of the boundary
 abbrev pub kind_of : List ℕ → List ℕ → LineKind
-kind_of boundary line = kind_behind (behind_text (codes "--") (without_terminator line) >>= behind_text boundary)
+kind_of boundary line =
+    kind_behind (behind_text (codes "--") (without_terminator line) >>= behind_text boundary)
 
 -- a delimiter line, be it the closing one
 abbrev pub is_delimiter : LineKind → Bool
@@ -38,4 +39,5 @@ is_closing Closing = true
 -- the boundary is not empty, and it occurs
 abbrev pub is_cut : List ℕ → List ℕ → Bool
 is_cut boundary body =
-    nat_lt 0 (length boundary) && list_any (λ line. is_delimiter (kind_of boundary line)) (lines_of body)
+    nat_lt 0 (length boundary)
+    && list_any (λ line. is_delimiter (kind_of boundary line)) (lines_of body)

@@ -9,4 +9,5 @@ use Rattle.mime_tree.specs.declared.encoding.Encoding.TheVariants.{Plain, Base64
 abbrev pub encoding_of : List ℕ → Encoding
 encoding_of value =
     if str_eq_ignore_ascii_case (trimmed value) (codes "base64") then Base64
-    else (if str_eq_ignore_ascii_case (trimmed value) (codes "quoted-printable") then Quoted else Plain)
+    else (if str_eq_ignore_ascii_case (trimmed value) (codes "quoted-printable") then Quoted
+    else Plain)

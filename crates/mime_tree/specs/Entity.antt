@@ -1,6 +1,7 @@
--- The part that a section of a message holds, and the sections in it (RFC 2045, section 5; RFC 2046, section 5).
-use Rattle.std.specs.Prelude.{◌+◌, ◌-◌, ◌&&◌, ◌||◌, ℕ, Bool, false, not, List, [], ◌∷◌, length, take, Option, Some, None}
-use Rattle.std.specs.Prelude.{unwrap_or, is_some, codes, if◌then◌else◌}
+-- The part that a section of a message holds, and the sections in it (RFC 2045, section 5; RFC
+-- 2046, section 5).
+use Rattle.std.specs.Prelude.{◌+◌, ◌-◌, ◌&&◌, ◌||◌, ℕ, Bool, false, not, List, [], ◌∷◌, length}
+use Rattle.std.specs.Prelude.{take, Option, Some, None, unwrap_or, is_some, codes, if◌then◌else◌}
 use Rattle.std.specs.Str.{bytes_eq, str_eq_ignore_ascii_case, str_to_ascii_lowercase}
 use Rattle.bstr.specs.Text.{lines_of}
 use Rattle.mail_base.specs.Fronts.{behind_text}
@@ -53,7 +54,8 @@ shown_type content boundary body =
 -- the charset that a Content-Type names, in lower case, or nothing
 abbrev pub charset_of : List PlainField → List ℕ
 charset_of fields =
-    str_to_ascii_lowercase (unwrap_or (parameter_in (codes "content-type") (codes "charset") fields) [])
+    str_to_ascii_lowercase
+    (unwrap_or (parameter_in (codes "content-type") (codes "charset") fields) [])
 
 -- the name of a file as written: from the disposition, or else from the type
 abbrev pub name_of : Option (List ℕ) → List PlainField → List ℕ
@@ -63,7 +65,8 @@ name_of None fields = unwrap_or (parameter_in (codes "content-type") (codes "nam
 -- the name of a file with its encoded words decoded
 abbrev pub filename_of : List PlainField → List ℕ
 filename_of fields =
-    decoded_words (name_of (parameter_in (codes "content-disposition") (codes "filename") fields) fields)
+    decoded_words
+    (name_of (parameter_in (codes "content-disposition") (codes "filename") fields) fields)
 
 -- the disposition is `attachment` (RFC 2183, section 2)
 abbrev pub is_attachment : List ℕ → Bool
@@ -100,7 +103,8 @@ holds_parts content = is_multipart content || bytes_eq content (codes "message/r
 -- the sections in a body of a type: those of a multipart, or the message of a message/rfc822
 abbrev pub sections_in : List ℕ → List ℕ → ℕ → List ℕ → List PlainSection
 sections_in content boundary start body =
-    if is_multipart content then sections boundary (bytes_eq content (codes "multipart/digest")) start (lines_of body)
+    if is_multipart content
+    then sections boundary (bytes_eq content (codes "multipart/digest")) start (lines_of body)
     else (if bytes_eq content (codes "message/rfc822")
     then record { start = start; text = body; in_digest = false } ∷ [] else [])
 

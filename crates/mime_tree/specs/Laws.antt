@@ -1,6 +1,6 @@
 -- Laws of the definitions: what was written so is read back.
-use Rattle.std.specs.Prelude.{◌≡◌, ◌+◌, ◌-◌, ◌/◌, ◌%◌, ◌&&◌, ℕ, Bool, true, false, not, nat_lt, List, [], ◌∷◌, ◌++◌}
-use Rattle.std.specs.Prelude.{length, map, Some, codes, if◌then◌else◌}
+use Rattle.std.specs.Prelude.{◌≡◌, ◌+◌, ◌-◌, ◌/◌, ◌%◌, ◌&&◌, ℕ, Bool, true, false, not, nat_lt}
+use Rattle.std.specs.Prelude.{List, [], ◌∷◌, ◌++◌, length, map, Some, codes, if◌then◌else◌}
 use Rattle.std.specs.List.{list_all, list_any, flat_map}
 use Rattle.std.specs.Str.{byte}
 use Rattle.bstr.specs.Text.{lines_of}
@@ -65,4 +65,5 @@ abbrev pub WrittenSectionsAreCut : Type 0
 WrittenSectionsAreCut =
     (boundary : List ℕ) (texts : List (List ℕ)) → is_boundary boundary ≡ true
     → list_all (is_apart boundary) texts ≡ true
-    → map (λ s. s.text) (sections boundary false 0 (lines_of (written_sections boundary texts))) ≡ texts
+    → map (λ s. s.text) (sections boundary false 0 (lines_of (written_sections boundary texts)))
+    ≡ texts

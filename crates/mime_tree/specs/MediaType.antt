@@ -1,5 +1,6 @@
 -- The type with which the value of a Content-Type begins (RFC 2045, section 5.1).
-use Rattle.std.specs.Prelude.{◌+◌, ◌==◌, ◌||◌, ℕ, List, Option, Some, None, take, drop, if◌then◌else◌}
+use Rattle.std.specs.Prelude.{◌+◌, ◌==◌, ◌||◌, ℕ, List, Option, Some, None, take, drop}
+use Rattle.std.specs.Prelude.{if◌then◌else◌}
 use Rattle.std.specs.Str.{byte}
 use Rattle.mail_base.specs.Fronts.{◌>>=◌, behind}
 use Rattle.mail_base.specs.Tokens.{token_len}

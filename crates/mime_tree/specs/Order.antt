@@ -17,12 +17,15 @@ abbrev pub OneOf : Bool → Type 0 → Type 0 → Type 0
 OneOf true First Second = First
 OneOf false First Second = Second
 
--- the parts that follow a part: those that nest deeper stand in it, and from the first other on they stand behind it
+-- the parts that follow a part: those that nest deeper stand in it, and from the first other on
+-- they stand behind it
 abbrev pub Follow : PlainPart → List PlainPart → Type 0
 Follow p [] = Unit {0}
-Follow p (q ∷ rest) = OneOf (nat_lt p.nesting q.nesting) (IsInside p q × Follow p rest) (AreBehind p (q ∷ rest))
+Follow p (q ∷ rest) =
+    OneOf (nat_lt p.nesting q.nesting) (IsInside p q × Follow p rest) (AreBehind p (q ∷ rest))
 
--- parts in the order of reading: each before those in it, and those in it before those behind it, without overlapping
+-- parts in the order of reading: each before those in it, and those in it before those behind it,
+-- without overlapping
 abbrev pub AreInOrder : List PlainPart → Type 0
 AreInOrder [] = Unit {0}
 AreInOrder (p ∷ rest) = Follow p rest × AreInOrder rest

@@ -1,6 +1,6 @@
 -- Parameters of a structured field (RFC 2045, section 5.1).
-use Rattle.std.specs.Prelude.{◌==◌, ◌||◌, ℕ, zero, suc, Bool, true, false, List, [], ◌∷◌, length, take, drop, Option}
-use Rattle.std.specs.Prelude.{Some, None, option_map, if◌then◌else◌}
+use Rattle.std.specs.Prelude.{◌==◌, ◌||◌, ℕ, zero, suc, Bool, true, false, List, [], ◌∷◌, length}
+use Rattle.std.specs.Prelude.{take, drop, Option, Some, None, option_map, if◌then◌else◌}
 use Rattle.std.specs.List.{find, position_or_len}
 use Rattle.std.specs.Str.{byte, str_eq_ignore_ascii_case}
 use Rattle.mail_base.specs.Blanks.{is_blank, without_blanks}
@@ -26,13 +26,15 @@ quoted_value escaped [] = None
 quoted_value true (b ∷ rest) = option_map (with_byte b) (quoted_value false rest)
 quoted_value false (b ∷ rest) =
     if b == byte "\"" then Some (record { bytes = []; rest = rest })
-    else (if b == byte "\\" then quoted_value true rest else option_map (with_byte b) (quoted_value false rest))
+    else (if b == byte "\\" then quoted_value true rest
+    else option_map (with_byte b) (quoted_value false rest))
 
 -- how many bytes stand before the next blank or semicolon
 abbrev pub plain_len : List ℕ → ℕ
 plain_len s = position_or_len (λ b. is_blank b || b == byte ";") s
 
--- what stands behind the first quote, where there is one; else the bytes up to the next blank or semicolon
+-- what stands behind the first quote, where there is one; else the bytes up to the next blank or
+-- semicolon
 abbrev pub value_at : Option (List ℕ) → List ℕ → Option PlainValue
 value_at (Some inside) s = quoted_value false inside
 value_at None s = Some (record { bytes = take (plain_len s) s; rest = drop (plain_len s) s })
@@ -61,12 +63,14 @@ abbrev pub parameter : List ℕ → Option PlainParameter
 parameter s = parameter_at (without_blanks s)
 
 -- a parameter and those behind it; what is none is skipped
-abbrev pub parameters_with : (List ℕ → List PlainParameter) → List ℕ → Option PlainParameter → List PlainParameter
+abbrev pub parameters_with : (List ℕ → List PlainParameter) → List ℕ → Option PlainParameter
+    → List PlainParameter
 parameters_with more s None = more s
 parameters_with more s (Some p) = p ∷ more p.value.rest
 
 -- the parameters behind a semicolon, where there is one
-abbrev pub parameters_behind : (List ℕ → List PlainParameter) → Option (List ℕ) → List PlainParameter
+abbrev pub parameters_behind : (List ℕ → List PlainParameter) → Option (List ℕ)
+    → List PlainParameter
 parameters_behind more None = []
 parameters_behind more (Some s) = parameters_with more s (parameter s)
 

@@ -1,6 +1,6 @@
 -- Bodies in quoted-printable (RFC 2045, section 6.7).
-use Rattle.std.specs.Prelude.{◌-◌, ◌==◌, ◌&&◌, ℕ, zero, suc, Bool, nat_lt, List, [], ◌∷◌, ◌++◌, take, drop, length}
-use Rattle.std.specs.Prelude.{slice_index, Option, Some, None, if◌then◌else◌}
+use Rattle.std.specs.Prelude.{◌-◌, ◌==◌, ◌&&◌, ℕ, zero, suc, Bool, nat_lt, List, [], ◌∷◌, ◌++◌}
+use Rattle.std.specs.Prelude.{take, drop, length, slice_index, Option, Some, None, if◌then◌else◌}
 use Rattle.std.specs.List.{flat_map}
 use Rattle.std.specs.Str.{byte}
 use Rattle.bstr.specs.Text.{lines_of, without_terminator}
@@ -12,7 +12,8 @@ abbrev pub escaped_by : Option (ℕ × List ℕ) → ℕ × ℕ
 escaped_by None = (byte "=", 0)
 escaped_by (Some found) = (found.0, 2)
 
--- the byte that a `=` and what follows it write, and how many of the bytes behind it belong to it (rule 1)
+-- the byte that a `=` and what follows it write, and how many of the bytes behind it belong to it
+-- (rule 1)
 abbrev pub escaped_byte : List ℕ → ℕ × ℕ
 escaped_byte rest = escaped_by (hex_byte rest)
 
@@ -32,9 +33,11 @@ unquoted text = unquoted_from 0 text
 abbrev pub ends_soft : List ℕ → Bool
 ends_soft text = nat_lt 0 (length text) && slice_index text (length text - 1) == byte "="
 
--- the text of a line and its line end, which an `=` at the end of the text takes away (rules 4 and 5)
+-- the text of a line and its line end, which an `=` at the end of the text takes away (rules 4 and
+-- 5)
 abbrev pub joined : List ℕ → List ℕ → List ℕ
-joined text end = if ends_soft text then unquoted (take (length text - 1) text) else unquoted text ++ end
+joined text end =
+    if ends_soft text then unquoted (take (length text - 1) text) else unquoted text ++ end
 
 -- a line with its line end; the blanks before a line end go (rule 3)
 abbrev pub quoted_with : List ℕ → List ℕ → List ℕ

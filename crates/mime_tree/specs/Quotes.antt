@@ -1,13 +1,16 @@
 -- Quotes in a structured field (RFC 2045, section 5.1).
-use Rattle.std.specs.Prelude.{◌==◌, ◌&&◌, ℕ, Bool, true, false, List, [], ◌∷◌, Option, Some, None, if◌then◌else◌}
+use Rattle.std.specs.Prelude.{◌==◌, ◌&&◌, ℕ, Bool, true, false, List, [], ◌∷◌, Option, Some, None}
+use Rattle.std.specs.Prelude.{if◌then◌else◌}
 use Rattle.std.specs.Str.{byte}
 use Rattle.mime_tree.specs.declared.quotes.Quotes.{Quotes}
 use Rattle.mime_tree.specs.declared.quotes.Quotes.TheVariants.{Outside, Inside, Escaped}
 
--- whether the byte that follows stands in quotes; there a backslash takes its meaning from the byte behind it
+-- whether the byte that follows stands in quotes; there a backslash takes its meaning from the byte
+-- behind it
 abbrev pub quotes_behind : Quotes → ℕ → Quotes
 quotes_behind Outside b = if b == byte "\"" then Inside else Outside
-quotes_behind Inside b = if b == byte "\"" then Outside else (if b == byte "\\" then Escaped else Inside)
+quotes_behind Inside b =
+    if b == byte "\"" then Outside else (if b == byte "\\" then Escaped else Inside)
 quotes_behind Escaped b = Inside
 
 -- whether it stands outside quotes

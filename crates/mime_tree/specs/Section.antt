@@ -6,13 +6,15 @@ use Rattle.mime_tree.specs.declared.delimiter.LineKind.{LineKind}
 use Rattle.mime_tree.specs.declared.delimiter.LineKind.TheVariants.{Text, Delimiter, Closing}
 use Rattle.mime_tree.specs.declared.section.Section.{Section}
 
--- a range of a message that holds a part: where it starts, its bytes, and whether it stands in a digest
+-- a range of a message that holds a part: where it starts, its bytes, and whether it stands in a
+-- digest
 pub record PlainSection : Type 0 where
   pub start : ℕ
   pub text : List ℕ
   pub in_digest : Bool
 
--- a part's bytes and the lines up to the next delimiter line, to which the line end before it belongs
+-- a part's bytes and the lines up to the next delimiter line, to which the line end before it
+-- belongs
 abbrev pub section_text : List ℕ → List ℕ → List (List ℕ) → List ℕ
 section_text boundary front [] = front
 section_text boundary front (line ∷ lines) =

@@ -21,4 +21,5 @@ lines_in charset text = map (text_in charset) (map without_terminator (lines_of 
 
 -- the lines of a body that stands behind an empty line
 abbrev pub decoded_lines : Encoding → List ℕ → List ℕ → List (List ℕ)
-decoded_lines encoding charset text = lines_in (charset_of charset) (decoded encoding (behind_line text))
+decoded_lines encoding charset text =
+    lines_in (charset_of charset) (decoded encoding (behind_line text))

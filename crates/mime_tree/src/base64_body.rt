@@ -1,6 +1,7 @@
 //! Bodies in base64 (RFC 2045, section 6.8).
 
-ghost use Rattle.std.specs.Prelude.{◌≡◌, ◌++◌, ◌<◌, length, filter, not, position, IfOk, IfSome, IfNone};
+ghost use Rattle.std.specs.Prelude.{◌≡◌, ◌++◌, ◌<◌, length, filter, not, position, IfOk, IfSome};
+ghost use Rattle.std.specs.Prelude.{IfNone};
 ghost use Rattle.mime_tree.specs.Base64Body as spec;
 
 use mail_base::{Bytes, NoMemory, decode_base64, is_blank, split_around};

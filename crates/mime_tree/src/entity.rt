@@ -1,6 +1,7 @@
 //! The part that a section holds, and the sections in it.
 
-ghost use Rattle.std.specs.Prelude.{◌≡◌, ◌+◌, ◌<◌, ◌^◌, [], false, length, map, option_map, unwrap_or, codes, IfOk};
+ghost use Rattle.std.specs.Prelude.{◌≡◌, ◌+◌, ◌<◌, ◌^◌, [], false, length, map, option_map};
+ghost use Rattle.std.specs.Prelude.{unwrap_or, codes, IfOk};
 ghost use Rattle.std.specs.Str.{str_to_ascii_lowercase};
 ghost use Rattle.headers.specs.Field.{plain_field};
 ghost use Rattle.mail_base.specs.Lines.{message_fields};

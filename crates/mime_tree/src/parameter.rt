@@ -1,6 +1,7 @@
 //! Parameters of a structured field (RFC 2045, section 5.1).
 
-ghost use Rattle.std.specs.Prelude.{◌≡◌, ◌==◌, ◌||◌, ◌≤◌, ◌<◌, false, length, position, option_map, IfOk, IfSome};
+ghost use Rattle.std.specs.Prelude.{◌≡◌, ◌==◌, ◌||◌, ◌≤◌, ◌<◌, false, length, position, option_map};
+ghost use Rattle.std.specs.Prelude.{IfOk, IfSome};
 ghost use Rattle.mail_base.specs.Blanks as blanks;
 ghost use Rattle.std.specs.Str.{byte};
 ghost use Rattle.mime_tree.specs.Parameter as spec;

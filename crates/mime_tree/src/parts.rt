@@ -1,6 +1,7 @@
 //! The parts of a message in the order of reading (RFC 2046, section 5).
 
-ghost use Rattle.std.specs.Prelude.{◌≡◌, ◌+◌, ◌++◌, ◌<◌, ◌^◌, length, All, option_map, Some, None, IfOk, OnOk, IsErrOf};
+ghost use Rattle.std.specs.Prelude.{◌≡◌, ◌+◌, ◌++◌, ◌<◌, ◌^◌, length, All, option_map, Some, None};
+ghost use Rattle.std.specs.Prelude.{IfOk, OnOk, IsErrOf};
 ghost use Rattle.mime_tree.specs.Order.{AreInOrder, StandsWithin};
 ghost use Rattle.mime_tree.specs.Parts as spec;
 ghost use Rattle.mime_tree.specs.Part.{plain_parts};

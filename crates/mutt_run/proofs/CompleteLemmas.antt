@@ -1,6 +1,6 @@
 -- Runs with nothing in their way are done.
-use Rattle.std.proofs.Common.{◌≡◌, ◌≤◌, ◌⊎◌, inl, inr, ℕ, ℤ, List, [], ◌∷◌, ◌++◌, Option, Some, None}
-use Rattle.std.proofs.Common.{Result, Ok, Err, refl, sym, subst, length}
+use Rattle.std.proofs.Common.{◌≡◌, ◌≤◌, ◌⊎◌, inl, inr, ℕ, ℤ, List, [], ◌∷◌, ◌++◌, Option, Some}
+use Rattle.std.proofs.Common.{None, Result, Ok, Err, refl, sym, subst, length}
 use Rattle.mail_base.specs.Faults.{Rose}
 use Rattle.mail_base.specs.declared.kind.Kind.{Kind}
 use Rattle.disk_model.specs.Journal.{Past}
@@ -124,7 +124,8 @@ module _ {o : PlainOptions} {start : ℤ} {Has : Kind → Type 0} {given : Given
       (counts_of old.disk) old.disk.told new.disk.told refused.files refused.are_files
       (subst (λ (l : List Happening). WereReadable Has given (first_of o start) l new.disk.told)
       refused.events_are readable)
-      (subst (λ (l : List Happening). IsTold Has given (first_of o start) l old.disk.told new.disk.told)
+      (subst (λ (l : List Happening). IsTold Has given (first_of o start) l old.disk.told
+      new.disk.told)
       refused.events_are reads.told.told)
       (subst (λ (l : List Happening). AllCounted Has (counts_of old.disk) l) refused.events_are
       reads.told.counted)

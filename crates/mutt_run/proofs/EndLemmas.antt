@@ -1,6 +1,6 @@
 -- A run with the line of its end, which may fail.
-use Rattle.std.proofs.Common.{◌≡◌, ◌≤◌, ◌⊎◌, inl, inr, ℕ, ℤ, List, [], ◌∷◌, ◌++◌, Option, Some, None, Ok, Err}
-use Rattle.std.proofs.Common.{Result, refl, sym, ◌∙◌, ap, subst, append_assoc, arith}
+use Rattle.std.proofs.Common.{◌≡◌, ◌≤◌, ◌⊎◌, inl, inr, ℕ, ℤ, List, [], ◌∷◌, ◌++◌, Option, Some}
+use Rattle.std.proofs.Common.{None, Ok, Err, Result, refl, sym, ◌∙◌, ap, subst, append_assoc, arith}
 use Rattle.std.proofs.lemmas.List.{append-nil}
 use Rattle.std.specs.Io.KnownBytes.{Appends}
 use Rattle.mail_base.specs.Faults.{Rose}
@@ -57,7 +57,8 @@ module _ {choice : Result PlainOptions (List ℕ)} {start : ℤ} {Has : Kind →
   pub ends_told : {Rises : Type 0} {result : Status} → IsToldAs Rises status result
       → EndsAs given (acted_on choice) start result events old.left new.left
   ends_told (inl is) =
-      subst (λ (st : Status). EndsAs given (acted_on choice) start st events old.left new.left) (sym is)
+      subst (λ (st : Status). EndsAs given (acted_on choice) start st events old.left new.left)
+      (sym is)
       reads.ends
   ends_told (inr (inl is)) =
       subst (λ (st : Status). EndsAs given (acted_on choice) start st events old.left new.left)
@@ -82,7 +83,8 @@ module _ {choice : Result PlainOptions (List ℕ)} {start : ℤ} {Has : Kind →
       (gives_then before old.moments new.moments (first ∷ []) (pressed_moments events) tick
       reads.clocked)
 
-  only_looked : (first now : Option Past) → IsTold Has given (first_by choice start) events first now
+  only_looked : (first now : Option Past)
+      → IsTold Has given (first_by choice start) events first now
       → LooksOnly first now
   only_looked None now told = told
   only_looked (Some first) None told = told

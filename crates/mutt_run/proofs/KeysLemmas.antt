@@ -417,11 +417,12 @@ counts_turned status keys keys' out mid next errs mid' next' which cause low low
 pub counts_from : {status : Status} {keys keys' out mid next errs mid' next' : ℕ}
     → out ≤ mid → errs ≤ mid' → CountsStreams status keys keys' mid next mid' next'
     → CountsStreams status keys keys' out next errs next'
-counts_from {status} {keys} {keys'} {out} {mid} {next} {errs} {mid'} {next'} low low' counts = record {
-  keys = counts.keys;
-  out = λ is. elim (counts.out is) [
-    | inl h ↦ inl (rose_before out mid next low h)
-    | inr h ↦ inr (rose_before errs mid' next' low' h)
-  ];
-  later = omega (arith, low', counts.later);
-}
+counts_from {status} {keys} {keys'} {out} {mid} {next} {errs} {mid'} {next'} low low' counts =
+    record {
+      keys = counts.keys;
+      out = λ is. elim (counts.out is) [
+        | inl h ↦ inl (rose_before out mid next low h)
+        | inr h ↦ inr (rose_before errs mid' next' low' h)
+      ];
+      later = omega (arith, low', counts.later);
+    }

@@ -1,6 +1,6 @@
 -- How a run that reads a folder ends.
-use Rattle.std.proofs.Common.{◌≡◌, ◌≤◌, ◌⊎◌, inl, inr, ℕ, ℤ, true, List, [], ◌∷◌, ◌++◌, Option, Ok, map}
-use Rattle.std.proofs.Common.{refl, sym, ◌∙◌, ap, subst, append_assoc, arith}
+use Rattle.std.proofs.Common.{◌≡◌, ◌≤◌, ◌⊎◌, inl, inr, ℕ, ℤ, true, List, [], ◌∷◌, ◌++◌, Option, Ok}
+use Rattle.std.proofs.Common.{map, refl, sym, ◌∙◌, ap, subst, append_assoc, arith}
 use Rattle.std.proofs.lemmas.List.{append-nil}
 use Rattle.std.specs.Io.KnownBytes.{Appends}
 use Rattle.std.specs.List.{concat}
@@ -50,14 +50,17 @@ module _ (o : PlainOptions) (start : ℤ) (Has : Kind → Type 0) (given : Given
     (status : Status) (opening events more later : List Happening) (old new : Outside) (mid : Seen)
     (begins : BeginsRun Has given (first_of o start) start opening events old.disk mid)
     (are_acts : AreActs more) (is : later ≡ events ++ more) where
-  pub reads_by : IsRunFrom given (first_of o start) later → EndsAs given o start status later old.left new.left
+  pub reads_by : IsRunFrom given (first_of o start) later
+      → EndsAs given o start status later old.left new.left
       → (reader : PlainReader) → TakesKeys (pressed_keys more) reader old.left new.left
       → Gives old.moments new.moments (pressed_moments more)
       → Prints status (pieces given (task_of o) (first_of o start) later) old.written new.written
       → PrintsBut (pieces given (task_of o) (first_of o start) later) old.written new.written
-      → ((after_events given (first_of o start) later).turn.stage ≡ Over → Appends old.written new.written
+      → ((after_events given (first_of o start) later).turn.stage ≡ Over
+      → Appends old.written new.written
       (concat (pieces given (task_of o) (first_of o start) later)))
-      → TellsNotes status (printed_lines (after_events given (first_of o start) later).notes) old new
+      → TellsNotes status (printed_lines (after_events given (first_of o start) later).notes) old
+      new
       → Witnessed Has given (first_of o start) later old.disk new.disk
       → (status ≡ DiskFault → Rose old.disk.faults new.disk.faults) → IsNoUsage status
       → Reads (Ok o) start Has given status later old new
@@ -94,11 +97,13 @@ prints_broken : (o : PlainOptions) (start : ℤ) (given : Given) (events : List 
     → Prints status (pieces given (task_of o) (first_of o start) events) old new
 prints_broken o start given events old new status task (inl is) breaks =
     subst (λ (st : Status). Prints st (pieces given (task_of o) (first_of o start) events) old new)
-    (sym is) (subst (λ (t : Task). Prints OutFault (pieces given t (first_of o start) events) old new)
+    (sym is) (subst
+    (λ (t : Task). Prints OutFault (pieces given t (first_of o start) events) old new)
     (sym task) breaks.prints)
 prints_broken o start given events old new status task (inr is) breaks =
     subst (λ (st : Status). Prints st (pieces given (task_of o) (first_of o start) events) old new)
-    (sym is) (subst (λ (t : Task). Prints NoMemory (pieces given t (first_of o start) events) old new)
+    (sym is) (subst
+    (λ (t : Task). Prints NoMemory (pieces given t (first_of o start) events) old new)
     (sym task) breaks.prints)
 
 prints_all_but : (o : PlainOptions) (start : ℤ) (given : Given) (events : List Happening)
@@ -110,7 +115,8 @@ prints_all_but o start given events old new task breaks =
     breaks.prints
 
 -- no rest is missing
-pub prints_all : (texts : List (List ℕ)) (old new : Option (List ℕ)) → Appends old new (concat texts)
+pub prints_all : (texts : List (List ℕ)) (old new : Option (List ℕ))
+    → Appends old new (concat texts)
     → PrintsBut texts old new
 prints_all texts old new all = record {
   rest = [];
@@ -171,7 +177,8 @@ module _ (o : PlainOptions) (start : ℤ) (Has : Kind → Type 0) (given : Given
 
   pub reads_early : EndsAs given o start status events old.left new.left
       → Prints status (pieces given (task_of o) (first_of o start) events) old.written new.written
-      → TellsNotes status (printed_lines (after_events given (first_of o start) events).notes) old new
+      → TellsNotes status (printed_lines (after_events given (first_of o start) events).notes) old
+      new
       → (status ≡ DiskFault → Rose old.disk.faults new.disk.faults) → IsNoUsage status
       → Reads (Ok o) start Has given status events old new
   reads_early ends printed noted fault no_usage =
@@ -186,7 +193,8 @@ module _ (o : PlainOptions) (start : ℤ) (Has : Kind → Type 0) (given : Given
       fault no_usage
 
   pub reads_off : IsBroken status
-      → TellsNotes status (printed_lines (after_events given (first_of o start) events).notes) old new
+      → TellsNotes status (printed_lines (after_events given (first_of o start) events).notes) old
+      new
       → Reads (Ok o) start Has given status events old new
   reads_off broken noted =
       reads_early (ends_free given o start events old.left new.left status broken)
@@ -195,7 +203,8 @@ module _ (o : PlainOptions) (start : ℤ) (Has : Kind → Type 0) (given : Given
 
   -- an event that ends the run shows no screen
   pub over_prints : (after_events given (first_of o start) events).turn.stage ≡ Over
-      → Appends old.written new.written (concat (pieces given (task_of o) (first_of o start) events))
+      → Appends old.written new.written
+      (concat (pieces given (task_of o) (first_of o start) events))
   over_prints over = whole_broken o start given events old.written new.written task breaks over
 
 -- What was told of commands.
@@ -246,7 +255,8 @@ module _ (o : PlainOptions) (start : ℤ) (Has : Kind → Type 0) (given : Given
         same_left same_clock is_over
 
     pub reads_refused : IsStated why
-        → Appends old.told new.told (printed_lines (after_events given (first_of o start) events).notes)
+        → Appends old.told new.told
+        (printed_lines (after_events given (first_of o start) events).notes)
         → Reads (Ok o) start Has given (NotOpened why) events old new
     reads_refused stated told =
         reads_early o start Has given (NotOpened why) opening events old new begins task same_out
@@ -254,7 +264,8 @@ module _ (o : PlainOptions) (start : ℤ) (Has : Kind → Type 0) (given : Given
         (λ fault. absurd (subst IsOtherThanDisk fault tt)) tt
 
   pub reads_fault : IsRefusedAs (Folder Fault) opening → Rose old.disk.faults new.disk.faults
-      → Appends old.told new.told (printed_lines (after_events given (first_of o start) events).notes)
+      → Appends old.told new.told
+      (printed_lines (after_events given (first_of o start) events).notes)
       → Reads (Ok o) start Has given DiskFault events old new
   reads_fault refused rose told =
       reads_early o start Has given DiskFault opening events old new begins task same_out
@@ -262,9 +273,11 @@ module _ (o : PlainOptions) (start : ℤ) (Has : Kind → Type 0) (given : Given
       (whole (Folder Fault) refused) told (λ fault. rose) tt
 
   pub reads_refusal : (status result : Status)
-      → TellsRefused status result (printed_lines (after_events given (first_of o start) events).notes)
+      → TellsRefused status result
+      (printed_lines (after_events given (first_of o start) events).notes)
       old.told new.told old.faults new.faults
-      → (Appends old.told new.told (printed_lines (after_events given (first_of o start) events).notes)
+      → (Appends old.told new.told
+      (printed_lines (after_events given (first_of o start) events).notes)
       → Reads (Ok o) start Has given status events old new)
       → Reads (Ok o) start Has given result events old new
   reads_refusal status result (inl told) reads =
@@ -273,12 +286,14 @@ module _ (o : PlainOptions) (start : ℤ) (Has : Kind → Type 0) (given : Given
   reads_refusal status result (inr (inl told)) reads =
       reads_off o start Has given result opening events old new begins task same_out same_left
       same_clock (inl told.0) (notes_cut result
-      (printed_lines (after_events given (first_of o start) events).notes) old new (inl (told.0, told.1))
+      (printed_lines (after_events given (first_of o start) events).notes) old new
+      (inl (told.0, told.1))
       told.2)
   reads_refusal status result (inr (inr told)) reads =
       reads_off o start Has given result opening events old new begins task same_out same_left
       same_clock (inr told.0) (notes_cut result
-      (printed_lines (after_events given (first_of o start) events).notes) old new (inr told.0) told.1)
+      (printed_lines (after_events given (first_of o start) events).notes) old new (inr told.0)
+      told.1)
 
 -- The same, as the calls say it.
 module _ (o : PlainOptions) (start moment : ℤ) (Has : Kind → Type 0) (given : Given)
@@ -295,7 +310,8 @@ module _ (o : PlainOptions) (start moment : ℤ) (Has : Kind → Type 0) (given 
       old.disk new.disk) is fails)
 
   pub fails_refused : (why : OpenFault) (notes : List (List ℕ)) (result : Status)
-      → Fails Has given (first_state setup moment) moment (error.NotOpened why) notes events old.disk
+      → Fails Has given (first_state setup moment) moment (error.NotOpened why) notes events
+      old.disk
       new.disk
       → TellsRefused (NotOpened why) result (printed_lines notes) old.told new.told old.faults
       new.faults → Reads (Ok o) start Has given result events old new
@@ -323,7 +339,8 @@ module _ (o : PlainOptions) (start moment : ℤ) (Has : Kind → Type 0) (given 
       same_left same_clock f.ends.0 f.ends.1)
 
   pub fails_memory : (notes : List (List ℕ)) → new.told ≡ old.told
-      → Fails Has given (first_state setup moment) moment error.NoMemory notes events old.disk new.disk
+      → Fails Has given (first_state setup moment) moment error.NoMemory notes events old.disk
+      new.disk
       → Reads (Ok o) start Has given NoMemory events old new
   fails_memory notes same_told fails =
       let f = fails_here error.NoMemory notes fails in
@@ -342,7 +359,8 @@ pub starts_here : (o : PlainOptions) (start moment : ℤ) (Has : Kind → Type 0
     → Starts Has given (first_of o start) start events state before now
 starts_here o start moment Has given setup events state before now at is begun =
     subst (λ (m : ℤ). Starts Has given (first_of o m) m events state before now) at
-    (subst (λ (p : PlainSetup). Starts Has given (first_state p moment) moment events state before now) is
+    (subst (λ (p : PlainSetup). Starts Has given (first_state p moment) moment events state before
+    now) is
     begun)
 
 -- A folder was opened.
@@ -431,13 +449,15 @@ module _ (o : PlainOptions) (start : ℤ) (Has : Kind → Type 0) (given : Given
               (sym same) goes.ends;
         }
 
-        reads_so : IsRunFrom given (first_of o start) later → EndsAs given o start status later old.left new.left
+        reads_so : IsRunFrom given (first_of o start) later
+            → EndsAs given o start status later old.left new.left
             → Prints status (pieces given (task_of o) (first_of o start) later) old.written
             new.written
             → PrintsBut (pieces given (task_of o) (first_of o start) later) old.written new.written
             → ((after_events given (first_of o start) later).turn.stage ≡ Over → Appends old.written
             new.written (concat (pieces given (task_of o) (first_of o start) later)))
-            → TellsNotes status (printed_lines (after_events given (first_of o start) later).notes) old new
+            → TellsNotes status (printed_lines (after_events given (first_of o start) later).notes)
+            old new
             → (status ≡ DiskFault → Rose old.disk.faults new.disk.faults) → IsNoUsage status
             → Reads (Ok o) start Has given status later old new
         reads_so run ends printed but whole noted fault no_usage =
@@ -456,7 +476,8 @@ module _ (o : PlainOptions) (start : ℤ) (Has : Kind → Type 0) (given : Given
             → Reads (Ok o) start Has given status later old new
         reads_goes out ends printed fault no_usage =
             reads_so went.stands.run (ends (shown_end went.stands.state_is)) (printed all)
-            (prints_all (pieces given (task_of o) (first_of o start) later) old.written new.written all)
+            (prints_all (pieces given (task_of o) (first_of o start) later) old.written new.written
+            all)
             (λ over. all) (notes_whole status
             (printed_lines (after_events given (first_of o start) later).notes) old new
             (subst (λ (s : State). Appends old.told new.told (printed_lines s.notes))
@@ -478,7 +499,8 @@ module _ (o : PlainOptions) (start : ℤ) (Has : Kind → Type 0) (given : Given
         reads_breaks out broken =
             reads_so out.breaks.run
             (ends_free given o start later old.left new.left status broken)
-            (prints_broken o start given later old.written new.written status task broken out.breaks)
+            (prints_broken o start given later old.written new.written status task broken
+            out.breaks)
             (prints_all_but o start given later old.written new.written task out.breaks)
             (whole_broken o start given later old.written new.written task out.breaks) out.noted
             (no_fault (Rose old.disk.faults new.disk.faults) status broken)
@@ -489,7 +511,8 @@ module _ (o : PlainOptions) (start : ℤ) (Has : Kind → Type 0) (given : Given
           → GoesToEnd status events later next.turn.stage old.left new.left old.moments new.moments
           → Reads (Ok o) start Has given status later old new
       starts_went Done went goes =
-          reads_goes Done goes went (λ shown. subst (λ (t : Task). EndsDone given t o start later old.left
+          reads_goes Done goes went
+          (λ shown. subst (λ (t : Task). EndsDone given t o start later old.left
           new.left) (sym task) shown) (λ all. all)
           (λ fault. absurd (subst IsOtherThanDisk fault tt)) tt
       starts_went KeysFault went goes =

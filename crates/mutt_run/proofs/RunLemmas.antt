@@ -150,7 +150,8 @@ opening_screens given s start (event ∷ next ∷ opening) opens stage = absurd 
 module _ (Has : Kind → Type 0) (given : Given) (o : PlainOptions) (start : ℤ)
     (opening events : List Happening) (old new : Seen)
     (begins : BeginsRun Has given (first_of o start) start opening events old new) where
-  begun_stands : Stands given (first_of o start) events (after_events given (first_of o start) events)
+  begun_stands : Stands given (first_of o start) events
+      (after_events given (first_of o start) events)
       ([] ++ shown given (after_events given (first_of o start) events))
   begun_stands = record {
     run = begins.run;
@@ -166,7 +167,8 @@ module _ (Has : Kind → Type 0) (given : Given) (o : PlainOptions) (start : ℤ
   -- nothing was printed yet
   pub begun_breaks : (out : Option (List ℕ)) → Breaks given (first_of o start) events out out
   begun_breaks out =
-      breaks_unshown given (first_of o start) (after_events given (first_of o start) events) events []
+      breaks_unshown given (first_of o start) (after_events given (first_of o start) events) events
+      []
       begun_stands out out (appends_none out)
 
   module _ (more later : List Happening) (are_acts : AreActs more) (is : later ≡ events ++ more)

@@ -48,7 +48,8 @@ pub idle_not_over : Idle ≡ Over → ⊥
 idle_not_over is = subst IsIdle is tt
 
 -- The letters of a screen are those that are given.
-module _ (given : Given) (mails : List Mail) (s : State) (old new : Option (List ℕ)) (same : given.mails ≡ mails) where
+module _ (given : Given) (mails : List Mail) (s : State) (old new : Option (List ℕ))
+    (same : given.mails ≡ mails) where
   pub shown_given : Appends old new (screen_text (screen_in mails s))
       → Appends old new (screen_text (screen_in given.mails s))
   shown_given more =

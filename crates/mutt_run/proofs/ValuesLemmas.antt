@@ -62,7 +62,8 @@ module _ (o : PlainOptions) (start : ℤ) (given : Given) (setup : PlainSetup)
     told = read.told given (keeps_same given.verdicts);
   }
 
-  not_over : (Rises : Type 0) → (after_events given (first_of o start) events).turn.stage ≡ Over → Rises
+  not_over : (Rises : Type 0) → (after_events given (first_of o start) events).turn.stage ≡ Over
+      → Rises
   not_over Rises over =
       absurd (subst IsUnopened
       (sym (files_unopened given (first_of o start) events read.are refl) ∙ over) tt)
@@ -70,18 +71,21 @@ module _ (o : PlainOptions) (start : ℤ) (given : Given) (setup : PlainSetup)
   reads_values : (status : Status) → EndsAs given o start status events old.left new.left
       → Prints status (pieces given (task_of o) (first_of o start) events) old.written new.written
       → PrintsBut (pieces given (task_of o) (first_of o start) events) old.written new.written
-      → TellsNotes status (printed_lines (after_events given (first_of o start) events).notes) old new
+      → TellsNotes status (printed_lines (after_events given (first_of o start) events).notes) old
+      new
       → (status ≡ DiskFault → Rose old.disk.faults new.disk.faults) → IsNoUsage status
       → Reads (Ok o) start Driverless given status events old new
   reads_values status ends printed but noted fault no_usage =
       reads_by o start Driverless given status [] events [] events old new new.disk begins tt
-      (sym (append-nil events)) (read.run given (keeps_same given.verdicts)) ends (record { pending = []; taken = 0 })
+      (sym (append-nil events)) (read.run given (keeps_same given.verdicts)) ends
+      (record { pending = []; taken = 0 })
       (subst (λ (l : Option (List ℕ)). TakesKeys [] (record { pending = []; taken = 0 }) old.left l)
       (sym same_left) (takes_none old.left))
       (subst (λ (l : Option (List ℤ)). Gives old.moments l []) (sym same_clock)
       (gives_none old.moments))
       printed but (not_over (Appends old.written new.written
-      (concat (pieces given (task_of o) (first_of o start) events)))) noted (read.told given (keeps_same given.verdicts)) fault
+      (concat (pieces given (task_of o) (first_of o start) events)))) noted
+      (read.told given (keeps_same given.verdicts)) fault
       no_usage
 
   abbrev text : List ℕ
@@ -90,7 +94,8 @@ module _ (o : PlainOptions) (start : ℤ) (given : Given) (setup : PlainSetup)
   -- a front of the lines was printed
   pub values_cut : (status : Status) → IsBroken status
       → (rest : List ℕ) × Sent old.written new.written text rest
-      → TellsNotes status (printed_lines (after_events given (first_of o start) events).notes) old new
+      → TellsNotes status (printed_lines (after_events given (first_of o start) events).notes) old
+      new
       → Reads (Ok o) start Driverless given status events old new
   values_cut status broken sent noted =
       reads_values status (ends_free given o start events old.left new.left status broken)
@@ -115,7 +120,8 @@ module _ (o : PlainOptions) (start : ℤ) (given : Given) (setup : PlainSetup)
 
   -- nothing was printed
   pub values_none : new.written ≡ old.written → (status : Status) → IsBroken status
-      → TellsNotes status (printed_lines (after_events given (first_of o start) events).notes) old new
+      → TellsNotes status (printed_lines (after_events given (first_of o start) events).notes) old
+      new
       → Reads (Ok o) start Driverless given status events old new
   values_none same status broken noted =
       values_cut status broken (
@@ -139,11 +145,13 @@ module _ (o : PlainOptions) (start : ℤ) (given : Given) (setup : PlainSetup)
   module _ (lines notes : List (List ℕ))
       (answers : AnswersNames given (first_state setup start) events names lines notes) where
     abbrev here : AnswersNames given (first_of o start) events names lines notes
-    here = subst (λ (p : PlainSetup). AnswersNames given (first_state p start) events names lines notes)
+    here = subst
+        (λ (p : PlainSetup). AnswersNames given (first_state p start) events names lines notes)
         is answers
 
     noted_as : (status : Status) → TellsNotes status (printed_lines notes) old new
-        → TellsNotes status (printed_lines (after_events given (first_of o start) events).notes) old new
+        → TellsNotes status (printed_lines (after_events given (first_of o start) events).notes) old
+        new
     noted_as status told = subst (λ (l : List (List ℕ)). TellsNotes status (printed_lines l) old
         new)
         (sym here.noted) told
@@ -179,7 +187,8 @@ module _ (o : PlainOptions) (start : ℤ) (given : Given) (setup : PlainSetup)
           (subst (λ (t : Task). EndsDone given t o start events old.left new.left) (sym task)
           (read.are, here.read))
           all
-          (prints_all (pieces given (task_of o) (first_of o start) events) old.written new.written all)
+          (prints_all (pieces given (task_of o) (first_of o start) events) old.written new.written
+          all)
           (noted_as Done told) (λ fault. absurd (subst IsOtherThanDisk fault tt)) tt
         where
           all : Appends old.written new.written

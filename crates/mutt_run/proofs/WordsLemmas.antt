@@ -1,7 +1,7 @@
 -- What the words of a command line ask for is done.
-use Rattle.std.proofs.Common.{◌≡◌, inl, ℕ, ℤ, Bool, true, false, List, [], ◌∷◌, Option}
-use Rattle.std.proofs.Common.{Some, None, Ok, Err, Result, IfErr, option_map, length, refl, sym, ◌∙◌}
-use Rattle.std.proofs.Common.{◌++◌, if◌then◌else◌, map, ap, subst, arith, length-append}
+use Rattle.std.proofs.Common.{◌≡◌, inl, ℕ, ℤ, Bool, true, false, List, [], ◌∷◌, Option, Some, None}
+use Rattle.std.proofs.Common.{Ok, Err, Result, IfErr, option_map, length, refl, sym, ◌∙◌, ◌++◌}
+use Rattle.std.proofs.Common.{if◌then◌else◌, map, ap, subst, arith, length-append}
 use Rattle.std.proofs.lemmas.List.{append-nil}
 use Rattle.std.specs.Io.KnownBytes.{Appends}
 use Rattle.std.specs.List.{concat}
@@ -158,7 +158,8 @@ module _ (choice : Result PlainOptions (List ℕ)) (start : ℤ) (Has : Kind →
     but = but;
     whole = λ over. absurd (subst IsUnopened over tt);
     noted = notes_whole status [] old new untold;
-    told = subst (λ (d : Seen). Witnessed Has given (first_by choice start) [] old.disk d) (sym same_disk)
+    told = subst (λ (d : Seen). Witnessed Has given (first_by choice start) [] old.disk d)
+        (sym same_disk)
         (witnessed_none Has given (first_by choice start) old.disk);
     listed = tt;
     fault = λ is. absurd (fault is);

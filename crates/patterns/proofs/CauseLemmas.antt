@@ -1,7 +1,7 @@
 -- Verdicts on the expressions of a pattern.
 use Rattle.std.proofs.Common.{◌≡◌, ◌∙◌, ◌++◌, ◌≤◌, ◌⊎◌, ◌&&◌, ℕ, Bool, true, false, List, [], ◌∷◌}
-use Rattle.std.proofs.Common.{Option, Some, None, Result, Ok, Err, is_some, option_map, append_assoc, map, refl}
-use Rattle.std.proofs.Common.{sym, ap, subst, arith, inl, inr}
+use Rattle.std.proofs.Common.{Option, Some, None, Result, Ok, Err, is_some, option_map}
+use Rattle.std.proofs.Common.{append_assoc, map, refl, sym, ap, subst, arith, inl, inr}
 use Rattle.std.specs.Prelude.{if◌then◌else◌}
 use Rattle.std.specs.List.{list_all}
 use Rattle.std.specs.Str.{bytes_eq}
@@ -149,7 +149,8 @@ found_kept new list (t ∷ texts) kept is =
 
 -- where one was found bad, not all were found good
 pub lost_kept : (new list : List PlainJudged) (v : Verdict) (texts : List (List ℕ))
-    → Keeps new list → is_found_good (Some v) ≡ false → SomeOf (λ t. verdict_on new t ≡ Some v) texts
+    → Keeps new list → is_found_good (Some v) ≡ false
+    → SomeOf (λ t. verdict_on new t ≡ Some v) texts
     → list_all (is_good_on list) texts ≡ false
 lost_kept new list v [] kept bad is = absurd is
 lost_kept new list v (t ∷ texts) kept bad (inl is) =

@@ -225,7 +225,8 @@ module _ {S T : Type 0} (view : T → Tree) (needs : List (Operation Need))
       let before : Result S PatternError = Err e in
       let result : Result T PatternError = Err e in
       is_read view expected result (expr_error expected e sound (subst (λ r. IsOk r) (sym is) refl))
-      (subst (λ l. Judges {T = T} l (Err e) old new b a) (exprs_are needs expected coded is) (record {
+      (subst (λ l. Judges {T = T} l (Err e) old new b a) (exprs_are needs expected coded is)
+      (record {
         keeps = j.keeps;
         sizes = tt;
         later = j.later;
@@ -233,7 +234,8 @@ module _ {S T : Type 0} (view : T → Tree) (needs : List (Operation Need))
         syntax = λ was. j.syntax (same_fault result before e error.RegexSyntax refl refl was);
         size = λ was. j.size (same_fault result before e error.RegexSize refl refl was);
         found = tt;
-        lost_syntax = λ was. j.lost_syntax (same_fault result before e error.RegexSyntax refl refl was);
+        lost_syntax =
+            λ was. j.lost_syntax (same_fault result before e error.RegexSyntax refl refl was);
         lost_size = λ was. j.lost_size (same_fault result before e error.RegexSize refl refl was);
       }))
 
@@ -242,7 +244,8 @@ module _ {S T : Type 0} (view : T → Tree) (needs : List (Operation Need))
       → IsRead view expected (Ok y) old new b a
   exprs_read_on x y tree j =
       is_read view expected (Ok y) (ap (reading_map (tree_map asked)) is ∙ ap Ok (sym tree))
-      (subst (λ l. Judges {T = T} l (Ok y) old new b a) (exprs_are needs expected coded is) (record {
+      (subst (λ l. Judges {T = T} l (Ok y) old new b a) (exprs_are needs expected coded is)
+      (record {
         keeps = j.keeps;
         sizes = j.sizes;
         later = j.later;

@@ -1,5 +1,6 @@
 -- Parentheses that are open, the last one at the end of a list.
-use Rattle.std.proofs.Common.{◌≡◌, ◌∙◌, ◌++◌, List, [], ◌∷◌, ℕ, Some, None, Err, length, map, reverse, refl, ap}
+use Rattle.std.proofs.Common.{◌≡◌, ◌∙◌, ◌++◌, List, [], ◌∷◌, ℕ, Some, None, Err, length, map}
+use Rattle.std.proofs.Common.{reverse, refl, ap}
 use Rattle.std.proofs.lemmas.List.{length-map, length-reverse, map-append, reverse-append}
 use Rattle.patterns.specs.Faults.{Unbalanced}
 use Rattle.patterns.specs.Patterns.{Opened, Side, ended, first_opened}

@@ -20,7 +20,8 @@ use Rattle.patterns_match.specs.Trees.{Days, Leaf, Tells, Searches, Dated, Count
 use Rattle.patterns_match.specs.declared.letter.Letter.{Letter}
 use Rattle.patterns_match.specs.declared.letter.Letter.TheVariants as letter
 use Rattle.patterns_match.specs.declared.letter.Number.{Number}
-use Rattle.patterns_match.specs.declared.letter.Number.TheVariants.{Place, Score, Attachments, Bytes}
+use Rattle.patterns_match.specs.declared.letter.Number.TheVariants.{Place, Score, Attachments}
+use Rattle.patterns_match.specs.declared.letter.Number.TheVariants.{Bytes}
 use Rattle.patterns.specs.declared.range_text.Measure.{Measure}
 use Rattle.patterns.specs.declared.range_text.Measure.TheVariants.{Count, Size}
 use Rattle.patterns_match.specs.declared.relation.Relation.{Relation}

@@ -53,7 +53,8 @@ pub none_related : (listing : List Message) (relation : Relation) (place : ℕ) 
     → None ≡ slice_get listing place → some_related listing relation place test ≡ false
 none_related listing relation place test e =
     range_none (λ k. are_related listing relation place k && test k) (length listing)
-    (λ k within. ap (λ o. passes (λ m. passes (is_related relation place m k) (slice_get listing k)) o
+    (λ k within. ap
+    (λ o. passes (λ m. passes (is_related relation place m k) (slice_get listing k)) o
     && test k) (sym e))
 
 -- one that was found
@@ -64,7 +65,8 @@ pub one_related : (listing : List Message) (relation : Relation) (place : ℕ) (
     → some_related listing relation place test ≡ true
 one_related listing relation place test m k e within related passed =
     range_at (λ j. are_related listing relation place j && test j) (length listing) k within
-    (ap (λ o. passes (λ n. passes (is_related relation place n k) (slice_get listing k)) o && test k)
+    (ap (λ o. passes (λ n. passes (is_related relation place n k) (slice_get listing k)) o
+    && test k)
     (sym e) ∙ ap (λ b. b && test k) related ∙ passed)
 
 -- or none of all

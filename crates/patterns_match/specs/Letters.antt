@@ -5,13 +5,16 @@ use Rattle.patterns_match.specs.declared.letter.Letter.{Letter}
 use Rattle.patterns_match.specs.declared.letter.Letter.TheVariants.{Tells, Searches, Dated, Counts}
 use Rattle.patterns_match.specs.declared.letter.Mark.TheVariants.{All, Deleted, Flagged, New, Old}
 use Rattle.patterns_match.specs.declared.letter.Mark.TheVariants.{Replied, Read, Tagged, Unread}
-use Rattle.patterns_match.specs.declared.letter.Mark.TheVariants.{KnownList, Subscribed, ToMe, FromMe}
-use Rattle.patterns_match.specs.declared.letter.Mark.TheVariants.{Collapsed, Duplicate, Childless}
-use Rattle.patterns_match.specs.declared.letter.Field.TheVariants.{Body, Whole, Header, Cc, Recipients}
-use Rattle.patterns_match.specs.declared.letter.Field.TheVariants.{To, From, Sender, Anyone, Id, Subject}
-use Rattle.patterns_match.specs.declared.letter.Field.TheVariants.{References, Label, ContentType}
+use Rattle.patterns_match.specs.declared.letter.Mark.TheVariants.{KnownList, Subscribed, ToMe}
+use Rattle.patterns_match.specs.declared.letter.Mark.TheVariants.{FromMe, Collapsed, Duplicate}
+use Rattle.patterns_match.specs.declared.letter.Mark.TheVariants.{Childless}
+use Rattle.patterns_match.specs.declared.letter.Field.TheVariants.{Body, Whole, Header, Cc}
+use Rattle.patterns_match.specs.declared.letter.Field.TheVariants.{Recipients, To, From, Sender}
+use Rattle.patterns_match.specs.declared.letter.Field.TheVariants.{Anyone, Id, Subject, References}
+use Rattle.patterns_match.specs.declared.letter.Field.TheVariants.{Label, ContentType}
 use Rattle.patterns_match.specs.declared.letter.Day.TheVariants.{Sent, Received}
-use Rattle.patterns_match.specs.declared.letter.Number.TheVariants.{Place, Score, Attachments, Bytes}
+use Rattle.patterns_match.specs.declared.letter.Number.TheVariants.{Place, Score, Attachments}
+use Rattle.patterns_match.specs.declared.letter.Number.TheVariants.{Bytes}
 
 -- a letter, and what it stands for
 pub record Row : Type 0 where

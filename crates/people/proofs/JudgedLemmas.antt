@@ -19,8 +19,8 @@ use Rattle.regex.specs.declared.string.regex.Regex.{Regex}
 use Rattle.people.specs.Answer.{Tells}
 use Rattle.people.specs.Cause.{has_risen, is_caused, is_readable}
 use Rattle.people.specs.Expr.{IsBuilt, is_folded, is_literal}
-use Rattle.people.specs.Judged.{AreDistinct, IsCaused, PlainJudged, Reads, is_answered, is_refused, judged_of}
-use Rattle.people.specs.Judged.{plain_judged, verdict_of, verdict_on, with_verdict}
+use Rattle.people.specs.Judged.{AreDistinct, IsCaused, PlainJudged, Reads, is_answered, is_refused}
+use Rattle.people.specs.Judged.{judged_of, plain_judged, verdict_of, verdict_on, with_verdict}
 use Rattle.people.specs.declared.answer.Answer.{Answer}
 use Rattle.people.specs.declared.error.ExprError.{ExprError}
 use Rattle.people.specs.declared.error.ExprError.TheVariants as error
@@ -32,7 +32,8 @@ use Rattle.people.proofs.PatternLemmas.{built_pattern}
 -- each verdict of a list has its cause
 pub all_caused : (list : List Judged) → All IsCaused (map plain_judged list)
 all_caused [] = All-nil IsCaused
-all_caused (j ∷ list) = All-cons IsCaused (plain_judged j) (map plain_judged list) j.cause (all_caused list)
+all_caused (j ∷ list) =
+    All-cons IsCaused (plain_judged j) (map plain_judged list) j.cause (all_caused list)
 
 -- what is judged from a place on
 abbrev pub judged_from : List Judged → ℕ → List ℕ → Option PlainJudged

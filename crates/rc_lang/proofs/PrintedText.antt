@@ -76,7 +76,8 @@ passes_all p name t bare free ends =
 
 -- the two words
 words_read : (b : ℕ) (name t : List ℕ)
-    → joined_words (words_from [] (set_signs (b ∷ name) t)) ≡ set_word ∷ assigned_signs (b ∷ name) t ∷ []
+    → joined_words (words_from [] (set_signs (b ∷ name) t)) ≡ set_word ∷ assigned_signs (b ∷ name) t
+    ∷ []
 words_read b name t =
     ap (λ ws. joined_words (set_word ∷ ws))
     (one_word [] (assigned_signs (b ∷ name) t)
@@ -103,13 +104,15 @@ line_read : (name t : List ℕ) → is_good_name name ≡ true → list_all need
     ≡ one_line (with_text (codes "set") [] ∷ with_text (name ++ 61 ∷ t) [] ∷ [])
 line_read [] t good free = cc
 line_read (b ∷ name) t good free =
-    let parts = and_parts (list_all is_bare (b ∷ name)) (list_all (λ x. not (x == 36)) (b ∷ name)) good in
+    let parts =
+    and_parts (list_all is_bare (b ∷ name)) (list_all (λ x. not (x == 36)) (b ∷ name)) good in
     ap (λ s. filter_map command_line (commands_from [] s)) (signs_read (b ∷ name) t parts.0 free)
     ∙ ap (filter_map command_line)
     (one_command [] (set_signs (b ∷ name) t)
     (passes_all is_no_end (b ∷ name) t (λ x. refl) (λ x. refl) refl))
     ∙ ap (λ ws. one_line (map pieces_of ws)) (words_read b name t)
-    ∙ ap (λ p. one_line (with_text (codes "set") [] ∷ p ∷ [])) (pieces_read (b ∷ name) t parts.1 free)
+    ∙ ap (λ p. one_line (with_text (codes "set") [] ∷ p ∷ []))
+    (pieces_read (b ∷ name) t parts.1 free)
 
 ascii_utf8 : (s : List ℕ) → list_all (λ b. ltb b 128) s ≡ true → IsUtf8 s
 ascii_utf8 [] all = IsUtf8-from_ascii [] IsAscii-nil

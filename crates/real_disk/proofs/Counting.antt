@@ -12,11 +12,20 @@ use Rattle.disk_model.specs.declared.answers.DiskError.TheVariants.{Fault}
 use Rattle.disk_model.specs.declared.answers.FileRead.{FileRead}
 use Rattle.real_disk.specs.Real.{Tally, untold}
 
-pub makes_step : {A : Type 0} {result : Result A DiskError} {call : Call} {wanted : List TreeNode → Result A DiskError}
-    {bytes : ℕ} {old new : Tally} → Counted result (untold old) (untold new) → IfErr result (IsErrorOf call)
+pub makes_step : {A : Type 0} {result : Result A DiskError} {call : Call}
+    {wanted : List TreeNode → Result A DiskError}
+    {bytes : ℕ} {old new : Tally} → Counted result (untold old) (untold new)
+    → IfErr result (IsErrorOf call)
     → MakesStep result call wanted bytes (untold old) (untold new)
 makes_step {result} {call} {wanted} {bytes} {old} {new} counts errors =
-    record { called = record { goes = refl }; grows = refl; counts = counts; reads = refl; errors = errors }
+    record {
+      called = record { goes = refl };
+      grows = refl;
+      counts = counts;
+      reads = refl;
+      errors =
+          errors;
+    }
 
 -- The same of answers that are told as plain values.
 
@@ -26,12 +35,19 @@ no_fault value e = cc
 counts_ok : {A B : Type 0} (given : A) (plain : B) (old new : Seen) → Counted (Ok given) old new
     → Counted (Ok plain) old new
 counts_ok given plain old new counts =
-    record { marks = counts.marks; faults = counts.faults; cause = λ no. absurd (no_fault plain no) }
+    record {
+      marks = counts.marks;
+      faults = counts.faults;
+      cause =
+          λ no. absurd (no_fault plain no);
+    }
 
-fault_of : {B : Type 0} (why : DiskError) → ◌≡◌ {A = Result B DiskError} (Err why) (Err Fault) → why ≡ Fault
+fault_of : {B : Type 0} (why : DiskError) → ◌≡◌ {A = Result B DiskError} (Err why) (Err Fault)
+    → why ≡ Fault
 fault_of why e = cc
 
-err_of : {A : Type 0} (why : DiskError) → why ≡ Fault → ◌≡◌ {A = Result A DiskError} (Err why) (Err Fault)
+err_of : {A : Type 0} (why : DiskError) → why ≡ Fault
+    → ◌≡◌ {A = Result A DiskError} (Err why) (Err Fault)
 err_of why e = cc
 
 counts_err : {A B : Type 0} (why : DiskError) (old new : Seen) → Counted {A = A} (Err why) old new

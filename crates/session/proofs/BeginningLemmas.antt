@@ -144,7 +144,8 @@ fails_early Has given first moment notes events before now none keeps off = reco
 
 -- A folder was looked for.
 module _ {kept : List PlainJudged} (Has : Kind → Type 0) (given : Given) (letters : List Mail)
-    (mails : given.mails ≡ letters) (keeps : Keeps kept given.verdicts) (first s : State) (moment : ℤ)
+    (mails : given.mails ≡ letters) (keeps : Keeps kept given.verdicts) (first s : State)
+    (moment : ℤ)
     (events mid events' : List Happening) (event : Happening) (before now next : Seen)
     (same : mid ≡ events) (puts : events' ≡ mid ++ event ∷ []) (stage : s.turn.stage ≡ Unopened)
     (read : s.turn.core.frames ≡ [])

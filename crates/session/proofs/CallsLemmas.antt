@@ -37,7 +37,8 @@ use Rattle.session.proofs.StepsLemmas.{key_told, pushed_settles, run_same, stand
 use Rattle.session.proofs.StepsLemmas.{told_same}
 use Rattle.session.proofs.TellingLemmas.{file_is, reads_none, reads_then}
 
-same_letters : {X : Type 0} {Is : X → Type 0} (was now : Trace X Is) → now.archive ≡ was.archive → letters_in now ≡ letters_in was
+same_letters : {X : Type 0} {Is : X → Type 0} (was now : Trace X Is) → now.archive ≡ was.archive
+    → letters_in now ≡ letters_in was
 same_letters {X} {Is} was now same = ap (λ (a : Held Letter). map plain_letter a.items) same
 
 -- Files of commands.
@@ -77,7 +78,8 @@ file_leaves mails old new (FolderOpened path kind moment came marks) is left = a
 file_leaves mails old new (FolderRefused path why marks) is left = absurd is
 
 -- one was looked for
-module _ {X : Type 0} {Is : X → Type 0} (old new : Session) (was now : Trace X Is) (event : Happening) (before after : Seen)
+module _ {X : Type 0} {Is : X → Type 0} (old new : Session) (was now : Trace X Is)
+    (event : Happening) (before after : Seen)
     (put : events_in now ≡ events_in was ++ event ∷ []) (tells : TellsFile event before after)
     (wished : (moment : ℤ) → wish (state_in old was) moment ≡ answered event) where
   pub file_read : new.window ≡ old.window → now.archive ≡ was.archive
@@ -181,11 +183,13 @@ module _ {X : Type 0} {Is : X → Type 0} (Has : Kind → Type 0) (old mid : Ses
         (reads : Reads mid new then now before after) where
       stood : (given : Given) → IsGivenIn now given → (first : State)
           → Waits given first (events_in was) (state_in old was)
-          → Stands given first (events_in then) (state_in mid then) (shown given (state_in mid then))
+          → Stands given first (events_in then) (state_in mid then)
+          (shown given (state_in mid then))
       stood given is first waits =
           waits_then given first (state_in old was) (state_in mid then) (events_in then)
           (acts given (keeps_more (same_letters then now reads.archive) reads.kept is))
-          (subst (λ (l : List Happening). Waits given first l (state_in old was)) (sym events) waits)
+          (subst (λ (l : List Happening). Waits given first l (state_in old was)) (sym events)
+          waits)
 
       pub pushes : Pushes Has old was now before after
       pushes = record {

@@ -302,13 +302,15 @@ shorter wanted map begun (key ∷ keys) =
     (reached map Index (begun ++ key ∷ []) keys) (shorter wanted map (begun ++ key ∷ []) keys)
 
 -- behind this answer less is to be done than before it
-pub record IsLess (wanted : PlainWanted) (left replaced : ℕ) (keys : List Key) (p : Pressed) : Type 0
+pub record IsLess (wanted : PlainWanted) (left replaced : ℕ) (keys : List Key) (p : Pressed) : Type
+    0
   where
     pub within : p.replaced ≤ left + replaced
     pub less : stage_after p.press wanted ≡ None
         → ((p.replaced ≡ replaced) × (length p.waiting < length keys)) ⊎ (replaced < p.replaced)
 
-less_answer : (wanted : PlainWanted) (left replaced : ℕ) (keys begun waiting : List Key) (press : Press)
+less_answer : (wanted : PlainWanted) (left replaced : ℕ) (keys begun waiting : List Key)
+    (press : Press)
     → IsShorter wanted (length keys) (Answered press begun waiting)
     → IsLess wanted left replaced keys
     (record { press = press; begun = begun; waiting = waiting; replaced = replaced })

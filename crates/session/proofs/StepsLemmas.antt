@@ -25,8 +25,8 @@ use Rattle.session.specs.Runs.{wish_at, with_core}
 use Rattle.mail_base.specs.declared.kind.Kind.{Kind}
 use Rattle.disk_model.specs.Seen.{Seen}
 use Rattle.session.specs.Starting.{PlainSetup, first_state}
-use Rattle.session.specs.Steps.{AddsFiles, GoesOn, IsLent, IsSettled, IsTaken, PressesKey, ReadsFiles}
-use Rattle.session.specs.Steps.{Sources, SourcesOff, Stands, StaysTold}
+use Rattle.session.specs.Steps.{AddsFiles, GoesOn, IsLent, IsSettled, IsTaken, PressesKey}
+use Rattle.session.specs.Steps.{ReadsFiles, Sources, SourcesOff, Stands, StaysTold}
 use Rattle.session.specs.Telling.{Driverless, Witnessed}
 use Rattle.session_events.specs.Telling.{HasFileCause, TellsFile}
 use Rattle.session.proofs.GivenLemmas.{given_here, keeps_then}
@@ -473,7 +473,8 @@ module _ (s : State) (events events' : List Happening)
   file_reads = record { files = event ∷ []; added = put; each = (next, tells, refl) }
 
   -- what arrives by the letters of the call arrives by what is lent
-  lent_by : {mails : List Mail} {kept : List PlainJudged} (stage : Stage) → s.turn.stage ≡ stage → (given : Given)
+  lent_by : {mails : List Mail} {kept : List PlainJudged} (stage : Stage) → s.turn.stage ≡ stage
+      → (given : Given)
       → IsLent stage mails kept given → (t : State)
       → ((other : Given) → IsGiven mails kept other → t ≡ arrived other s event)
       → t ≡ arrived given s event

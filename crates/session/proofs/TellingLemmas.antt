@@ -14,8 +14,8 @@ use Rattle.disk_model.proofs.Looking.{looks_same, looks_then}
 use Rattle.folder_core.specs.Letters.{Mail}
 use Rattle.keymap.specs.declared.key.Key.{Key}
 use Rattle.session_events.specs.declared.event.Marks.{Marks}
-use Rattle.session_events.specs.Events.{AreFiles, Happening, FileRead, FileRefused, IsFile, KeyPressed}
-use Rattle.session_events.specs.Events.{FolderOpened, FolderRefused}
+use Rattle.session_events.specs.Events.{AreFiles, Happening, FileRead, FileRefused, IsFile}
+use Rattle.session_events.specs.Events.{KeyPressed, FolderOpened, FolderRefused}
 use Rattle.session_events.specs.Happened.{AllCounted, Counts, Happened, IsCounted}
 use Rattle.session.specs.Telling.{AllHappened}
 use Rattle.session_events.specs.Happened.{IsTrueAt, counts_after, counts_at, counts_of, marks_of}

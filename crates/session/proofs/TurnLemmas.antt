@@ -40,7 +40,8 @@ module _ (g : Ground) (core next : CoreState) (rules : PlainRules) (queue queue'
     (is : IsPressed press core.rules rules queue queue')
     (acts : next ≡ acted g press (record core { rules = rules })) where
   core_is : with_begun rules.keymap.begun core ≡ record core { rules = rules }
-  core_is = ap (λ (r : PlainRules). let c : CoreState = record core { rules = r } in c) (sym is.same)
+  core_is =
+      ap (λ (r : PlainRules). let c : CoreState = record core { rules = r } in c) (sym is.same)
 
   settled_is : settled g core queue
       ≡ stop_by (stage_after press next.desk.wanted) queue'.replaced queue'.items
@@ -52,11 +53,13 @@ module _ (g : Ground) (core next : CoreState) (rules : PlainRules) (queue queue'
       ∙ ap (λ (p : Pressed). by_pressed g 1024 p core) (sym is.outcome)
       ∙ ap (λ (c : CoreState). behind g press queue'.replaced queue'.items
       (run_keys g (1024 - queue'.replaced) queue'.replaced queue'.items) c) core_is
-      ∙ ap (λ (c : CoreState). stop_by (stage_after press c.desk.wanted) queue'.replaced queue'.items
+      ∙ ap (λ (c : CoreState). stop_by (stage_after press c.desk.wanted) queue'.replaced
+      queue'.items
       (run_keys g (1024 - queue'.replaced) queue'.replaced queue'.items) c) (sym acts)
 
   -- the keys stop
-  stops_at : (stage : Stage) (last : CoreState) → stage_after press next.desk.wanted ≡ Some stage → last
+  stops_at : (stage : Stage) (last : CoreState) → stage_after press next.desk.wanted ≡ Some stage
+      → last
       ≡ granted next
       → turn_of stage last queue' ≡ settled g core queue
   stops_at stage last stops grants =

@@ -43,20 +43,23 @@ Becomes mails kept act old new = (given : Given) → IsGiven mails kept given
     → (notes : Held (Held ℕ)) → plain_session new notes ≡ act given (plain_session old notes)
 
 -- The event is the last of the trace.
-pub record Happens {X : Type 0} {Is : X → Type 0} (event : Happening) (old new : Session) (was now : Trace X Is) : Type 0 where
+pub record Happens {X : Type 0} {Is : X → Type 0} (event : Happening) (old new : Session)
+    (was now : Trace X Is) : Type 0 where
   pub events : events_in now ≡ events_in was ++ event ∷ []
   pub window : new.window ≡ old.window
   pub archive : now.archive ≡ was.archive
   pub kept : Keeps was.verdicts.kept now.verdicts.kept
 
 -- The session took it in.
-pub record TakesIn {X : Type 0} {Is : X → Type 0} (event : Happening) (old new : Session) (was now : Trace X Is) : Type 0 where
+pub record TakesIn {X : Type 0} {Is : X → Type 0} (event : Happening) (old new : Session)
+    (was now : Trace X Is) : Type 0 where
   pub arrived_is : (given : Given) → IsGivenIn now given
       → state_in new now ≡ arrived given (state_in old was) event
   pub left : IsLeft (letters_in now) old new event
 
 -- Files of commands were read, as far as memory went.
-pub record Reads {X : Type 0} {Is : X → Type 0} (old new : Session) (was now : Trace X Is) (before after : Seen) : Type 0 where
+pub record Reads {X : Type 0} {Is : X → Type 0} (old new : Session) (was now : Trace X Is)
+    (before after : Seen) : Type 0 where
   pub on : (given : Given) → IsLent old.stage (letters_in now) now.verdicts.kept given
       → (first : State) → (screens : List (List (List ℕ)))
       → Stands given first (events_in was) (state_in old was)
@@ -68,7 +71,8 @@ pub record Reads {X : Type 0} {Is : X → Type 0} (old new : Session) (was now :
   pub kept : Keeps was.verdicts.kept now.verdicts.kept
 
 -- Memory sufficed for them.
-pub record ReadsWhole {X : Type 0} {Is : X → Type 0} (old new : Session) (was now : Trace X Is) : Type 0 where
+pub record ReadsWhole {X : Type 0} {Is : X → Type 0} (old new : Session)
+    (was now : Trace X Is) : Type 0 where
   pub to : (given : Given) → IsLent old.stage (letters_in now) now.verdicts.kept given
       → (first : State) → after_events given first (events_in was) ≡ state_in old was
       → after_events given first (events_in now) ≡ state_in new now
@@ -86,7 +90,8 @@ pub record IsUnopened (session : Session) : Type 0 where
   pub fits : CanRead session
 
 -- The same, with what the files came to.
-pub record IsSourced {X : Type 0} {Is : X → Type 0} (first : State) (session : Session) (trace : Trace X Is) (before now : Seen)
+pub record IsSourced {X : Type 0} {Is : X → Type 0} (first : State) (session : Session)
+    (trace : Trace X Is) (before now : Seen)
     : Type 0 where
   pub sources : Sources trace.verdicts.kept first (events_in trace) (state_in session trace)
       before now
@@ -105,7 +110,8 @@ FailsIn Has first moment why trace before now = (given : Given) → IsGivenIn tr
 
 -- The keys have acted that commands had put, and files were read that they came to, as far as
 -- memory went.
-pub record Pushes {X : Type 0} {Is : X → Type 0} (Has : Kind → Type 0) (old : Session) (was now : Trace X Is) (before after : Seen)
+pub record Pushes {X : Type 0} {Is : X → Type 0} (Has : Kind → Type 0) (old : Session)
+    (was now : Trace X Is) (before after : Seen)
     : Type 0 where
   pub on : (given : Given) → IsGivenIn now given → (first : State)
       → Waits given first (events_in was) (state_in old was)
@@ -116,7 +122,8 @@ pub record Pushes {X : Type 0} {Is : X → Type 0} (Has : Kind → Type 0) (old 
   pub kept : Keeps was.verdicts.kept now.verdicts.kept
 
 -- Memory sufficed for them.
-pub record PushesWhole {X : Type 0} {Is : X → Type 0} (old new : Session) (was now : Trace X Is) (next : Next) : Type 0 where
+pub record PushesWhole {X : Type 0} {Is : X → Type 0} (old new : Session) (was now : Trace X Is)
+    (next : Next) : Type 0 where
   pub to : (given : Given) → IsGivenIn now given → (first : State)
       → Waits given first (events_in was) (state_in old was)
       → after_events given first (events_in now) ≡ state_in new now
@@ -133,7 +140,8 @@ GoesOnTaken old was now = (given : Given) → IsGivenIn now given → (first : S
 
 -- A key has acted, and files were read that it came to, as far as memory went. Where there was room
 -- for its event, a key is told even where memory runs out.
-pub record Presses {X : Type 0} {Is : X → Type 0} (Has : Kind → Type 0) (key : Key) (moment : ℤ) (old : Session)
+pub record Presses {X : Type 0} {Is : X → Type 0} (Has : Kind → Type 0) (key : Key) (moment : ℤ)
+    (old : Session)
     (was now : Trace X Is) (before after : Seen) : Type 0 where
   pub run : (given : Given) → IsGivenIn now given → (first : State)
       → (screens : List (List (List ℕ)))
@@ -146,7 +154,8 @@ pub record Presses {X : Type 0} {Is : X → Type 0} (Has : Kind → Type 0) (key
   pub kept : Keeps was.verdicts.kept now.verdicts.kept
 
 -- Memory sufficed for it.
-pub record PressesWhole {X : Type 0} {Is : X → Type 0} (key : Key) (moment : ℤ) (old new : Session) (was now : Trace X Is)
+pub record PressesWhole {X : Type 0} {Is : X → Type 0} (key : Key) (moment : ℤ) (old new : Session)
+    (was now : Trace X Is)
     (next : Next) : Type 0 where
   pub on : GoesOnTaken old was now
   pub pressed : PressesKey key moment (events_in was) (events_in now)

@@ -12,7 +12,8 @@ use Rattle.session_state.specs.Instants.{IsMoment}
 use Rattle.session_state.specs.declared.stage.Stage.TheVariants.{Unopened}
 use Rattle.session.specs.declared.session_type.Session.{Session}
 
--- the screen has room for a page, the calendar has the moment at which commands run and keys act, and
+-- the screen has room for a page, the calendar has the moment at which commands run and keys act,
+-- and
 -- of the keys that wait not too many were replaced
 pub record CanRead (session : Session) : Type 0 where
   pub window : IsWindow session.window

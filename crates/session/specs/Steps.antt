@@ -45,7 +45,8 @@ abbrev pub IsNext : Next → Stage → Type 0
 IsNext Go stage = stage ≡ Idle
 IsNext Quit stage = stage ≡ Over
 
--- The events are a run, which shows these screens and then, if it shows one, the state to which they
+-- The events are a run, which shows these screens and then, if it shows one, the state to which
+-- they
 -- lead; so many notes stood before.
 pub record GoesOn (given : Given) (first : State) (events : List Happening)
     (screens : List (List (List ℕ))) (notes : List (List ℕ)) : Type 0 where
@@ -113,7 +114,8 @@ IsSettled Ready frames = ⊥
 IsSettled Reading frames = frames ≢ []
 IsSettled Over frames = Unit {0}
 
--- Files of commands were read before a folder is open: the events are a run up to this state, no screen
+-- Files of commands were read before a folder is open: the events are a run up to this state, no
+-- screen
 -- was shown, and what they say of the disk is true, for every list that keeps these verdicts.
 pub record Sources (kept : List PlainJudged) (first : State) (events : List Happening)
     (state : State) (before now : Seen) : Type 0 where

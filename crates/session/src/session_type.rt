@@ -54,7 +54,8 @@ impl Session {
     ghost use Rattle.session.specs.Core.{IsEmpty, plain_core};
     ghost use Rattle.session_screen.specs.Window.{IsWindow};
     ghost use Rattle.session_state.specs.Instants.{IsMoment};
-    ghost use Rattle.session.specs.Fitting.{CanRead, CanTake, Fits, IsLeft, IsReadIn, StaysUnopened};
+    ghost use Rattle.session.specs.Fitting.{CanRead, CanTake, Fits, IsLeft, IsReadIn};
+    ghost use Rattle.session.specs.Fitting.{StaysUnopened};
     ghost use Rattle.session.specs.Given.{Given, IsGiven};
     ghost use Rattle.session.specs.Steps.{IsFileless};
     ghost use Rattle.session_state.specs.Frames.{plain_frames};
@@ -63,7 +64,7 @@ impl Session {
     ghost use Rattle.session.specs.Runs as spec;
 
     /// Takes in what happened. Keys that commands have put still wait behind an opening.
-    pub fn take(
+    pub(crate) fn take(
         &mut self,
         archive: &Archive,
         verdicts: &mut Verdicts,
@@ -110,7 +111,7 @@ impl Session {
     }
 
     /// Puts what happened into the trace, and takes it in.
-    pub fn happen(&mut self, event: Event, trace: &mut Trace) -> Result<(), NoMemory>
+    pub(crate) fn happen(&mut self, event: Event, trace: &mut Trace) -> Result<(), NoMemory>
         requires room { 0 < trace.old.events.room }
         requires read { CanRead self.old }
         requires fits { CanTake (letters_in trace.old) self.old.core.desk.view (plain_event event) }
@@ -125,7 +126,7 @@ impl Session {
     }
 
     /// The file of commands that is wished.
-    pub fn wished_file(&self) -> Option<&Line>
+    pub(crate) fn wished_file(&self) -> Option<&Line>
         ensures { MatchOption result (IsFileless self.now.stage (plain_frames self.now.core.frames))
             (λ file. (notes : Held (Held ℕ)) → (moment : ℤ)
             → spec.wish (spec.plain_session self.now notes) moment
@@ -245,7 +246,7 @@ impl Session {
     }
 
     /// A key was taken: the message line is empty.
-    pub fn take_key(&mut self)
+    pub(crate) fn take_key(&mut self)
         ensures taken { (notes : Held (Held ℕ)) → spec.plain_session self.new notes
             ≡ spec.taken (spec.plain_session self.old notes) }
         ensures rest { IsReadIn self.old self.new }
@@ -322,7 +323,11 @@ impl Session {
     }
 
     /// Lets the keys act that commands have put, at the moment of the opening.
-    pub fn push_keys(&mut self, archive: &Archive, verdicts: &mut Verdicts) -> Result<(), NoMemory>
+    pub(crate) fn push_keys(
+        &mut self,
+        archive: &Archive,
+        verdicts: &mut Verdicts,
+    ) -> Result<(), NoMemory>
         requires { Fits (map plain_letter archive.now.items) self.old }
         ensures pushed { OnOk result (Becomes (map plain_letter archive.now.items) verdicts.new.kept
             spec.pushed self.old self.new) }

@@ -20,7 +20,7 @@ impl Session {
     ghost use Rattle.session_state.specs.Frames.{plain_frames};
 
     /// Reads the file of commands that is wished, if there is one, and tells what happened.
-    pub fn source(&self, dev: &mut Device) -> Result<Option<Event>, NoMemory>
+    pub(crate) fn source(&self, dev: &mut Device) -> Result<Option<Event>, NoMemory>
         ensures ok { IfOk result (λ sourced. MatchOption sourced
             (IsFileless self.now.stage (plain_frames self.now.core.frames))
             (λ event. TellsFile (plain_event event) (seen (dev.old.disk.vtable, dev.old.disk.value))
@@ -39,7 +39,7 @@ impl Session {
     }
 
     /// Reads all files of commands that are wished, each with those that it names.
-    pub fn source_all(&mut self, dev: &mut Device, trace: &mut Trace) -> Result<(), NoMemory>
+    pub(crate) fn source_all(&mut self, dev: &mut Device, trace: &mut Trace) -> Result<(), NoMemory>
         requires { Fits (letters_in trace.old) self.old }
         ensures reads { Reads self.old self.new trace.old trace.new
             (seen (dev.old.disk.vtable, dev.old.disk.value))

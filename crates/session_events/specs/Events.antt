@@ -5,8 +5,8 @@ use Rattle.disk_model.specs.declared.answers.DiskError.{DiskError}
 use Rattle.folder_core.specs.declared.listing.Listed.{Listed}
 use Rattle.keymap.specs.declared.key.Key.{Key}
 use Rattle.session_events.specs.declared.event.Event.{Event}
-use Rattle.session_events.specs.declared.event.Event.TheVariants.{Sourced, NotSourced, Pressed, Opened}
-use Rattle.session_events.specs.declared.event.Event.TheVariants.{NotOpened}
+use Rattle.session_events.specs.declared.event.Event.TheVariants.{Sourced, NotSourced, Pressed}
+use Rattle.session_events.specs.declared.event.Event.TheVariants.{Opened, NotOpened}
 use Rattle.session_events.specs.declared.event.Marks.{Marks}
 use Rattle.session_events.specs.declared.event.OpenFault.{OpenFault}
 

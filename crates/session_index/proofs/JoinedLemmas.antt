@@ -145,7 +145,8 @@ module _ (mails : List Mail) where
   one_order items more apart moved sorted = same_lists more apart more
       (in_order_by (is_listed_before mails) items) (every_all (λ i. IsIn i more) more (all_in more))
       (every_order (λ i. IsIn i more) (is_listed_before mails) items
-      (every_all (λ i. IsIn i more) items (All-permutation (λ i. IsIn i more) more items (IsPermutation-sym items more moved)
+      (every_all (λ i. IsIn i more) items
+      (All-permutation (λ i. IsIn i more) more items (IsPermutation-sym items more moved)
       (all_in more)))) same
     where
       same : numbers more ≡ numbers (in_order_by (is_listed_before mails) items)

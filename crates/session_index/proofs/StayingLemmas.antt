@@ -1,7 +1,7 @@
 -- A pattern that looks at no flag tells the same of messages that differ in flags alone.
-use Rattle.std.proofs.Common.{◌≡◌, ◌∙◌, ◌+ℤ◌, ◌&&◌, ◌||◌, ◌∷◌, [], ℕ, zero, suc, ℤ, pos, Bool, true, List}
-use Rattle.std.proofs.Common.{Option, None, Some, ap, length, map, not, option_map, refl, slice_get}
-use Rattle.std.proofs.Common.{sym}
+use Rattle.std.proofs.Common.{◌≡◌, ◌∙◌, ◌+ℤ◌, ◌&&◌, ◌||◌, ◌∷◌, [], ℕ, zero, suc, ℤ, pos, Bool, true}
+use Rattle.std.proofs.Common.{List, Option, None, Some, ap, length, map, not, option_map, refl}
+use Rattle.std.proofs.Common.{slice_get, sym}
 use Rattle.std.proofs.lemmas.Bool.{and_parts}
 use Rattle.std.proofs.lemmas.List.{length-map}
 use Rattle.std.specs.Prelude.{if◌then◌else◌}
@@ -10,7 +10,8 @@ use Rattle.people.specs.People.{PlainPeople}
 use Rattle.patterns_match.specs.Listings.{Message, texts_of}
 use Rattle.patterns_match.specs.Ranges.{holds}
 use Rattle.patterns_match.specs.Satisfies.{are_related, asks, dated, has_child, is_place}
-use Rattle.patterns_match.specs.Satisfies.{is_related, number_of, passes, satisfies, tells, text_found}
+use Rattle.patterns_match.specs.Satisfies.{is_related, number_of, passes, satisfies, tells}
+use Rattle.patterns_match.specs.Satisfies.{text_found}
 use Rattle.patterns_match.specs.Scores.{PlainEntry, counts, not_negative, score, total}
 use Rattle.patterns_match.specs.Trees.{Days, Leaf, Tells, Searches, Dated, Counts}
 use Rattle.patterns_match.specs.Trees.{Tree, Asks, Not, And, Or, Group, Related}

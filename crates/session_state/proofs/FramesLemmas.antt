@@ -21,11 +21,13 @@ module _ (time : Instant) (verdicts : List PlainJudged) (line : PlainLine) (line
       ≡ file_run time verdicts place (line ∷ lines) old told
   file_step place told came is =
       ap (behind_line place line.line lines (file_run time verdicts place lines) new told) is
-      ∙ ap (λ (r : Ran). behind_line place line.line lines (file_run time verdicts place lines) r.rules
+      ∙ ap (λ (r : Ran). behind_line place line.line lines (file_run time verdicts place lines)
+      r.rules
       told (judged place.depth r.answer)) ran
 
 -- a file was run up to here
-pub frames_step : (time : Instant) (verdicts : List PlainJudged) (frame : PlainFrame) (lines : List PlainLine)
+pub frames_step : (time : Instant) (verdicts : List PlainJudged) (frame : PlainFrame)
+    (lines : List PlainLine)
     (frames : List PlainFrame) (old : PlainRules) (told : PlainTold) (half : Half)
     → half ≡ file_run time verdicts frame.place lines old told → frame.left ≡ Some lines
     → with_half frame.place frames (frames_run time verdicts frames) half

@@ -53,7 +53,8 @@ terms_put (And a b) terms trees =
     ap (λ (ts : List Term). put_terms ts trees)
     (append_assoc (terms_of a) (terms_of b ++ Both ∷ []) terms)
     ∙ terms_put a ((terms_of b ++ Both ∷ []) ++ terms) trees
-    ∙ ap (λ (ts : List Term). put_terms ts (a ∷ trees)) (append_assoc (terms_of b) (Both ∷ []) terms)
+    ∙ ap (λ (ts : List Term). put_terms ts (a ∷ trees))
+    (append_assoc (terms_of b) (Both ∷ []) terms)
     ∙ terms_put b (Both ∷ terms) (a ∷ trees)
 terms_put (Or a b) terms trees =
     ap (λ (ts : List Term). put_terms ts trees)
@@ -71,7 +72,8 @@ terms_put (Related relation tree) terms trees =
     ∙ terms_put tree (Relating relation ∷ terms) trees
 
 pub tree_back : (tree : Tree) → tree_from (terms_of tree) ≡ tree
-tree_back tree = ap first_tree (ap (λ (ts : List Term). put_terms ts []) (sym (append-nil (terms_of tree)))
+tree_back tree =
+    ap first_tree (ap (λ (ts : List Term). put_terms ts []) (sym (append-nil (terms_of tree)))
     ∙ terms_put tree [] [])
 
 abbrev pub tree_code : Coded Term → Coded Tree

@@ -271,7 +271,8 @@ obeyed time verdicts Macro words rules = replaced_by (macro_of words) rules
 obeyed time verdicts Push words rules = put_by (text_of (word_at words 1)) rules
 obeyed time verdicts Exec words rules = put_by (calls_of (drop 1 words)) rules
 obeyed time verdicts Source words rules = sourcing (word_at words 1) rules
-obeyed time verdicts Lists words rules = told_by (people_of verdicts table.Lists (drop 1 words)) rules
+obeyed time verdicts Lists words rules =
+    told_by (people_of verdicts table.Lists (drop 1 words)) rules
 obeyed time verdicts Subscribe words rules =
     told_by (people_of verdicts table.Subscribed (drop 1 words)) rules
 obeyed time verdicts Alternates words rules =
@@ -295,7 +296,8 @@ obeyed_command time verdicts words rules (Err fault) = refused fault rules
 
 -- a command by its words as they are written
 unfoldable pub ran : Instant → List PlainJudged → List (List PlainPiece) → PlainRules → Ran
-ran time verdicts words rules = obeyed_command time verdicts words rules (command_of rules.settings words)
+ran time verdicts words rules =
+    obeyed_command time verdicts words rules (command_of rules.settings words)
 
 -- For the code alone.
 

@@ -23,7 +23,8 @@ use Rattle.session_state.specs.declared.instant.Instant.{Instant}
 abbrev pub is_civil : ℤ → ℕ → ℕ → Bool
 is_civil year month day =
     (int_le (neg_ℤ (pos 9999)) year && int_le year (pos 9999))
-    && ((nat_le 1 month && nat_le month 12) && (nat_le 1 day && nat_le day (days_in_month year month)))
+    && ((nat_le 1 month && nat_le month 12)
+    && (nat_le 1 day && nat_le day (days_in_month year month)))
 
 abbrev pub civil_holds : (year : ℤ) (month day : ℕ) → is_civil year month day ≡ true
     → IsCivilDate year month day

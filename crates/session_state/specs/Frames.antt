@@ -17,7 +17,8 @@ use Rattle.session_state.specs.declared.commands.Obeyed.{Obeyed}
 use Rattle.session_state.specs.declared.commands.Obeyed.TheVariants.{Answered, Refused}
 use Rattle.session_state.specs.declared.frame.Frame.{Frame}
 use Rattle.session_state.specs.declared.frame.Origin.{Origin}
-use Rattle.session_state.specs.declared.frame.Origin.TheVariants.{Asked, Default, Named, Prompt, Typed}
+use Rattle.session_state.specs.declared.frame.Origin.TheVariants.{Asked, Default, Named, Prompt}
+use Rattle.session_state.specs.declared.frame.Origin.TheVariants.{Typed}
 use Rattle.session_state.specs.Commands.{PlainAnswer, Quiet, Ran, ToRead, ToShow, ran, refused}
 use Rattle.session_state.specs.Rules.{PlainRules}
 use Rattle.session_state.specs.Told.{PlainTold, answer_told, fault_told, line_number, plain_told}

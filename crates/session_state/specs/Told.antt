@@ -6,7 +6,8 @@ use Rattle.mail_base.specs.Shown.{utf8_text}
 use Rattle.rc_lang.specs.Settings.{plain_shown}
 use Rattle.rc_lang_words.specs.Faults.{Fault, fault_text}
 use Rattle.session_state.specs.declared.frame.Origin.{Origin}
-use Rattle.session_state.specs.declared.frame.Origin.TheVariants.{Asked, Default, Named, Prompt, Typed}
+use Rattle.session_state.specs.declared.frame.Origin.TheVariants.{Asked, Default, Named, Prompt}
+use Rattle.session_state.specs.declared.frame.Origin.TheVariants.{Typed}
 use Rattle.session_state.specs.declared.told.Told.{Told}
 
 -- the lines for the fault stream, and what the last line shows, if that changes

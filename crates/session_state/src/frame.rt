@@ -162,7 +162,7 @@ fn judge(alloc: Global, depth: u8, obeyed: Obeyed) -> Result<Obeyed, NoMemory>
 
 /// Runs the commands of these files, of which the first is read now, up to one that is still to be
 /// read.
-pub fn run_frames(
+fn run_frames(
     alloc: Global,
     rules: &mut Rules,
     time: Instant,

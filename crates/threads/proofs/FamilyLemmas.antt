@@ -33,8 +33,8 @@ use Rattle.threads.proofs.BackLemmas.{all_within, trees_back}
 use Rattle.threads.proofs.CloseLemmas.{Each-both}
 use Rattle.threads.proofs.OnceLemmas.{all_once}
 use Rattle.threads.proofs.SortLemmas.{in_order_filter, places_within}
-use Rattle.threads.proofs.TreeLemmas.{can_walk, children_follow, ends_there, filter_within, none_below}
-use Rattle.threads.proofs.TreeLemmas.{roots_end}
+use Rattle.threads.proofs.TreeLemmas.{can_walk, children_follow, ends_there, filter_within}
+use Rattle.threads.proofs.TreeLemmas.{none_below, roots_end}
 
 -- a list the other way round
 

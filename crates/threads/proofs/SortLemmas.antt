@@ -24,14 +24,16 @@ NeverFalls before [] = Unit {0}
 NeverFalls before (x ∷ []) = Unit {0}
 NeverFalls before (x ∷ y ∷ xs) = (before y x ≡ false) × NeverFalls before (y ∷ xs)
 
-pub sorted_falls : {X : Type 0} (before : X → X → Bool) (xs : List X) → IsSortedBy before xs → NeverFalls before xs
+pub sorted_falls : {X : Type 0} (before : X → X → Bool) (xs : List X) → IsSortedBy before xs
+    → NeverFalls before xs
 sorted_falls before [] sorted = tt
 sorted_falls before (x ∷ []) sorted = tt
 sorted_falls before (x ∷ y ∷ xs) sorted = (
   sorted 0 x (omega arith) (omega arith),
   sorted_falls before (y ∷ xs) (λ k d low high.
       let same : suc k + 1 ≡ suc (k + 1) = omega arith in
-      subst (λ (n : ℕ). before (slice_index_or (x ∷ y ∷ xs) n d) (slice_index_or (y ∷ xs) k d) ≡ false) same
+      subst (λ (n : ℕ). before (slice_index_or (x ∷ y ∷ xs) n d) (slice_index_or (y ∷ xs) k d)
+      ≡ false) same
       (sorted (suc k) d (omega arith) (omega arith))),
 )
 
@@ -72,11 +74,13 @@ module _ {X : Type 0} (before : X → X → Bool) (o : IsStrictWeakOrder before)
     where
       at_first : (w : X) (b : Bool) (tail : List X) → before z w ≡ b
           → put_by before w (z ∷ tail) ≡ (if b then z ∷ put_by before w tail else w ∷ z ∷ tail)
-      at_first w b tail is = ap (λ (t : Bool). if t then z ∷ put_by before w tail else w ∷ z ∷ tail) is
+      at_first w b tail is =
+          ap (λ (t : Bool). if t then z ∷ put_by before w tail else w ∷ z ∷ tail) is
 
       at_other : (w v : X) (b : Bool) (tail : List X) → before v w ≡ b
           → put_by before w (v ∷ tail) ≡ (if b then v ∷ put_by before w tail else w ∷ v ∷ tail)
-      at_other w v b tail is = ap (λ (t : Bool). if t then v ∷ put_by before w tail else w ∷ v ∷ tail) is
+      at_other w v b tail is =
+          ap (λ (t : Bool). if t then v ∷ put_by before w tail else w ∷ v ∷ tail) is
 
       by_tests : (p q : Bool) → before z x ≡ p → before z y ≡ q
           → put_by before x (put_by before y xs) ≡ put_by before y (put_by before x xs)
@@ -87,7 +91,8 @@ module _ {X : Type 0} (before : X → X → Bool) (o : IsStrictWeakOrder before)
           ∙ sym (at_first y true (put_by before x xs) q)
       by_tests true false p q again =
           at_other x y true (z ∷ xs) (between x y z p q)
-          ∙ ap (λ (l : List X). y ∷ l) (at_first x true xs p) ∙ sym (at_first y false (put_by before x xs) q)
+          ∙ ap (λ (l : List X). y ∷ l) (at_first x true xs p)
+          ∙ sym (at_first y false (put_by before x xs) q)
       by_tests false true p q again =
           at_first x false (put_by before y xs) p
           ∙ sym (at_other y x true (z ∷ xs) (between y x z q p)
@@ -95,7 +100,8 @@ module _ {X : Type 0} (before : X → X → Bool) (o : IsStrictWeakOrder before)
       by_tests false false p q again =
           ap (λ (l : List X). if before y x then y ∷ l else x ∷ y ∷ z ∷ xs) (at_first x false xs p)
           ∙ first_two x y (z ∷ xs)
-          ∙ sym (ap (λ (l : List X). if before x y then x ∷ l else y ∷ x ∷ z ∷ xs) (at_first y false xs q))
+          ∙ sym (ap (λ (l : List X). if before x y then x ∷ l else y ∷ x ∷ z ∷ xs)
+          (at_first y false xs q))
 
   one_put : (xs : List X) (j : ℕ) (x d : X) → j < length xs
       → put_by before (slice_index_or xs j d) (in_order_by before (slice_set xs j x))
@@ -108,7 +114,8 @@ module _ {X : Type 0} (before : X → X → Bool) (o : IsStrictWeakOrder before)
       ∙ put_put y x (in_order_by before xs)
 
   exchanged : (xs : List X) (i j : ℕ) (d : X) → i < length xs → j < length xs
-      → in_order_by before (slice_set (slice_set xs i (slice_index_or xs j d)) j (slice_index_or xs i d))
+      → in_order_by before
+      (slice_set (slice_set xs i (slice_index_or xs j d)) j (slice_index_or xs i d))
       ≡ in_order_by before xs
   exchanged [] i j d first second = absurd (omega arith)
   exchanged (x ∷ xs) zero zero d first second = refl

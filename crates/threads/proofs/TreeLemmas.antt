@@ -1,8 +1,8 @@
 -- Trees of places: what a bound leaves out, and the lists of children that are made.
-use Rattle.std.proofs.Common.{◌≡◌, ◌∙◌, ℕ, zero, suc, ◌+◌, ◌-◌, ◌<◌, ◌≤◌, Bool, true, false, List, []}
-use Rattle.std.proofs.Common.{◌∷◌, ◌++◌, length, map, reverse, Option, Some, None}
-use Rattle.std.proofs.Common.{refl, sym, ap, subst, ⊎_elim, arith, nat_eq, eq-eqb, get_or, set}
-use Rattle.std.proofs.Common.{is_none, if◌then◌else◌}
+use Rattle.std.proofs.Common.{◌≡◌, ◌∙◌, ℕ, zero, suc, ◌+◌, ◌-◌, ◌<◌, ◌≤◌, Bool, true, false, List}
+use Rattle.std.proofs.Common.{[], ◌∷◌, ◌++◌, length, map, reverse, Option, Some, None, refl, sym}
+use Rattle.std.proofs.Common.{ap, subst, ⊎_elim, arith, nat_eq, eq-eqb, get_or, set, is_none}
+use Rattle.std.proofs.Common.{if◌then◌else◌}
 use Rattle.std.proofs.lemmas.Bool.{cases_lt, eqb-true, false≢true}
 use Rattle.std.proofs.lemmas.List.{get_or-set_other, get_or-set_same, reverse-append}
 use Rattle.std.proofs.lemmas.List.{append-nil, append_assoc}

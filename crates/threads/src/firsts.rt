@@ -1,6 +1,7 @@
 //! A table from texts to the first place of each.
 
-ghost use Rattle.std.specs.Prelude.{◌≡◌, ◌<◌, ℕ, List, Some, None, OnOk, length, is_some, IfOk, if◌then◌else◌};
+ghost use Rattle.std.specs.Prelude.{◌≡◌, ◌<◌, ℕ, List, Some, None, OnOk, length, is_some, IfOk};
+ghost use Rattle.std.specs.Prelude.{if◌then◌else◌};
 ghost use Rattle.std.specs.Str.{bytes_eq};
 ghost use Rattle.threads.specs.Firsts.{earlier, place_in};
 ghost use Rattle.threads.specs.Inner.{IsBelow, is_before};

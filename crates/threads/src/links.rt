@@ -1,6 +1,7 @@
 //! Whom each message answers by the ids of headers, through a table of holders.
 
-ghost use Rattle.std.specs.Prelude.{◌≡◌, ◌+◌, ◌<◌, ◌≤◌, length, map, option_map, IfOk, OnOk, IfSome, Some, None, false};
+ghost use Rattle.std.specs.Prelude.{◌≡◌, ◌+◌, ◌<◌, ◌≤◌, length, map, option_map, IfOk, OnOk};
+ghost use Rattle.std.specs.Prelude.{IfSome, Some, None, false};
 ghost use Rattle.mail_base.specs.Series.{plain_texts};
 ghost use Rattle.threads.specs.Firsts.{place_in};
 ghost use Rattle.threads.specs.Links as spec;

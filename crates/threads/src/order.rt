@@ -1,6 +1,7 @@
 //! Messages in the order of threads, without recursion.
 
-ghost use Rattle.std.specs.Prelude.{◌≡◌, ◌<◌, ◌++◌, ◌∷◌, [], ℕ, List, length, map, replicate, reverse, Bool, IfOk, OnOk};
+ghost use Rattle.std.specs.Prelude.{◌≡◌, ◌<◌, ◌++◌, ◌∷◌, [], ℕ, List, length, map, replicate};
+ghost use Rattle.std.specs.Prelude.{reverse, Bool, IfOk, OnOk};
 ghost use Rattle.std.specs.List.{All, flat_map, range_with_len};
 ghost use Rattle.std.specs.List.Sorted.{IsPermutation};
 ghost use Rattle.std.specs.Ordering.{is_lt};
@@ -8,7 +9,8 @@ ghost use Rattle.mail_base.specs.declared.kind.Id as id;
 ghost use Rattle.threads.specs.Families as spec;
 ghost use Rattle.threads.specs.Found.{AreDistinct, LeadsBelow};
 ghost use Rattle.threads.specs.Message.{plain_messages};
-ghost use Rattle.threads.specs.Order.{Answers, IsStrictOrder, by_id, id_at, in_order_by, thread_order, tree_of};
+ghost use Rattle.threads.specs.Order.{Answers, IsStrictOrder, by_id, id_at, in_order_by};
+ghost use Rattle.threads.specs.Order.{thread_order, tree_of};
 ghost use Rattle.threads.specs.Walk.{Each};
 
 use crate::message::Message;

@@ -1,6 +1,8 @@
 //! Threads of messages, worked out once from a whole listing.
 
-ghost use Rattle.std.specs.Prelude.{◌≡◌, ◌==◌, ◌<◌, ◌++◌, ◌∷◌, [], length, map, slice_index, slice_index_or, true, false, None, is_some, option_map, Some, IsSome, IfSome, OnOk, OnErr, IfOk, if◌then◌else◌, Bool};
+ghost use Rattle.std.specs.Prelude.{◌≡◌, ◌==◌, ◌<◌, ◌++◌, ◌∷◌, [], length, map, slice_index};
+ghost use Rattle.std.specs.Prelude.{slice_index_or, true, false, None, is_some, option_map, Some};
+ghost use Rattle.std.specs.Prelude.{IsSome, IfSome, OnOk, OnErr, IfOk, if◌then◌else◌, Bool};
 ghost use Rattle.std.specs.List.Sorted.{IsPermutation};
 ghost use Rattle.headers.specs.Header.{plain_header};
 ghost use Rattle.mail_base.specs.declared.kind.Id as id;

@@ -1,7 +1,8 @@
 //! Where links lead, each followed once.
 
-ghost use Rattle.std.specs.Prelude.{◌≡◌, ◌+◌, ◌<◌, ◌≤◌, ℕ, Some, None, [], ◌∷◌, ◌++◌, length, map, reverse, slice_get, slice_set, option_map};
-ghost use Rattle.std.specs.Prelude.{take, drop, not, slice_index, Bool, List, Option, IfOk, OnOk, IfSome, false};
+ghost use Rattle.std.specs.Prelude.{◌≡◌, ◌+◌, ◌<◌, ◌≤◌, ℕ, Some, None, [], ◌∷◌, ◌++◌, length, map};
+ghost use Rattle.std.specs.Prelude.{reverse, slice_get, slice_set, option_map, take, drop, not};
+ghost use Rattle.std.specs.Prelude.{slice_index, Bool, List, Option, IfOk, OnOk, IfSome, false};
 ghost use Rattle.threads.specs.declared.step.Step as step;
 ghost use Rattle.threads.specs.Links.{target};
 ghost use Rattle.threads.specs.Message.{is_listed_before as before, plain_messages};

@@ -1,4 +1,5 @@
-use Rattle.disk_model.proofs.LawsOfAppends.{appended_is_torn, appended_may_be_torn, synced_append_stands}
+use Rattle.disk_model.proofs.LawsOfAppends.{appended_is_torn, appended_may_be_torn}
+use Rattle.disk_model.proofs.LawsOfAppends.{synced_append_stands}
 use Rattle.disk_model.proofs.LawsOfNames.{names_are_of_files}
 use Rattle.disk_model.proofs.laws.an_appended_piece_may_be_torn_until_it_is_synced.Goals as goal
 

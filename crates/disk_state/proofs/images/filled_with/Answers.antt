@@ -9,7 +9,9 @@ pub loop-place-preserved : goal.loop-place-preserved
 loop-place-preserved c =
     c.in_ok-push.ensures.ok
     ∙ ap (λ (l : List ℕ). l ++ c.filled_byte.result ∷ []) c.loop-place.invariant
-    ∙ ap (λ (b : ℕ). map (filled_byte (plain_file c.args.file.now) c.args.byte) (range_with_len 0 c.loop-place.place) ++ b ∷ [])
+    ∙ ap (λ (b : ℕ). map (filled_byte (plain_file c.args.file.now) c.args.byte)
+    (range_with_len 0 c.loop-place.place) ++ b ∷ [])
     c.filled_byte.ensures
-    ∙ sym (map-range_with_len_more (filled_byte (plain_file c.args.file.now) c.args.byte) 0 c.loop-place.place
+    ∙ sym (map-range_with_len_more (filled_byte (plain_file c.args.file.now) c.args.byte) 0
+    c.loop-place.place
     c.loop-place.place (omega arith))

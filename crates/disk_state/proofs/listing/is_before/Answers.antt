@@ -8,4 +8,5 @@ use Rattle.disk_state.proofs.listing.is_before.Goals as goal
 pub returns : goal.returns
 returns c =
     same_from_slice_cmp_tested nat_cmp is_lt is_before refl (λ y ys. refl) (λ x xs. refl)
-    (λ x y xs ys o h. grind (arith, nat_tests)) c.args.name.now c.args.other.now c.lt.result c.lt.ensures
+    (λ x y xs ys o h. grind (arith, nat_tests)) c.args.name.now c.args.other.now c.lt.result
+    c.lt.ensures

@@ -1,5 +1,5 @@
-use Rattle.std.proofs.Common.{ℕ, ◌+◌, ◌-◌, ◌<◌, ◌≤◌, List, ◌∷◌, ◌++◌, [], length, drop, sym, ap, subst, ◌∙◌}
-use Rattle.std.proofs.Common.{arith, add-zero}
+use Rattle.std.proofs.Common.{ℕ, ◌+◌, ◌-◌, ◌<◌, ◌≤◌, List, ◌∷◌, ◌++◌, [], length, drop, sym, ap}
+use Rattle.std.proofs.Common.{subst, ◌∙◌, arith, add-zero}
 use Rattle.std.proofs.lemmas.Iterator.{YieldsList-from_chars}
 use Rattle.std.proofs.lemmas.Iterator.Consumers.{YieldsList-turn, YieldsList-end}
 use Rattle.std.proofs.lemmas.List.{length_push}
@@ -13,12 +13,14 @@ returns-then-left-columns c =
     let cs = chars c.args.text.now in
     let n = length c.loop-c.yielded in
     let left = c.loop-c.left in
-    let t = YieldsList-turn (YieldsList-from_chars c.args.text.now c.utf8.text cc) c.loop-c.yielded _
+    let t = YieldsList-turn (YieldsList-from_chars c.args.text.now c.utf8.text cc) c.loop-c.yielded
+    _
     c.loop-c.yielded_by _ _ c.in-Some.c c.in-Some.is c.next.ensures.steps in
     let width = c.columns_of-columns.ensures ∙ ap columns_of c.shown_char.ensures in
     let wide = subst (λ (w : ℕ). left < w) width c.if-left-columns.true in
     sym (add-zero (c.args.limit - left))
-    ∙ ap (λ (s : List ℕ). c.args.limit - left + columns_in s) (sym (kept_cut left n c.in-Some.c cs t wide))
+    ∙ ap (λ (s : List ℕ). c.args.limit - left + columns_in s)
+    (sym (kept_cut left n c.in-Some.c cs t wide))
     ∙ c.loop-c.invariant.counted
 
 pub loop-c-preserved : goal.loop-c-preserved
@@ -28,7 +30,8 @@ loop-c-preserved c =
     let left = c.loop-c.left in
     let limit = c.args.limit in
     let shown = shown_char c.in-Some.c in
-    let t = YieldsList-turn (YieldsList-from_chars c.args.text.now c.utf8.text cc) c.loop-c.yielded _
+    let t = YieldsList-turn (YieldsList-from_chars c.args.text.now c.utf8.text cc) c.loop-c.yielded
+    _
     c.loop-c.yielded_by _ _ c.in-Some.c c.in-Some.is c.next.ensures.steps in
     let width = c.columns_of-columns.ensures ∙ ap columns_of c.shown_char.ensures in
     let fits = subst (λ (w : ℕ). w ≤ left) width c.if-left-columns.false in
@@ -36,10 +39,12 @@ loop-c-preserved c =
     record {
       counted = ap (λ (w : ℕ). limit - (left - w) + columns_in (kept_from (left - w)
           (drop (length (c.loop-c.yielded ++ c.in-Some.c ∷ [])) cs))) width
-          ∙ ap (λ (k : ℕ). limit - (left - columns_of shown) + columns_in (kept_from (left - columns_of shown) (drop k cs)))
+          ∙ ap (λ (k : ℕ). limit - (left - columns_of shown) + columns_in
+          (kept_from (left - columns_of shown) (drop k cs)))
           (length_push c.loop-c.yielded c.in-Some.c)
           ∙ counted_more limit left (columns_of shown) _ within fits
-          ∙ ap (λ (s : List ℕ). limit - left + columns_in s) (sym (kept_fit left n c.in-Some.c cs t fits))
+          ∙ ap (λ (s : List ℕ). limit - left + columns_in s)
+          (sym (kept_fit left n c.in-Some.c cs t fits))
           ∙ c.loop-c.invariant.counted;
       within = omega arith;
     }

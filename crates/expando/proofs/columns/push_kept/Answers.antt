@@ -1,5 +1,5 @@
-use Rattle.std.proofs.Common.{ℕ, ◌+◌, ◌-◌, ◌<◌, ◌≤◌, List, ◌∷◌, ◌++◌, [], length, drop, map, sym, ap, subst, ◌∙◌}
-use Rattle.std.proofs.Common.{arith, append_assoc}
+use Rattle.std.proofs.Common.{ℕ, ◌+◌, ◌-◌, ◌<◌, ◌≤◌, List, ◌∷◌, ◌++◌, [], length, drop, map, sym}
+use Rattle.std.proofs.Common.{ap, subst, ◌∙◌, arith, append_assoc}
 use Rattle.std.proofs.lemmas.Iterator.{YieldsList-from_chars}
 use Rattle.std.proofs.lemmas.Iterator.Consumers.{YieldsList-turn, YieldsList-end}
 use Rattle.std.proofs.lemmas.List.{append-nil, length_push}
@@ -14,12 +14,14 @@ returns-then-left-columns c =
     let cs = chars c.args.text.now in
     let n = length c.loop-c.yielded in
     let left = c.loop-c.left in
-    let t = YieldsList-turn (YieldsList-from_chars c.args.text.now c.utf8.text cc) c.loop-c.yielded _
+    let t = YieldsList-turn (YieldsList-from_chars c.args.text.now c.utf8.text cc) c.loop-c.yielded
+    _
     c.loop-c.yielded_by _ _ c.in-Some.c c.in-Some.is c.next.ensures.steps in
     let width = c.columns_of-columns.ensures ∙ ap columns_of c.shown_char-shown.ensures in
     let wide = subst (λ (w : ℕ). left < w) width c.if-left-columns.true in
     sym (append-nil c.loop-c.cells.items)
-    ∙ ap (λ (s : List ℕ). c.loop-c.cells.items ++ map Shown s) (sym (kept_cut left n c.in-Some.c cs t wide))
+    ∙ ap (λ (s : List ℕ). c.loop-c.cells.items ++ map Shown s)
+    (sym (kept_cut left n c.in-Some.c cs t wide))
     ∙ c.loop-c.invariant
 
 pub loop-c-preserved : goal.loop-c-preserved
@@ -29,7 +31,8 @@ loop-c-preserved c =
     let left = c.loop-c.left in
     let cells = c.loop-c.cells.items in
     let shown = shown_char c.in-Some.c in
-    let t = YieldsList-turn (YieldsList-from_chars c.args.text.now c.utf8.text cc) c.loop-c.yielded _
+    let t = YieldsList-turn (YieldsList-from_chars c.args.text.now c.utf8.text cc) c.loop-c.yielded
+    _
     c.loop-c.yielded_by _ _ c.in-Some.c c.in-Some.is c.next.ensures.steps in
     let width = c.columns_of-columns.ensures ∙ ap columns_of c.shown_char-shown.ensures in
     let fits = subst (λ (w : ℕ). w ≤ left) width c.if-left-columns.false in
@@ -38,9 +41,11 @@ loop-c-preserved c =
     ap (λ s. s ++ then)
     (c.in_ok-push.ensures.ok ∙ ap (λ x. cells ++ Shown x ∷ []) c.shown_char-shown.ensures)
     ∙ append_assoc cells (Shown shown ∷ []) then
-    ∙ ap (λ (k : ℕ). cells ++ (Shown shown ∷ map Shown (kept_from (left - c.columns_of-columns.result) (drop k cs))))
+    ∙ ap (λ (k : ℕ). cells
+    ++ (Shown shown ∷ map Shown (kept_from (left - c.columns_of-columns.result) (drop k cs))))
     (length_push c.loop-c.yielded c.in-Some.c)
-    ∙ ap (λ (w : ℕ). cells ++ (Shown shown ∷ map Shown (kept_from (left - w) (drop (n + 1) cs)))) width
+    ∙ ap (λ (w : ℕ). cells ++ (Shown shown ∷ map Shown (kept_from (left - w) (drop (n + 1) cs))))
+    width
     ∙ ap (λ (s : List ℕ). cells ++ map Shown s) (sym (kept_fit left n c.in-Some.c cs t fits))
     ∙ c.loop-c.invariant
 

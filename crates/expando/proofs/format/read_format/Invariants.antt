@@ -6,7 +6,8 @@ use Rattle.expando.proofs.format.read_format.Given as goal
 abbrev pub invariant-loop-left : goal.invariant-loop-left
 invariant-loop-left l = record {
   read : with_front (plain_pieces l.pieces)
-      (pieces (first_piece l.letters) (length l.text - length l.left) l.left) ≡ format_of l.letters l.text;
+      (pieces (first_piece l.letters) (length l.text - length l.left) l.left)
+      ≡ format_of l.letters l.text;
   within : length l.left ≤ length l.text;
 }
 

@@ -1,6 +1,7 @@
 use Rattle.std.proofs.Common.{arith, inl, inr, refl}
 use Rattle.disk_model.specs.declared.answers.DiskError.TheVariants.{Long, Missing, WrongNode}
-use Rattle.folder_core.proofs.LookedLemmas.{looked_err, looked_ok, read_long, read_nothing, read_tells}
+use Rattle.folder_core.proofs.LookedLemmas.{looked_err, looked_ok, read_long, read_nothing}
+use Rattle.folder_core.proofs.LookedLemmas.{read_tells}
 use Rattle.folder_core.proofs.looks.content_of.Goals as goal
 
 pub returns-in-Ok-clause-looked : goal.returns-in-Ok-clause-looked

@@ -1,6 +1,7 @@
 use Rattle.std.proofs.Common.{arith, map, refl}
 use Rattle.disk_model.specs.declared.answers.DiskError.TheVariants.{Missing, WrongNode}
-use Rattle.folder_core.proofs.LookedLemmas.{list_missing, list_tells, list_wrong, looked_err, looked_ok}
+use Rattle.folder_core.proofs.LookedLemmas.{list_missing, list_tells, list_wrong, looked_err}
+use Rattle.folder_core.proofs.LookedLemmas.{looked_ok}
 use Rattle.folder_core.proofs.looks.contents_of.Goals as goal
 
 pub returns-in-Ok-clause-looked : goal.returns-in-Ok-clause-looked

@@ -11,8 +11,11 @@ loop-line-preserved c =
     let inv = c.loop-line.invariant in
     let some : first_word left ≡ Some (plain_found_word found) =
     sym c.in_ok-found.ensures.value ∙ ap (option_map plain_found_word) c.in-Some.is in
-    let shorter : length found.word.rest.now < length left = rw c.in-Some.is at c.in_ok-found.ensures.shorter in
-    let next = decoded_from-found inv.0 c.loop-line.after_word left (plain_found_word found) inv.1 shorter some in (
+    let shorter : length found.word.rest.now < length left =
+    rw c.in-Some.is at c.in_ok-found.ensures.shorter in
+    let next =
+    decoded_from-found inv.0 c.loop-line.after_word left (plain_found_word found) inv.1 shorter
+    some in (
       next.0,
       next.1,
       grind (

@@ -3,7 +3,8 @@ use Rattle.std.specs.List.{concat}
 use Rattle.bstr.proofs.lemmas.RestLemmas.{concat-lines_of}
 use Rattle.mail_base.specs.Blanks.{without_blanks}
 use Rattle.mail_base.specs.Lines.{continuations, header_block}
-use Rattle.headers.proofs.FoldedFieldLemmas.{behind_is_shorter, continuation_has_bytes, without_blanks_twice}
+use Rattle.headers.proofs.FoldedFieldLemmas.{behind_is_shorter, continuation_has_bytes}
+use Rattle.headers.proofs.FoldedFieldLemmas.{without_blanks_twice}
 use Rattle.headers.proofs.folded_field.next_continuation.Goals as goal
 
 pub loop-line-init : goal.loop-line-init

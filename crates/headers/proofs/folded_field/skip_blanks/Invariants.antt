@@ -5,7 +5,8 @@ use Rattle.headers.proofs.folded_field.skip_blanks.Given as goal
 
 abbrev pub invariant-loop-first : goal.invariant-loop-first
 invariant-loop-first l = record {
-  text : without_blanks (l.first ++ continued l.left) ≡ without_blanks (l.fn.text ++ continued l.fn.lines);
+  text : without_blanks (l.first ++ continued l.left)
+      ≡ without_blanks (l.fn.text ++ continued l.fn.lines);
   front : without_blanks l.first ≡ l.first;
 }
 

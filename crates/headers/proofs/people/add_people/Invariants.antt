@@ -8,7 +8,8 @@ use Rattle.headers.proofs.people.add_people.Given as goal
 
 abbrev pub invariant-loop-piece : goal.invariant-loop-piece
 invariant-loop-piece l =
-    map plain_person l.persons.items ++ flat_map (λ piece. option_to_list (person_in piece)) (slice_split (has Separator) l.left)
+    map plain_person l.persons.items
+    ++ flat_map (λ piece. option_to_list (person_in piece)) (slice_split (has Separator) l.left)
     ≡ map plain_person l.initial.persons.items ++ people l.value
 
 abbrev pub decreases-loop-piece : goal.decreases-loop-piece

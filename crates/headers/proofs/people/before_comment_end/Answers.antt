@@ -12,4 +12,5 @@ returns-in-Some c =
 
 pub returns-in-None : goal.returns-in-None
 returns-in-None c =
-    sym (before_first_none (has CommentEnd) c.args.bytes.now (sym c.first_with.ensures.value ∙ c.in-None.is))
+    sym (before_first_none (has CommentEnd) c.args.bytes.now
+    (sym c.first_with.ensures.value ∙ c.in-None.is))

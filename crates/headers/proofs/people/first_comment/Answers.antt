@@ -14,4 +14,5 @@ returns-in-Some c =
 
 pub returns-in-None : goal.returns-in-None
 returns-in-None c =
-    rw (after_first_none (has CommentStart) c.args.bytes.now (sym c.first_with.ensures.value ∙ c.in-None.is)) refl
+    rw (after_first_none (has CommentStart) c.args.bytes.now
+    (sym c.first_with.ensures.value ∙ c.in-None.is)) refl

@@ -1,7 +1,8 @@
 use Rattle.std.proofs.Common.{sym, ap, ◌∙◌}
 use Rattle.headers.specs.AddressByte.{has}
 use Rattle.headers.specs.declared.address_byte.Role.TheVariants.{AngleEnd}
-use Rattle.mail_base.proofs.PlacesLemmas.{before_first_none, before_first_some, after_first_none, after_first_some}
+use Rattle.mail_base.proofs.PlacesLemmas.{before_first_none, before_first_some, after_first_none}
+use Rattle.mail_base.proofs.PlacesLemmas.{after_first_some}
 use Rattle.headers.proofs.people.split_brackets.Goals as goal
 
 pub returns-in-Some-clause-inside : goal.returns-in-Some-clause-inside
@@ -18,8 +19,10 @@ returns-in-Some-clause-behind c =
 
 pub returns-in-None-clause-inside : goal.returns-in-None-clause-inside
 returns-in-None-clause-inside c =
-    sym (before_first_none (has AngleEnd) c.args.bytes.now (sym c.first_with.ensures.value ∙ c.in-None.is))
+    sym (before_first_none (has AngleEnd) c.args.bytes.now
+    (sym c.first_with.ensures.value ∙ c.in-None.is))
 
 pub returns-in-None-clause-behind : goal.returns-in-None-clause-behind
 returns-in-None-clause-behind c =
-    sym (after_first_none (has AngleEnd) c.args.bytes.now (sym c.first_with.ensures.value ∙ c.in-None.is))
+    sym (after_first_none (has AngleEnd) c.args.bytes.now
+    (sym c.first_with.ensures.value ∙ c.in-None.is))

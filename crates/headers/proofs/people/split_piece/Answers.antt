@@ -15,4 +15,5 @@ returns-in-Some-clause-some c =
 
 pub returns-in-None-clause-none : goal.returns-in-None-clause-none
 returns-in-None-clause-none c =
-    slice_split_first_none (has Separator) c.args.bytes.now (sym c.first_with.ensures.value ∙ c.in-None.is)
+    slice_split_first_none (has Separator) c.args.bytes.now
+    (sym c.first_with.ensures.value ∙ c.in-None.is)

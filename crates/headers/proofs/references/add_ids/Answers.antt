@@ -17,14 +17,16 @@ loop-found-preserved c =
     let next = ids_from-found same.0 left found same.1 c.in-Some.ensures.shorter some in
     let id = c.in_ok-bracketed.field-0.items in
     let now = plain_texts c.push_last.new.names in
-    let pushed : last_ids now ≡ last_ids (names ++ id ∷ []) = c.in_ok-push_last.ensures.value in record {
+    let pushed : last_ids now ≡ last_ids (names ++ id ∷ []) =
+    c.in_ok-push_last.ensures.value in record {
       few = c.in_ok-push_last.ensures.few;
       same = (
         next.0,
         next.1,
         last_ids-append now (names ++ id ∷ []) (ids_from next.0 found.rest) pushed
             ∙ ap last_ids (append_assoc names (id ∷ []) (ids_from next.0 found.rest))
-            ∙ ap (λ (i : List ℕ). last_ids (names ++ i ∷ ids_from next.0 found.rest)) c.in_ok-bracketed.ensures
+            ∙ ap (λ (i : List ℕ). last_ids (names ++ i ∷ ids_from next.0 found.rest))
+            c.in_ok-bracketed.ensures
             ∙ ap (λ (l : List (List ℕ)). last_ids (names ++ l)) (sym next.2)
             ∙ same.2,
       );

@@ -8,7 +8,8 @@ abbrev pub invariant-loop-found : goal.invariant-loop-found
 invariant-loop-found l = record {
   few : length l.names.items ≤ 64;
   same : (n : ℕ) × (length l.left ≤ n) ×
-      (last_ids (plain_texts l.names ++ ids_from n l.left) ≡ last_ids (plain_texts l.initial.names ++ ids l.text));
+      (last_ids (plain_texts l.names ++ ids_from n l.left)
+      ≡ last_ids (plain_texts l.initial.names ++ ids l.text));
 }
 
 abbrev pub decreases-loop-found : goal.decreases-loop-found

@@ -10,7 +10,8 @@ returns-clause-value c =
     let items = c.args.names.now.items in
     let names = plain_texts c.args.names.now in
     let id = c.args.id.items in
-    let many : 64 ≤ length names = omega (arith, length-map items (λ name. name.items), c.len.ensures) in
+    let many : 64 ≤ length names =
+    omega (arith, length-map items (λ name. name.items), c.len.ensures) in
     ap (λ l. last_ids (map (λ name. name.items) l)) c.in_ok-push-2.ensures.ok
     ∙ ap last_ids (map-append (λ name. name.items) c.remove_first.new.self.items (c.args.id ∷ []))
     ∙ ap (λ l. last_ids (map (λ name. name.items) l ++ id ∷ [])) c.remove_first.ensures

@@ -6,7 +6,8 @@ use Rattle.headers.proofs.values.people_of.Given as goal
 
 abbrev pub invariant-loop-left : goal.invariant-loop-left
 invariant-loop-left l =
-    map plain_person l.persons.items ++ persons l.name (map plain_folded l.left) ≡ persons l.name (map plain_folded l.fields)
+    map plain_person l.persons.items ++ persons l.name (map plain_folded l.left)
+    ≡ persons l.name (map plain_folded l.fields)
 
 abbrev pub decreases-loop-left : goal.decreases-loop-left
 decreases-loop-left l = length l.left

@@ -9,7 +9,8 @@ loop-mark-preserved-then-mark g c =
     let place = c.loop-mark.place in
     let items = c.loop-mark.items.items in
     let rest = c.in-Some.rest.now in
-    let within : place < length items = grind (arith, nat_tests, c.len.ensures, c.if-place-len.false) in
+    let within : place < length items =
+    grind (arith, nat_tests, c.len.ensures, c.if-place-len.false) in
     record {
       within = omega (arith, within);
       whole = kept_next items place rest within

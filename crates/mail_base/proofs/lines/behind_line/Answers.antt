@@ -9,7 +9,8 @@ pub returns-in-Some-clause-value : goal.returns-in-Some-clause-value
 returns-in-Some-clause-value c =
     sym (concat-lines_of c.as_bytes.result.now)
     ∙ ap concat c.as_bytes.ensures
-    ∙ ap (λ l. concat (behind_first l)) (sym c.in-Some.ensures.steps ∙ c.lines_with_terminator-lines.ensures.value)
+    ∙ ap (λ l. concat (behind_first l))
+    (sym c.in-Some.ensures.steps ∙ c.lines_with_terminator-lines.ensures.value)
 
 pub returns-in-Some-clause-shorter : goal.returns-in-Some-clause-shorter
 returns-in-Some-clause-shorter c =
@@ -18,6 +19,7 @@ returns-in-Some-clause-shorter c =
     length_left c.args.text.now c.lines_with_terminator-lines.result
     (sym c.lines_with_terminator-lines.ensures.value) in
     let left =
-    shorter_left c.in-Some.field-0.now c.next.new.self c.lines_with_terminator-lines.result (length c.args.text.now)
+    shorter_left c.in-Some.field-0.now c.next.new.self c.lines_with_terminator-lines.result
+    (length c.args.text.now)
     c.in-Some.ensures.steps (omega (arith, whole)) in
     omega (arith, rest, left)

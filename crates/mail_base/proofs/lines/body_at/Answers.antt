@@ -6,7 +6,9 @@ use Rattle.mail_base.proofs.lines.body_at.Goals as goal
 
 pub loop-line-init : goal.loop-line-init
 loop-line-init c =
-    let value = c.into_iter-line-iterator.ensures.into_iter_gives ∙ c.lines_with_terminator-line-items.ensures.value in
+    let value =
+    c.into_iter-line-iterator.ensures.into_iter_gives
+    ∙ c.lines_with_terminator-line-items.ensures.value in
     record {
       within = omega (arith, ap length (ap concat value ∙ concat-lines_of c.args.text.now));
       block = zero-add _ ∙ ap (λ lines. length (concat (header_block lines))) value;

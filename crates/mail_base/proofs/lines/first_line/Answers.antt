@@ -8,6 +8,7 @@ returns-in-Some-clause-shorter c =
     length_left c.args.text.now c.lines_with_terminator.result
     (sym c.lines_with_terminator.ensures.value) in
     let left =
-    shorter_left c.in-Some.line.now c.next.new.self c.lines_with_terminator.result (length c.args.text.now)
+    shorter_left c.in-Some.line.now c.next.new.self c.lines_with_terminator.result
+    (length c.args.text.now)
     c.in-Some.ensures.steps (omega (arith, whole)) in
     omega (arith, left)

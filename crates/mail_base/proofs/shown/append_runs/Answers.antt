@@ -1,4 +1,5 @@
-use Rattle.std.proofs.Common.{◌≡◌, ◌++◌, length, take, drop, replicate, subst, sym, ap, ◌∙◌, arith, append_assoc}
+use Rattle.std.proofs.Common.{◌≡◌, ◌++◌, length, take, drop, replicate, subst, sym, ap, ◌∙◌, arith}
+use Rattle.std.proofs.Common.{append_assoc}
 use Rattle.std.proofs.lemmas.Bool.Decides.{nat_tests}
 use Rattle.std.proofs.lemmas.List.{append-nil}
 use Rattle.mail_base.specs.Shown.{utf8_text}
@@ -15,12 +16,14 @@ loop-left-preserved c =
     let marks = replicate more 63 in
     let rest = c.split_at-in-loop-left.result.1.now in
     let next : utf8_text (drop len left) ≡ marks ++ utf8_text (drop more (drop len left)) =
-    subst (λ l. utf8_text l ≡ marks ++ utf8_text (drop more l)) behind c.malformed_len.ensures.text in
+    subst (λ l. utf8_text l ≡ marks ++ utf8_text (drop more l)) behind
+    c.malformed_len.ensures.text in
     let rest_is : rest ≡ drop more (drop len left) =
     c.split_at-in-loop-left.ensures.back ∙ ap (drop more) behind in
     ap (λ l. l ++ utf8_text rest)
     (c.in_ok-push_marks.ensures
-    ∙ ap (λ n. c.append_bytes.new.self.items ++ replicate n 63) c.split_at-in-loop-left.ensures.front_len
+    ∙ ap (λ n. c.append_bytes.new.self.items ++ replicate n 63)
+    c.split_at-in-loop-left.ensures.front_len
     ∙ ap (λ l. l ++ marks) c.in_ok-append_bytes.ensures.ok
     ∙ ap (λ t. (line ++ t) ++ marks) c.split_at.ensures.front
     ∙ append_assoc line (take len left) marks)

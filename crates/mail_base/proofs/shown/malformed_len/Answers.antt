@@ -1,4 +1,5 @@
-use Rattle.std.proofs.Common.{◌≡◌, ◌≤◌, ◌++◌, ◌-◌, length, take, drop, replicate, subst, arith, length-drop}
+use Rattle.std.proofs.Common.{◌≡◌, ◌≤◌, ◌++◌, ◌-◌, length, take, drop, replicate, subst, arith}
+use Rattle.std.proofs.Common.{length-drop}
 use Rattle.std.proofs.lemmas.List.{take_all}
 use Rattle.mail_base.specs.Shown.{utf8_text}
 use Rattle.mail_base.proofs.ShownLemmas.{utf8_text_marks}
@@ -15,8 +16,10 @@ loop-more-preserved c =
     let rest : take (length bytes - len) (drop len bytes) ≡ drop len bytes =
     take_all (length bytes - len) (drop len bytes) (omega arith) in
     let within : more ≤ length (drop len bytes) = subst (λ l. more ≤ length l) rest next.within in
-    let text : utf8_text (drop len bytes) ≡ replicate more 63 ++ utf8_text (drop more (drop len bytes)) =
-    subst (λ l. utf8_text l ≡ replicate more 63 ++ utf8_text (drop more l)) rest next.text in record {
+    let text : utf8_text (drop len bytes) ≡ replicate more 63
+    ++ utf8_text (drop more (drop len bytes)) =
+    subst (λ l. utf8_text l ≡ replicate more 63 ++ utf8_text (drop more l)) rest
+    next.text in record {
       within = omega (arith, inv.within);
       text = utf8_text_marks bytes len more inv.text text;
       some = λ some none. omega (arith, inv.some some none);

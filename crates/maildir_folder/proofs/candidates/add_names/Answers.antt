@@ -1,4 +1,6 @@
-use Rattle.std.proofs.Common.{◌≡◌, ◌++◌, ◌≤◌, ◌∷◌, [], ℕ, Bool, true, false, not, List, length, map, ap, sym, ◌∙◌, subst, refl, slice_index_or, append_assoc, if◌then◌else◌}
+use Rattle.std.proofs.Common.{◌≡◌, ◌++◌, ◌≤◌, ◌∷◌, [], ℕ, Bool, true, false, not, List, length, map}
+use Rattle.std.proofs.Common.{ap, sym, ◌∙◌, subst, refl, slice_index_or, append_assoc}
+use Rattle.std.proofs.Common.{if◌then◌else◌}
 use Rattle.std.specs.List.{filter}
 use Rattle.std.specs.Str.{IsUtf8}
 use Rattle.mail_base.specs.Series.{Held}
@@ -12,13 +14,17 @@ files_in-cons : (in_cur : Bool) (name : List ℕ) (names : List (List ℕ))
     → files_in in_cur (name ∷ names) ≡ files_in in_cur (name ∷ []) ++ files_in in_cur names
 files_in-cons in_cur name names = by_dot (not (begins_dot name))
   where
-    by_dot : (t : Bool) → map (λ n. record { in_cur = in_cur; name = n }) (if t then name ∷ filter (λ n. not (begins_dot n)) names
+    by_dot : (t : Bool)
+        → map (λ n. record { in_cur = in_cur; name = n })
+        (if t then name ∷ filter (λ n. not (begins_dot n)) names
         else filter (λ n. not (begins_dot n)) names)
-        ≡ map (λ n. record { in_cur = in_cur; name = n }) (if t then name ∷ [] else []) ++ files_in in_cur names
+        ≡ map (λ n. record { in_cur = in_cur; name = n }) (if t then name ∷ [] else [])
+        ++ files_in in_cur names
     by_dot true = refl
     by_dot false = refl
 
-first_text : (left : List (Held ℕ)) (d item : Held ℕ) → item ≡ slice_index_or left 0 d → 1 ≤ length left
+first_text : (left : List (Held ℕ)) (d item : Held ℕ) → item ≡ slice_index_or left 0 d
+    → 1 ≤ length left
     → AreText left → IsUtf8 item.items
 first_text left d item is some text = (subst AreText (first_and_rest left d item is some) text).0
 
@@ -30,7 +36,8 @@ add_name-requires c = record {
   each = c.loop-left.invariant.each;
 }
 
-one_more : (in_cur : Bool) (name item : List ℕ) (whole names : List (List ℕ)) (old mid all : List MaildirFile)
+one_more : (in_cur : Bool) (name item : List ℕ) (whole names : List (List ℕ))
+    (old mid all : List MaildirFile)
     → whole ≡ item ∷ names → name ≡ item → mid ≡ old ++ files_in in_cur (name ∷ [])
     → old ++ files_in in_cur whole ≡ all → mid ++ files_in in_cur names ≡ all
 one_more in_cur name item whole names old mid all is same more so_far =
@@ -42,12 +49,15 @@ one_more in_cur name item whole names old mid all is same more so_far =
 
 pub loop-left-preserved : goal.loop-left-preserved
 loop-left-preserved c =
-    let whole = first_and_rest c.loop-left.left.now _ c.name-item.result c.name-item.is c.in-len1-up.len_at_least in
+    let whole =
+    first_and_rest c.loop-left.left.now _ c.name-item.result c.name-item.is
+    c.in-len1-up.len_at_least in
     record {
       text = (subst AreText whole c.loop-left.invariant.text).1;
       each = c.in_ok-add_name.ensures.each;
       files = one_more c.args.in_cur c.as_slice.result.now c.name-item.result.items
           (map (λ name. name.items) c.loop-left.left.now) _ _ _ _
-          (ap (map (λ (name : Held ℕ). name.items)) whole) c.as_slice.ensures c.in_ok-add_name.ensures.files
+          (ap (map (λ (name : Held ℕ). name.items)) whole) c.as_slice.ensures
+          c.in_ok-add_name.ensures.files
           c.loop-left.invariant.files;
     }

@@ -10,7 +10,8 @@ invariant-loop-left l = record {
   text : AreText l.left;
   each : All IsCandidate l.files.items;
   files : map plain_file l.files.items ++ files_in l.in_cur (map (λ name. name.items) l.left)
-      ≡ map plain_file l.initial.files.items ++ files_in l.in_cur (map (λ name. name.items) l.names);
+      ≡ map plain_file l.initial.files.items
+      ++ files_in l.in_cur (map (λ name. name.items) l.names);
 }
 
 abbrev pub decreases-loop-left : goal.decreases-loop-left

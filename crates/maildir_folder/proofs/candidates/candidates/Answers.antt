@@ -7,12 +7,17 @@ use Rattle.maildir_folder.proofs.candidates.candidates.Goals as goal
 
 pub returns : goal.returns
 returns c =
-    let order = sorted_files c.add_names-2.new.files.items c.sort.new.self.items c.in_ok-add_names-2.ensures.each
+    let order =
+    sorted_files c.add_names-2.new.files.items c.sort.new.self.items
+    c.in_ok-add_names-2.ensures.each
     c.in_ok-sort.ensures.permutation c.in_ok-sort.ensures.sorted in
     record {
       each = order.0;
       rises = order.1;
       sorted = order.2 ∙ ap (in_order_by comes_before) (c.in_ok-add_names-2.ensures.files
           ∙ ap (λ files. files ++ files_in false (map (λ name. name.items) c.args.new.now))
-          (c.in_ok-add_names.ensures.files ∙ ap (λ files. map plain_file files ++ files_in true (map (λ name. name.items) c.args.cur.now)) c.new-files.ensures.items));
+          (c.in_ok-add_names.ensures.files
+          ∙ ap (λ files. map plain_file files
+          ++ files_in true (map (λ name. name.items) c.args.cur.now))
+          c.new-files.ensures.items));
     }

@@ -12,8 +12,10 @@ both_names : (cur curs new news : List (Held ℕ)) (files : List Candidate) → 
     → AreInOrder (map (λ name. name.items) cur) (map (λ name. name.items) new) files
     → AreInOrder (map (λ name. name.items) curs) (map (λ name. name.items) news) files
 both_names cur curs new news files first second order =
-    subst (λ (l : List (Held ℕ)). AreInOrder (map (λ name. name.items) l) (map (λ name. name.items) news) files) first
-    (subst (λ (l : List (Held ℕ)). AreInOrder (map (λ name. name.items) cur) (map (λ name. name.items) l) files) second
+    subst (λ (l : List (Held ℕ)). AreInOrder (map (λ name. name.items) l)
+    (map (λ name. name.items) news) files) first
+    (subst (λ (l : List (Held ℕ)). AreInOrder (map (λ name. name.items) cur)
+    (map (λ name. name.items) l) files) second
     order)
 
 pub returns-in-Err-new_names : goal.returns-in-Err-new_names
@@ -24,7 +26,8 @@ returns-in-Err-new_names g c =
 pub returns-in-Err-cur_names : goal.returns-in-Err-cur_names
 returns-in-Err-cur_names g c =
     refused_later c.args.path.now c.in-Err-cur_names.why _ _ _
-    (only_then _ _ _ c.find_folder.ensures.only c.new_names.ensures.found.only) c.in-Err-cur_names.ensures.found
+    (only_then _ _ _ c.find_folder.ensures.only c.new_names.ensures.found.only)
+    c.in-Err-cur_names.ensures.found
 
 pub returns-in-Ok-candidates : goal.returns-in-Ok-candidates
 returns-in-Ok-candidates g c =
@@ -38,11 +41,15 @@ returns-in-Ok-candidates g c =
       cur = plain_names c.in-Ok-cur_names.names;
       new_names = plain_names c.in-Ok-new_names.names;
       order = both_names c.as_slice.result.now c.in-Ok-cur_names.names.items c.as_slice-2.result.now
-          c.in-Ok-new_names.names.items c.in-Ok-candidates.files.items c.as_slice.ensures c.as_slice-2.ensures
+          c.in-Ok-new_names.names.items c.in-Ok-candidates.files.items c.as_slice.ensures
+          c.as_slice-2.ensures
           c.in-Ok-candidates.ensures;
-      saw = names_seen c.args.path.now (plain_names c.in-Ok-cur_names.names) (plain_names c.in-Ok-new_names.names)
-          _ _ _ _ c.find_folder.ensures.only.looks c.new_names.ensures.found.only.looks curs.looks rest.looks
-          c.in-Ok.ensures.saw c.in-Ok-new_names.ensures.found.saw c.in-Ok-cur_names.ensures.found.saw;
+      saw = names_seen c.args.path.now (plain_names c.in-Ok-cur_names.names)
+          (plain_names c.in-Ok-new_names.names)
+          _ _ _ _ c.find_folder.ensures.only.looks c.new_names.ensures.found.only.looks curs.looks
+          rest.looks
+          c.in-Ok.ensures.saw c.in-Ok-new_names.ensures.found.saw
+          c.in-Ok-cur_names.ensures.found.saw;
     })
 
 pub returns : goal.returns

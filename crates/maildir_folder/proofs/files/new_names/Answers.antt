@@ -9,5 +9,7 @@ returns-in-Ok-Nothing-clause-found g c =
     was_found c.args.path.now c.new.result _ _ c.in-Ok-Nothing.ensures.looked.only
     c.in-Ok-Nothing.ensures.looked.reads
     (new_missing c.args.path.now c.new.result c.mark.result _ _ c.new.ensures c.mark.ensures.1
-    (contents_told c.as_str.result.now (directory false c.args.path.now) c.in-Ok-Nothing.field-0 Nothing _ _
-    (c.as_str.ensures.value ∙ c.in-Ok.ensures) c.in-Ok-Nothing.field-0-is c.in-Ok-Nothing.ensures.looked.saw))
+    (contents_told c.as_str.result.now (directory false c.args.path.now) c.in-Ok-Nothing.field-0
+    Nothing _ _
+    (c.as_str.ensures.value ∙ c.in-Ok.ensures) c.in-Ok-Nothing.field-0-is
+    c.in-Ok-Nothing.ensures.looked.saw))

@@ -2,7 +2,8 @@ use Rattle.std.proofs.Common.{◌≡◌, ◌++◌, length, map, ℕ, List, Some,
 use Rattle.std.proofs.Common.{if◌then◌else◌}
 use Rattle.std.proofs.lemmas.List.{length-map}
 use Rattle.folder_core.specs.declared.error.ScanError.{ScanError}
-use Rattle.folder_core.specs.declared.error.ScanError.TheVariants.{Missing, NotMailbox, TooMany, TooLarge, Unfinished}
+use Rattle.folder_core.specs.declared.error.ScanError.TheVariants.{Missing, NotMailbox, TooMany}
+use Rattle.folder_core.specs.declared.error.ScanError.TheVariants.{TooLarge, Unfinished}
 use Rattle.folder_core.specs.declared.error.ScanError.TheVariants.{ArchiveFull, Fault, NoMemory}
 use Rattle.folder_core.specs.declared.region.Region.{Region}
 use Rattle.folder_core.specs.Letters.{plain_letter}
@@ -15,15 +16,18 @@ use Rattle.mbox_folder.specs.ListedFile.{IsUnlisted}
 use Rattle.mbox_folder.proofs.listing.list_file.Goals as goal
 
 -- as many messages as regions
-counts : (bytes : List ℕ) (items : List Region) → items ≡ regions bytes → length items ≡ length (raw_messages bytes)
+counts : (bytes : List ℕ) (items : List Region) → items ≡ regions bytes
+    → length items ≡ length (raw_messages bytes)
 counts bytes items same = ap length same ∙ sym (length-map (regions bytes) (in_region bytes))
     ∙ ap length (map-regions bytes)
 
 -- a file that begins as a mailbox is refused by its count alone
-refused : (letters : ℕ) (bytes : List ℕ) (items : List Region) → begins_mailbox bytes ≡ true → items ≡ regions bytes
+refused : (letters : ℕ) (bytes : List ℕ) (items : List Region) → begins_mailbox bytes ≡ true
+    → items ≡ regions bytes
     → bytes_refusal letters bytes ≡ count_refusal letters (length items)
 refused letters bytes items begins same =
-    ap (λ t. if t then count_refusal letters (length (raw_messages bytes)) else Some (NotMailbox 0)) begins
+    ap (λ t. if t then count_refusal letters (length (raw_messages bytes)) else Some (NotMailbox 0))
+    begins
     ∙ ap (count_refusal letters) (sym (counts bytes items same))
 
 -- a count is refused as too many, or for want of ids
@@ -44,24 +48,30 @@ unlisted letters bytes count why same is = by_why why (same ∙ is)
 
 pub returns-in-Some-clause-unlisted : goal.returns-in-Some-clause-unlisted
 returns-in-Some-clause-unlisted c =
-    unlisted (length c.args.archive.now.items) c.args.bytes.now (length c.in-Ok.regions.items) c.in-Some.why
-    (refused (length c.args.archive.now.items) c.args.bytes.now c.in-Ok.regions.items (c.in-Ok.ensures.mailbox refl)
+    unlisted (length c.args.archive.now.items) c.args.bytes.now (length c.in-Ok.regions.items)
+    c.in-Some.why
+    (refused (length c.args.archive.now.items) c.args.bytes.now c.in-Ok.regions.items
+    (c.in-Ok.ensures.mailbox refl)
     c.in-Ok.ensures.cut)
     (ap (λ n. count_refusal n (length c.in-Ok.regions.items)) (sym c.len.ensures)
-    ∙ ap (count_refusal c.len.result) (sym c.len-2.ensures) ∙ sym c.count_refusal.ensures ∙ c.in-Some.is)
+    ∙ ap (count_refusal c.len.result) (sym c.len-2.ensures) ∙ sym c.count_refusal.ensures
+    ∙ c.in-Some.is)
 
 pub returns-in-Ok-list_messages-clause-listed : goal.returns-in-Ok-list_messages-clause-listed
 returns-in-Ok-list_messages-clause-listed c =
-    let same : length (map plain_letter c.args.archive.now.items) ≡ length c.args.archive.now.items = length-map
+    let same : length (map plain_letter c.args.archive.now.items)
+    ≡ length c.args.archive.now.items = length-map
     c.args.archive.now.items plain_letter in
     record {
       taken = ap (λ n. bytes_refusal n c.args.bytes.now) same
           ∙ refused (length c.args.archive.now.items) c.args.bytes.now c.in-Ok.regions.items
           (c.in-Ok.ensures.mailbox refl) c.in-Ok.ensures.cut
           ∙ ap (λ n. count_refusal n (length c.in-Ok.regions.items)) (sym c.len.ensures)
-          ∙ ap (count_refusal c.len.result) (sym c.len-2.ensures) ∙ sym c.count_refusal.ensures ∙ c.in-None.is;
+          ∙ ap (count_refusal c.len.result) (sym c.len-2.ensures) ∙ sym c.count_refusal.ensures
+          ∙ c.in-None.is;
       letters = c.in-Ok-list_messages.ensures.letters
-          ∙ ap (λ n. map plain_letter c.args.archive.now.items ++ letters_from n (raw_messages c.args.bytes.now))
+          ∙ ap (λ n. map plain_letter c.args.archive.now.items
+          ++ letters_from n (raw_messages c.args.bytes.now))
           (sym same);
       listed = c.in-Ok-list_messages.ensures.listed
           ∙ ap (λ n. listed_from n (raw_messages c.args.bytes.now)) (sym same);

@@ -29,22 +29,26 @@ no_letters : (items : List Mail) (id : ℕ) (bytes : List ℕ) (left : List Regi
 no_letters items id bytes [] none = append-nil items
 no_letters items id bytes (region ∷ left) none = absurd (omega arith)
 
-nothing_listed : (items : List Listed) (id : ℕ) (bytes : List ℕ) (left : List Region) → length left < 1
+nothing_listed : (items : List Listed) (id : ℕ) (bytes : List ℕ) (left : List Region)
+    → length left < 1
     → items ++ listed_from id (map (in_region bytes) left) ≡ items
 nothing_listed items id bytes [] none = append-nil items
 nothing_listed items id bytes (region ∷ left) none = absurd (omega arith)
 
 pub returns-clause-letters : goal.returns-clause-letters
 returns-clause-letters c =
-    sym (no_letters (map plain_letter c.loop-left.archive.items) (length c.loop-left.archive.items) c.args.bytes.now
+    sym (no_letters (map plain_letter c.loop-left.archive.items) (length c.loop-left.archive.items)
+    c.args.bytes.now
     c.loop-left.left.now c.in_default.len_below)
     ∙ c.loop-left.invariant.letters
-    ∙ ap (λ raws. map plain_letter c.args.archive.now.items ++ letters_from (length c.args.archive.now.items) raws)
+    ∙ ap (λ raws. map plain_letter c.args.archive.now.items
+    ++ letters_from (length c.args.archive.now.items) raws)
     (whole c.args.bytes.now c.args.regions.now c.requires.cut)
 
 pub returns-clause-listed : goal.returns-clause-listed
 returns-clause-listed c =
-    sym (nothing_listed c.loop-left.came.items (length c.loop-left.archive.items) c.args.bytes.now c.loop-left.left.now
+    sym (nothing_listed c.loop-left.came.items (length c.loop-left.archive.items) c.args.bytes.now
+    c.loop-left.left.now
     c.in_default.len_below)
     ∙ c.loop-left.invariant.listed
     ∙ ap (λ raws. listed_from (length c.args.archive.now.items) raws)
@@ -57,5 +61,6 @@ first_ends end [] some h = absurd (omega arith)
 first_ends end (region ∷ left) some h = Cover-le region.end end left h.1.2
 
 pub slice_bounds-raw-end : goal.slice_bounds-raw-end
-slice_bounds-raw-end c = first_ends (length c.args.bytes.now) c.loop-left.left.now c.in-len1-up.len_at_least
+slice_bounds-raw-end c =
+    first_ends (length c.args.bytes.now) c.loop-left.left.now c.in-len1-up.len_at_least
     c.loop-left.invariant.cover

@@ -8,7 +8,8 @@ use Rattle.mbox_folder.proofs.listing.list_messages.Given as goal
 abbrev pub invariant-loop-left : goal.invariant-loop-left
 invariant-loop-left l = record {
   cover : (from : ℕ) × Cover from (length l.bytes) l.left;
-  letters : map plain_letter l.archive.items ++ letters_from (length l.archive.items) (map (in_region l.bytes) l.left)
+  letters : map plain_letter l.archive.items
+      ++ letters_from (length l.archive.items) (map (in_region l.bytes) l.left)
       ≡ map plain_letter l.initial.archive.items ++ letters_from (length l.initial.archive.items)
       (map (in_region l.bytes) l.regions);
   listed : l.came.items ++ listed_from (length l.archive.items) (map (in_region l.bytes) l.left)

@@ -4,7 +4,8 @@ use Rattle.mail_base.specs.Lines.{is_empty_line}
 use Rattle.std.proofs.lemmas.Bool.Decides.{nat_tests}
 use Rattle.mbox_folder.proofs.message_core.is_empty_text.Goals as goal
 
-alone : (text : List ℕ) → (length text == 0) ≡ false → bytes_eq text (13 ∷ []) ≡ is_empty_line (text ++ 10 ∷ [])
+alone : (text : List ℕ) → (length text == 0) ≡ false
+    → bytes_eq text (13 ∷ []) ≡ is_empty_line (text ++ 10 ∷ [])
 alone [] some = cc
 alone (b ∷ []) some = grind (arith, nat_tests)
 alone (b ∷ c ∷ []) some = grind (arith, nat_tests)

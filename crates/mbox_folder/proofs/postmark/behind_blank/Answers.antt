@@ -1,4 +1,5 @@
-use Rattle.std.proofs.Common.{◌≡◌, ◌+◌, ◌-◌, List, ℕ, length, length-drop, take, take_all, drop, ap, sym, ◌∙◌, arith}
+use Rattle.std.proofs.Common.{◌≡◌, ◌+◌, ◌-◌, List, ℕ, length, length-drop, take, take_all, drop, ap}
+use Rattle.std.proofs.Common.{sym, ◌∙◌, arith}
 use Rattle.folder_core.specs.Mbox.{first_some, stamp, stamp_behind}
 use Rattle.mbox_folder.proofs.PostmarkLemmas.{stamp_behind-Some, stamp_behind-None}
 use Rattle.mbox_folder.proofs.postmark.behind_blank.Goals as goal

@@ -13,13 +13,15 @@ returns-then-is_empty-clause-cut c =
 pub returns-then-is_empty-clause-cover : goal.returns-then-is_empty-clause-cover
 returns-then-is_empty-clause-cover c =
     Cover-same c.args.bytes.now _
-    (c.new.ensures ∙ sym (regions_empty c.args.bytes.now (eqb-true _ _ (sym c.if-is_empty.ensures))))
+    (c.new.ensures
+    ∙ sym (regions_empty c.args.bytes.now (eqb-true _ _ (sym c.if-is_empty.ensures))))
 
 pub returns-then-is_empty-clause-mailbox : goal.returns-then-is_empty-clause-mailbox
 returns-then-is_empty-clause-mailbox c =
     λ ok. begins_empty c.args.bytes.now (eqb-true _ _ (sym c.if-is_empty.ensures))
 
-pub returns-then-not-is_postmark-clause-not_mailbox : goal.returns-then-not-is_postmark-clause-not_mailbox
+pub returns-then-not-is_postmark-clause-not_mailbox :
+    goal.returns-then-not-is_postmark-clause-not_mailbox
 returns-then-not-is_postmark-clause-not_mailbox c = λ err.
     let some : 0 < length c.args.bytes.now = grind (arith, nat_tests) in
     begins_first c.args.bytes.now some ∙ ap is_postmark (sym c.first_line.ensures.value)

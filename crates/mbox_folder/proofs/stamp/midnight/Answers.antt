@@ -12,7 +12,8 @@ returns-clause-start c =
     let ymd : IsYmd (pos c.args.year) (pos c.args.month) (pos c.args.day) day =
     (given.0 ∙ omega (arith, ints), given.1 ∙ omega (arith, ints), given.2 ∙ omega (arith, ints)) in
     let seconds : c.as_secs.result ≡ epoch_day day *ℤ pos 86_400 =
-    seconds_of_days _ _ _ _ (unix_day c.date.result c.date.ensures) c.duration_since.ensures c.as_secs.ensures in
+    seconds_of_days _ _ _ _ (unix_day c.date.result c.date.ensures) c.duration_since.ensures
+    c.as_secs.ensures in
     let range = epoch_day_range day in
     ap (λ (s : ℤ). Some s) (omega (arith, ints)) ∙ midnight-date day _ _ _ ymd
 
@@ -20,6 +21,7 @@ pub returns-clause-bound : goal.returns-clause-bound
 returns-clause-bound c =
     let day = c.in-Ok.day in
     let seconds : c.as_secs.result ≡ epoch_day day *ℤ pos 86_400 =
-    seconds_of_days _ _ _ _ (unix_day c.date.result c.date.ensures) c.duration_since.ensures c.as_secs.ensures in
+    seconds_of_days _ _ _ _ (unix_day c.date.result c.date.ensures) c.duration_since.ensures
+    c.as_secs.ensures in
     let range = epoch_day_range day in
     (omega (arith, ints), omega (arith, ints))

@@ -14,5 +14,7 @@ returns c =
     (λ a r q k. search rules) in
     let same : joined_sorted c.as_slice.result.now ≡ all_ordered c.args.ranges.items =
     ap joined_sorted c.as_slice.ensures.value
-    ∙ sorted_order c.args.ranges.items now c.requires c.in_ok-sort_by_key.ensures.permutation rises in
-    subst (λ (l : List Range). IfOk c.join_sorted.result (λ r. r.items ≡ l)) same c.join_sorted.ensures
+    ∙ sorted_order c.args.ranges.items now c.requires c.in_ok-sort_by_key.ensures.permutation
+    rises in
+    subst (λ (l : List Range). IfOk c.join_sorted.result (λ r. r.items ≡ l)) same
+    c.join_sorted.ensures

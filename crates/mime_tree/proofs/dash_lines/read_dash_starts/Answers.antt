@@ -6,7 +6,9 @@ use Rattle.mime_tree.proofs.dash_lines.read_dash_starts.Goals as goal
 
 pub loop-line-init : goal.loop-line-init
 loop-line-init c =
-    let value = c.into_iter-line-iterator.ensures.into_iter_gives ∙ c.lines_with_terminator-line-items.ensures.value in
+    let value =
+    c.into_iter-line-iterator.ensures.into_iter_gives
+    ∙ c.lines_with_terminator-line-items.ensures.value in
     record {
       within = omega (arith, ap length (ap concat value ∙ concat-lines_of c.args.raw.now));
       same =

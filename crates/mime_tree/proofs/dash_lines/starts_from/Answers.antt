@@ -8,7 +8,8 @@ returns-in-Some c =
     let starts = c.args.starts.now in
     let found = place_some (λ at. nat_le c.args.place at) starts c.in-Some.index
     (sym c.first_from.ensures.value ∙ c.in-Some.is) in
-    take_all _ _ (omega (arith, length-drop c.in-Some.index starts)) ∙ ap (λ n. drop n starts) (sym found)
+    take_all _ _ (omega (arith, length-drop c.in-Some.index starts))
+    ∙ ap (λ n. drop n starts) (sym found)
 
 pub returns-in-None : goal.returns-in-None
 returns-in-None c =

@@ -18,7 +18,8 @@ invariant_of-result c =
       marked =
           c.starts_from.ensures
           ∙ ap (starts_from place) s.marked
-          ∙ ap (λ b. starts_from (start + (length text - length b)) (dash_starts start (lines_of text))) same
+          ∙ ap (λ b. starts_from (start + (length text - length b))
+          (dash_starts start (lines_of text))) same
           ∙ body_starts start text
           ∙ ap (λ b. dash_starts (start + (length text - length b)) (lines_of b)) (sym same);
     }

@@ -4,7 +4,8 @@ use Rattle.mime_tree.proofs.parameter.quoted_value.Given as goal
 
 abbrev pub invariant-loop-left : goal.invariant-loop-left
 invariant-loop-left l = record {
-  same : option_map (λ (v : PlainValue). record v { bytes = l.bytes.items ++ v.bytes }) (quoted_value l.escaped l.left)
+  same : option_map (λ (v : PlainValue). record v { bytes = l.bytes.items ++ v.bytes })
+      (quoted_value l.escaped l.left)
       ≡ quoted_value false l.text;
   shorter : length l.left ≤ length l.text;
 }

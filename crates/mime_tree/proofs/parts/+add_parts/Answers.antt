@@ -19,7 +19,8 @@ loop-left-init t c =
     let nesting = c.args.nesting in
     let parts = parts_in (levels - 1) (nesting + 1) in
     let done = plain_parts c.args.parts.now in
-    let children = ap (map plain_section) c.as_slice-left.ensures.value ∙ c.in_ok-part.ensures.children in
+    let children =
+    ap (map plain_section) c.as_slice-left.ensures.value ∙ c.in_ok-part.ensures.children in
     let pushed : plain_parts c.push.new.self ≡ done ++ part_of nesting s ∷ [] =
     ap (map plain_part) c.in_ok-push.ensures.ok
     ∙ map-append plain_part c.args.parts.now.items (c.in_ok-part.field-0.part ∷ [])
@@ -34,5 +35,6 @@ loop-left-preserved t c =
     let done = plain_parts c.loop-left.parts in
     joined_rest parts c.loop-left.left.now c.first-item.result done _ _
     c.in-len1-up.len_at_least
-    (ap (λ s. joined done (parts (plain_section s))) (sym c.first-item.is) ∙ c.in_ok-add_parts.ensures.ok)
+    (ap (λ s. joined done (parts (plain_section s))) (sym c.first-item.is)
+    ∙ c.in_ok-add_parts.ensures.ok)
     c.loop-left.invariant

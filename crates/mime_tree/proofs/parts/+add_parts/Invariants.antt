@@ -12,7 +12,8 @@ abbrev pub invariant-loop-left : goal.invariant-loop-left
 invariant-loop-left l =
     joined (plain_parts l.parts)
     (all_parts (parts_in (l.fn.levels - 1) (l.fn.nesting + 1)) (map plain_section l.left))
-    ≡ joined (plain_parts l.fn.parts) (parts_in l.fn.levels l.fn.nesting (plain_section l.fn.section))
+    ≡ joined (plain_parts l.fn.parts)
+    (parts_in l.fn.levels l.fn.nesting (plain_section l.fn.section))
 
 abbrev pub decreases-loop-left : goal.decreases-loop-left
 decreases-loop-left l = length l.left

@@ -25,7 +25,9 @@ returns-clause-parts c =
     ∙ ap (named_type false) (ap (map plain_field) c.as_slice.ensures ∙ c.in_ok-fields.ensures))
     (sym (c.holds_parts.ensures ∙ ap holds_parts c.as_slice-2.ensures) ∙ c.if-holds_parts.false)
     c.in_ok-part_of.ensures
-    (ap (map plain_part) (c.in_ok-push.ensures.ok ∙ ap (λ l. l ++ c.in_ok-part_of.field-0 ∷ []) c.new-parts.ensures))
+    (ap (map plain_part)
+    (c.in_ok-push.ensures.ok ∙ ap (λ l. l ++ c.in_ok-part_of.field-0 ∷ []) c.new-parts.ensures))
 
 pub returns-clause-within : goal.returns-clause-within
-returns-clause-within c = within_parts 33 c.args.raw.now c.push.new.self.items (returns-clause-parts c)
+returns-clause-within c =
+    within_parts 33 c.args.raw.now c.push.new.self.items (returns-clause-parts c)

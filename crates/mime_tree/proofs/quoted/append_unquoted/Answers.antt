@@ -26,5 +26,6 @@ returns c =
     let bytes = c.loop-plain.bytes.items in
     let left = c.loop-plain.left.now in
     c.in_ok-append-2.ensures.ok
-    ∙ ap (λ (t : List ℕ). bytes ++ t) (sym (unquoted-split_once left None c.in_default.ensures.value))
+    ∙ ap (λ (t : List ℕ). bytes ++ t)
+    (sym (unquoted-split_once left None c.in_default.ensures.value))
     ∙ c.loop-plain.invariant

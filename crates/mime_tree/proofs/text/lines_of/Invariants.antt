@@ -5,4 +5,5 @@ use Rattle.mail_base.specs.Series.{plain_texts}
 use Rattle.mime_tree.proofs.text.lines_of.Given as goal
 
 abbrev pub invariant-loop-bytes : goal.invariant-loop-bytes
-invariant-loop-bytes l = plain_texts l.lines ++ map (text_in l.charset) l.bytes-iterator ≡ lines_in l.charset l.fn.text
+invariant-loop-bytes l =
+    plain_texts l.lines ++ map (text_in l.charset) l.bytes-iterator ≡ lines_in l.charset l.fn.text

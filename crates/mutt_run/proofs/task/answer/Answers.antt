@@ -12,33 +12,42 @@ pub returns-in_default-clause-reads : goal.returns-in_default-clause-reads
 returns-in_default-clause-reads g c = λ o is task left moments.
     values_early o c.args.moment _ _ _ _ _ _ is task
     (ap (λ (a : Held Letter). map plain_letter a.items) c.answers.ensures.archive
-    ∙ ap (map plain_letter) c.requires.archive) (rw (to_z-of_z c.ranges.moment) at c.answers.ensures.sources) refl refl refl refl
+    ∙ ap (map plain_letter) c.requires.archive)
+    (rw (to_z-of_z c.ranges.moment) at c.answers.ensures.sources) refl refl refl refl
 
 pub returns-in-Err-clause-reads : goal.returns-in-Err-clause-reads
 returns-in-Err-clause-reads g c = λ o is task left moments.
     values_untold o c.args.moment _ _ _ _ _ _ is task
     (ap (λ (a : Held Letter). map plain_letter a.items) c.answers.ensures.archive
-    ∙ ap (map plain_letter) c.requires.archive) (rw (to_z-of_z c.ranges.moment) at c.answers.ensures.sources) refl refl _ _
-    ((rw (to_z-of_z c.ranges.moment) at c.in-Ok.ensures.ok) _ (keeps_same _)) refl _ c.in-Err.ensures.which c.in-Err.ensures.err
+    ∙ ap (map plain_letter) c.requires.archive)
+    (rw (to_z-of_z c.ranges.moment) at c.answers.ensures.sources) refl refl _ _
+    ((rw (to_z-of_z c.ranges.moment) at c.in-Ok.ensures.ok) _ (keeps_same _)) refl _
+    c.in-Err.ensures.which c.in-Err.ensures.err
 
 pub returns-then-is_err-clause-reads : goal.returns-then-is_err-clause-reads
 returns-then-is_err-clause-reads g c = λ o is task left moments.
     values_off o c.args.moment _ _ _ _ _ _ is task
     (ap (λ (a : Held Letter). map plain_letter a.items) c.answers.ensures.archive
-    ∙ ap (map plain_letter) c.requires.archive) (rw (to_z-of_z c.ranges.moment) at c.answers.ensures.sources) refl refl _ _
-    ((rw (to_z-of_z c.ranges.moment) at c.in-Ok.ensures.ok) _ (keeps_same _)) c.in_default-tell_notes.ensures.ok refl _ (inr refl)
+    ∙ ap (map plain_letter) c.requires.archive)
+    (rw (to_z-of_z c.ranges.moment) at c.answers.ensures.sources) refl refl _ _
+    ((rw (to_z-of_z c.ranges.moment) at c.in-Ok.ensures.ok) _ (keeps_same _))
+    c.in_default-tell_notes.ensures.ok refl _ (inr refl)
 
 pub returns-in-Ok-print-clause-reads : goal.returns-in-Ok-print-clause-reads
 returns-in-Ok-print-clause-reads g c = λ o is task left moments.
     values_done o c.args.moment _ _ _ _ _ _ is task
     (ap (λ (a : Held Letter). map plain_letter a.items) c.answers.ensures.archive
-    ∙ ap (map plain_letter) c.requires.archive) (rw (to_z-of_z c.ranges.moment) at c.answers.ensures.sources) refl refl _ _
-    ((rw (to_z-of_z c.ranges.moment) at c.in-Ok.ensures.ok) _ (keeps_same _)) c.in_default-tell_notes.ensures.ok (search rules)
+    ∙ ap (map plain_letter) c.requires.archive)
+    (rw (to_z-of_z c.ranges.moment) at c.answers.ensures.sources) refl refl _ _
+    ((rw (to_z-of_z c.ranges.moment) at c.in-Ok.ensures.ok) _ (keeps_same _))
+    c.in_default-tell_notes.ensures.ok (search rules)
 
 pub returns-clause-reads : goal.returns-clause-reads
 returns-clause-reads g c = λ o is task left moments.
     values_part o c.args.moment _ _ _ _ _ _ is task
     (ap (λ (a : Held Letter). map plain_letter a.items) c.answers.ensures.archive
-    ∙ ap (map plain_letter) c.requires.archive) (rw (to_z-of_z c.ranges.moment) at c.answers.ensures.sources) refl refl _ _
-    ((rw (to_z-of_z c.ranges.moment) at c.in-Ok.ensures.ok) _ (keeps_same _)) c.in_default-tell_notes.ensures.ok _
+    ∙ ap (map plain_letter) c.requires.archive)
+    (rw (to_z-of_z c.ranges.moment) at c.answers.ensures.sources) refl refl _ _
+    ((rw (to_z-of_z c.ranges.moment) at c.in-Ok.ensures.ok) _ (keeps_same _))
+    c.in_default-tell_notes.ensures.ok _
     c.in-Err-print.ensures.which (search rules)

@@ -7,12 +7,14 @@ use Rattle.mutt_run.proofs.turning.turn.Goals as goal
 
 pub returns-in-Err-clause-turned : goal.returns-in-Err-clause-turned
 returns-in-Err-clause-turned g c = λ given is first start goes.
-    runs_out given first _ _ _ (c.key.ensures.presses.on c.requires.room given is first goes.goes.screens
+    runs_out given first _ _ _
+    (c.key.ensures.presses.on c.requires.room given is first goes.goes.screens
     (c.check.ensures.stood given first goes.goes.screens goes.goes.stands)) start _ (goes_so goes)
 
 pub returns-in-Err-clause-pressed : goal.returns-in-Err-clause-pressed
 returns-in-Err-clause-pressed g c =
-    pressed_on _ _ _ _ _ _ refl (to_z-of_z c.ranges.moment) (c.key.ensures.presses.pressed c.requires.room)
+    pressed_on _ _ _ _ _ _ refl (to_z-of_z c.ranges.moment)
+    (c.key.ensures.presses.pressed c.requires.room)
 
 pub returns-in-Ok-clause-turned : goal.returns-in-Ok-clause-turned
 returns-in-Ok-clause-turned g c = λ given is first start goes.
@@ -25,7 +27,8 @@ returns-in-Ok-clause-turned g c = λ given is first start goes.
 
 pub returns-in-Ok-clause-pressed : goal.returns-in-Ok-clause-pressed
 returns-in-Ok-clause-pressed g c =
-    pressed_on _ _ _ _ _ _ refl (to_z-of_z c.ranges.moment) (c.key.ensures.presses.pressed c.requires.room)
+    pressed_on _ _ _ _ _ _ refl (to_z-of_z c.ranges.moment)
+    (c.key.ensures.presses.pressed c.requires.room)
 
 pub returns-in-Err-clause-told : goal.returns-in-Err-clause-told
 returns-in-Err-clause-told g c = c.key.ensures.presses.told

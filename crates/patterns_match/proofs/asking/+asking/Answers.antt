@@ -8,8 +8,8 @@ use Rattle.people.specs.People.{PlainPeople}
 use Rattle.patterns_match.specs.Asked.{asked_operations, asked_tree}
 use Rattle.patterns_match.specs.Entries.{plain_entry}
 use Rattle.patterns_match.specs.Satisfies.{satisfies}
-use Rattle.patterns_match.proofs.AskingLemmas.{framed, ordered, steps_if, steps_others, steps_unless}
-use Rattle.patterns_match.proofs.AskingLemmas.{free_front, whole_front}
+use Rattle.patterns_match.proofs.AskingLemmas.{framed, ordered, steps_if, steps_others}
+use Rattle.patterns_match.proofs.AskingLemmas.{steps_unless, free_front, whole_front}
 use Rattle.patterns_match.proofs.ListingLemmas.{nobody_related, none_related, one_related}
 use Rattle.patterns_match.proofs.ListingLemmas.{parent_alone, parentless}
 use Rattle.patterns_match.proofs.asking.+asking.Goals as goal

@@ -31,7 +31,8 @@ returns-in-Some-2-clause-ran g c =
     } in s) (put ∙ (λ i. unread c.in-Some-2.path.items
     (inner_origin (c.in_ok-path.ensures.place i).origin)
     ((c.in_ok-path.ensures.place i).depth + 1) ∷ is i ∷ rest))
-    ∙ frames_step c.args.time later (plain_frame frame) (commands_left frame) rest c.loop-frame.rules
+    ∙ frames_step c.args.time later (plain_frame frame) (commands_left frame) rest
+    c.loop-frame.rules
     (plain_told c.loop-frame.told) half
     (ap (λ (s : Option (List ℕ)). let h : Half = record half { source = s } in h)
     (sym (ap plain_shown c.in-Some-2.is)) ∙ c.in_ok-path.ensures.half later keeps)
@@ -53,7 +54,8 @@ loop-frame-preserved g c =
     } in record {
       keeps = keeps_on _ _ _ c.loop-frame.invariant.keeps c.run.ensures.keeps;
       went = λ later keeps.
-          frames_step c.args.time later (plain_frame frame) (commands_left frame) rest c.loop-frame.rules
+          frames_step c.args.time later (plain_frame frame) (commands_left frame) rest
+          c.loop-frame.rules
           (plain_told c.loop-frame.told) half
           (ap (λ (s : Option (List ℕ)). let h : Half = record half { source = s } in h)
           (sym (ap plain_shown c.in-None.is)) ∙ c.in_ok-path.ensures.half later keeps)

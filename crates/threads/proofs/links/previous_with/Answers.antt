@@ -14,7 +14,8 @@ returns-in-Some c =
       ap (λ (q : PlainMessage). q.message_id)
           (at_place messages c.index-messages-previous.result (place - 1) lt
           c.index-messages-previous.is)
-          ∙ ap (λ (x : Message). option_map (λ id. id.items) x.message_id) c.index-messages-previous.is
+          ∙ ap (λ (x : Message). option_map (λ id. id.items) x.message_id)
+          c.index-messages-previous.is
           ∙ ap (option_map (λ id. id.items)) c.in-Some.is
           ∙ ap Some (sym c.as_slice.ensures
           ∙ bytes_same c.as_slice.result.now c.args.id.now (sym c.if-eq.ensures)),

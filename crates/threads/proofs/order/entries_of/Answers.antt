@@ -12,7 +12,9 @@ loop-place-preserved c =
     let place = c.loop-place.place in
     let f = entry_at (plain_messages messages) in
     c.in_ok-push.ensures.items
-    ∙ ap (λ l. l ++ record { place = place; id = (get_or messages place c.index-messages-place.result).id } ∷ [])
+    ∙ ap (λ l. l
+    ++ record { place = place; id = (get_or messages place c.index-messages-place.result).id }
+    ∷ [])
     c.loop-place.invariant
     ∙ ap (λ (m : PlainMessage). map f (range_with_len 0 place)
     ++ record { place = place; id = m.id } ∷ [])

@@ -31,6 +31,7 @@ returns-clause-sorted g c = λ order strict answers.
     (subst (λ es. IsPermutation es c.sort_by.new.self.items) c.in_ok-entries.ensures
     c.sort_by.ensures.permutation)
     (c.in_ok-sort_by.ensures.sorted (λ a b. order a.id b.id) (on_ids order strict.order)
-    (always_returns_same _ _ _ (λ a r f' k. (k.met.1 order answers, λ i. record { 0 = k.met.0 i }))))
+    (always_returns_same _ _ _
+    (λ a r f' k. (k.met.1 order answers, λ i. record { 0 = k.met.0 i }))))
     ∙ ap (λ n. in_order_by (by_id order ms) (range_with_len 0 n))
     (length-map c.args.messages.now plain_message)

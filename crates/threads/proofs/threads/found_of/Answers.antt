@@ -7,8 +7,8 @@ use Rattle.threads.specs.Threads.{root_of}
 use Rattle.threads.specs.Message.{is_listed_before, plain_message, plain_messages}
 use Rattle.threads.specs.Subjects.{parents, with_subjects}
 use Rattle.threads.specs.Walk.{AreEnds, FitsMessages}
-use Rattle.threads.proofs.FoundLemmas.{Ends-none, cut_is, fits, forest, parents_long, refs_long, roots_are}
-use Rattle.threads.proofs.FoundLemmas.{roots_below, roots_long}
+use Rattle.threads.proofs.FoundLemmas.{Ends-none, cut_is, fits, forest, parents_long, refs_long}
+use Rattle.threads.proofs.FoundLemmas.{roots_are, roots_below, roots_long}
 use Rattle.threads.proofs.threads.found_of.Goals as goal
 
 pub ends_of-requires : goal.ends_of-requires

@@ -7,7 +7,8 @@ use Rattle.disk_state.proofs.first.First.new.Given as goal
 
 abbrev pub invariant-loop-left : goal.invariant-loop-left
 invariant-loop-left l = record {
-  so_far : map plain_kept l.tree.items ++ stamped l.stamp (map plain_node l.left) ≡ stamped 1 (map plain_node l.nodes);
+  so_far : map plain_kept l.tree.items ++ stamped l.stamp (map plain_node l.left)
+      ≡ stamped 1 (map plain_node l.nodes);
   end : end_stamp l.stamp (map plain_node l.left) ≡ end_stamp 1 (map plain_node l.nodes);
   small : l.stamp + length l.left ≤ 1 + length l.nodes;
 }

@@ -9,7 +9,8 @@ invariant-loop-left l = record {
       map plain_name l.names.items ++ first_names (length l.files.items) (map plain_kept l.left)
       ≡ first_names 0 (plain_first l.self);
   files :
-      map plain_file l.files.items ++ first_files (map plain_kept l.left) ≡ first_files (plain_first l.self);
+      map plain_file l.files.items ++ first_files (map plain_kept l.left)
+      ≡ first_files (plain_first l.self);
 }
 
 abbrev pub decreases-loop-left : goal.decreases-loop-left

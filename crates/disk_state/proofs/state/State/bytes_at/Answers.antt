@@ -23,6 +23,7 @@ pub returns-in-Some-Some : goal.returns-in-Some-Some
 returns-in-Some-Some c =
     c.bytes_of.ensures
     ∙ sym (ap node_bytes
-    (file_at_path (plain_state c.args.self.now) c.args.path.now c.name_at.result c.in-Some-Some.number
+    (file_at_path (plain_state c.args.self.now) c.args.path.now c.name_at.result
+    c.in-Some-Some.number
     (c.name_at.ensures ∙ ap (name_at (plain_state c.args.self.now).names) c.as_bytes.ensures.value)
     (c.in-Some-Some.is ∙ ap (λ (f : Option ℕ). Some f) c.in-Some-Some.field-0-is)))

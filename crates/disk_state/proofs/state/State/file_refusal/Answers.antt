@@ -19,5 +19,6 @@ returns-in-Some-None c =
 pub returns-in-Some-Some : goal.returns-in-Some-Some
 returns-in-Some-Some c =
     sym (ap file_refusal
-    (file_at_path (plain_state c.args.self.now) c.args.path.now c.name_at.result c.in-Some-Some.field-0-0 c.name_at.ensures
+    (file_at_path (plain_state c.args.self.now) c.args.path.now c.name_at.result
+    c.in-Some-Some.field-0-0 c.name_at.ensures
     (c.in-Some-Some.is ∙ ap (λ (f : Option ℕ). Some f) c.in-Some-Some.field-0-is)))

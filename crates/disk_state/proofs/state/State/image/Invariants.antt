@@ -6,7 +6,8 @@ use Rattle.disk_state.proofs.state.State.image.Given as goal
 
 abbrev pub invariant-loop-left : goal.invariant-loop-left
 invariant-loop-left l =
-    map plain_node l.tree.items ++ filled_tree l.fill (plain_state l.self).files (map plain_name l.left)
+    map plain_node l.tree.items
+    ++ filled_tree l.fill (plain_state l.self).files (map plain_name l.left)
     ≡ image_of (plain_state l.self) l.names l.fill
 
 abbrev pub decreases-loop-left : goal.decreases-loop-left

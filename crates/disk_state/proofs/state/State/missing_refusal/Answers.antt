@@ -13,4 +13,5 @@ returns-in-None c =
 pub returns-in-Some : goal.returns-in-Some
 returns-in-Some c =
     sym (ap missing_refusal
-    (something_at (plain_state c.args.self.now) c.args.path.now c.name_at.result c.in-Some.field-0 c.name_at.ensures c.in-Some.is))
+    (something_at (plain_state c.args.self.now) c.args.path.now c.name_at.result c.in-Some.field-0
+    c.name_at.ensures c.in-Some.is))

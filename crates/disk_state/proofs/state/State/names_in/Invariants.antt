@@ -7,7 +7,8 @@ use Rattle.disk_state.proofs.state.State.names_in.Given as goal
 abbrev pub invariant-loop-left : goal.invariant-loop-left
 invariant-loop-left l =
     more_names (plain_names l.found.items) l.dir
-    (map (λ name. node_of (map plain_file l.self.files.items) name.path name.file) (map plain_name l.left))
+    (map (λ name. node_of (map plain_file l.self.files.items) name.path name.file)
+    (map plain_name l.left))
     ≡ names_in (tree_of (plain_state l.self)) l.dir
 
 abbrev pub decreases-loop-left : goal.decreases-loop-left

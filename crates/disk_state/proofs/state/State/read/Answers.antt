@@ -28,7 +28,8 @@ returns-in-Some-Some-clause-read c =
     subst (λ (wanted : Result (Stat × List ℕ) DiskError).
     IfOk c.read_file.result (λ (read : Result FileRead DiskError). plain_read read ≡ wanted))
     (sym (ap (λ (n : Option TreeNode). read_at n c.args.limit)
-    (file_at_path (plain_state c.args.self.now) c.args.path.now c.name_at.result c.in-Some-Some.number
+    (file_at_path (plain_state c.args.self.now) c.args.path.now c.name_at.result
+    c.in-Some-Some.number
     (c.name_at.ensures ∙ ap (name_at (plain_state c.args.self.now).names) c.as_bytes.ensures.value)
     (c.in-Some-Some.is ∙ ap (λ (f : Option ℕ). Some f) c.in-Some-Some.field-0-is))))
     c.read_file.ensures.read

@@ -22,7 +22,9 @@ returns-in-Some-None c =
 pub returns-in-Some-Some : goal.returns-in-Some-Some
 returns-in-Some-Some c =
     c.long_refusal.ensures
-    ∙ sym (ap (λ (n : Option TreeNode). first_refusal (file_refusal n) (long_refusal c.args.limit n))
-    (file_at_path (plain_state c.args.self.now) c.args.path.now c.name_at.result c.in-Some-Some.number
+    ∙ sym (ap
+    (λ (n : Option TreeNode). first_refusal (file_refusal n) (long_refusal c.args.limit n))
+    (file_at_path (plain_state c.args.self.now) c.args.path.now c.name_at.result
+    c.in-Some-Some.number
     c.name_at.ensures
     (c.in-Some-Some.is ∙ ap (λ (f : Option ℕ). Some f) c.in-Some-Some.field-0-is)))

@@ -28,6 +28,7 @@ pub returns-in-Some-Some-clause-stat : goal.returns-in-Some-Some-clause-stat
 returns-in-Some-Some-clause-stat c =
     ap (λ (s : Stat). ok_stat s) c.stat_of.ensures.stat
     ∙ sym (ap stat_at
-    (file_at_path (plain_state c.args.self.now) c.args.path.now c.name_at.result c.in-Some-Some.number
+    (file_at_path (plain_state c.args.self.now) c.args.path.now c.name_at.result
+    c.in-Some-Some.number
     (c.name_at.ensures ∙ ap (name_at (plain_state c.args.self.now).names) c.as_bytes.ensures.value)
     (c.in-Some-Some.is ∙ ap (λ (f : Option ℕ). Some f) c.in-Some-Some.field-0-is)))

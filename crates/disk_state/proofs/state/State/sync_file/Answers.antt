@@ -14,5 +14,6 @@ returns-in_err-sync-clause-err c =
 pub returns-in_ok-sync-clause-ok : goal.returns-in_ok-sync-clause-ok
 returns-in_ok-sync-clause-ok c =
     ap (λ (files : List File). record (plain_state c.args.self.now) { files = files })
-    (files_changed c.args.self.now.files.items c.args.number c.index_mut.result.now c.sync.new.self synced
+    (files_changed c.args.self.now.files.items c.args.number c.index_mut.result.now c.sync.new.self
+    synced
     (omega arith) c.index_mut.ensures.value c.in_ok-sync.ensures.ok)

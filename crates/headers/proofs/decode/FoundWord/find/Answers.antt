@@ -1,5 +1,5 @@
-use Rattle.std.proofs.Common.{◌≡◌, ◌+◌, ◌-◌, ◌<◌, length, take, drop, None, option_map, sym, ap, ◌∙◌, subst, arith}
-use Rattle.std.proofs.Common.{add_assoc, length-drop}
+use Rattle.std.proofs.Common.{◌≡◌, ◌+◌, ◌-◌, ◌<◌, length, take, drop, None, option_map, sym, ap}
+use Rattle.std.proofs.Common.{◌∙◌, subst, arith, add_assoc, length-drop}
 use Rattle.std.proofs.lemmas.List.{take_all}
 use Rattle.headers.specs.EncodedWord.{encoded_word}
 use Rattle.headers.specs.EncodedWord.{plain_decoded_word}
@@ -16,7 +16,8 @@ loop-step-preserved c =
     let some = rw tail at c.in-Some.ensures.some in
     let within = rw tail at c.in-Some.ensures.within in
     let fits : at + step < length text = omega (arith, length-drop at text, within) in
-    let here : LooksFrom text (at + step) = looks_further text at step c.loop-step.invariant.same some in
+    let here : LooksFrom text (at + step) =
+    looks_further text at step c.loop-step.invariant.same some in
     let none : encoded_word (drop (at + step) text) ≡ None =
     ap encoded_word (sym c.split_at.ensures.back) ∙ sym c.in_ok-word.ensures.value
     ∙ ap (option_map plain_decoded_word) c.in_default-2.is in

@@ -5,7 +5,8 @@ use Rattle.headers.proofs.decode.FoundWord.find.Given as goal
 abbrev pub invariant-loop-step : goal.invariant-loop-step
 invariant-loop-step l = record {
   within : l.at ≤ length l.text;
-  same : option_map (with_text (take l.at l.text)) (first_word (drop l.at l.text)) ≡ first_word l.text;
+  same : option_map (with_text (take l.at l.text)) (first_word (drop l.at l.text))
+      ≡ first_word l.text;
 }
 
 abbrev pub decreases-loop-step : goal.decreases-loop-step

@@ -1,7 +1,8 @@
 use Rattle.std.proofs.Common.{refl, sym, ap}
 use Rattle.headers.specs.AddressByte.{has}
 use Rattle.headers.specs.declared.address_byte.Role.TheVariants.{AngleStart}
-use Rattle.mail_base.proofs.PlacesLemmas.{after_last_some, before_last_some, list_any_last_none, list_any_last_some}
+use Rattle.mail_base.proofs.PlacesLemmas.{after_last_some, before_last_some, list_any_last_none}
+use Rattle.mail_base.proofs.PlacesLemmas.{list_any_last_some}
 use Rattle.headers.proofs.people.Brackets.read.Goals as goal
 
 pub returns-in-Some : goal.returns-in-Some
@@ -22,4 +23,5 @@ returns-in-Some c =
     ) refl
 
 pub returns-in-None : goal.returns-in-None
-returns-in-None c = rw (list_any_last_none (has AngleStart) c.args.bytes.now c.in-None.ensures.value) refl
+returns-in-None c =
+    rw (list_any_last_none (has AngleStart) c.args.bytes.now c.in-None.ensures.value) refl

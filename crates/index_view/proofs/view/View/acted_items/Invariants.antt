@@ -5,7 +5,8 @@ use Rattle.index_view.proofs.view.View.acted_items.Given as goal
 
 abbrev pub invariant-loop-first : goal.invariant-loop-first
 invariant-loop-first l = record {
-  items : acted_all l.act l.left (plain_items l.items.items) ≡ acted_all l.act l.fn.ids l.fn.self.items;
+  items : acted_all l.act l.left (plain_items l.items.items)
+      ≡ acted_all l.act l.fn.ids l.fn.self.items;
   numbers : numbers (plain_items l.items.items) ≡ numbers l.fn.self.items;
 }
 

@@ -23,7 +23,8 @@ pub returns : goal.returns
 returns c =
     let marks = c.args.marks.now in
     let entries : List ScoreEntry = c.self.inside.tables.scores.entries.items in
-    let scores : held_entries c.keep.new.items.items ≡ kept marks (held_entries c.args.self.now.scores)
+    let scores : held_entries c.keep.new.items.items
+    ≡ kept marks (held_entries c.args.self.now.scores)
     = ap held_entries c.keep.ensures ∙ map-kept held_entry marks entries
     ∙ (λ i. kept marks (held_entries (c.self.view_is i).scores)) in
     on_ok_weaker c.judge.result (λ turned. record {

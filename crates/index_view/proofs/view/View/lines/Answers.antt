@@ -20,10 +20,14 @@ returns c =
     let put = rw (to_z-of_z offset) at c.in_ok-put_rows.ensures in
     let page_is : c.page-page.result.now ≡ page rows c.args.self.now = c.page-page.ensures.page
     ∙ ap (λ (s : PlainSight). page_of rows (visible_ids s) c.self.inside.cursor) c.sight.ensures
-    ∙ (λ i. page_of rows (visible_ids (c.self.view_is i).answers.sight) (c.self.view_is i).cursor) in
+    ∙ (λ i. page_of rows (visible_ids (c.self.view_is i).answers.sight)
+    (c.self.view_is i).cursor) in
     c.in_ok-put_blanks.ensures
     ∙ ap (λ (front : List (List ℕ)). front ++ replicate (rows - length c.page-page.result.now) [])
-    (put ∙ ap (λ (l : List (List ℕ)). l ++ map (marked_line (map plain_letter c.args.archive.now.items) c.args.self.now style
-    c.args.cols) c.page-page.result.now) (ap (λ (xs : List (Held ℕ)). map (λ h. h.items) xs) c.new-lines.ensures))
+    (put ∙ ap
+    (λ (l : List (List ℕ)). l
+    ++ map (marked_line (map plain_letter c.args.archive.now.items) c.args.self.now style
+    c.args.cols) c.page-page.result.now)
+    (ap (λ (xs : List (Held ℕ)). map (λ h. h.items) xs) c.new-lines.ensures))
     ∙ (λ i. map (marked_line (map plain_letter c.args.archive.now.items) c.args.self.now style
     c.args.cols) (page_is i) ++ replicate (rows - length (page_is i)) [])

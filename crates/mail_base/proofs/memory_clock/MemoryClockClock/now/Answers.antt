@@ -18,7 +18,8 @@ returns-then-moments-self c =
     let given : to_z w64 (of_z w64 c.moment-now.result) ≡ moment_of (get_or moments place 0)
     = to_z-of_z w64 c.moment-now.result fits ∙ c.moment-now.ensures
     ∙ ap (λ (l : List ℕ). moment_of (get_or l place 0)) known in
-    subst (λ (before : List ℤ). Ticks (Some before) (Some (map moment_of (drop (place + 1) moments)))
+    subst (λ (before : List ℤ). Ticks (Some before)
+    (Some (map moment_of (drop (place + 1) moments)))
     (to_z w64 (of_z w64 c.moment-now.result)))
     c.self.view_is
     (subst (λ (now : ℤ). Ticks (Some (map moment_of (drop place moments)))

@@ -10,10 +10,12 @@ stays_by false e = refl
 
 pub returns-then-not-may_be_status-clause-told : goal.returns-then-not-may_be_status-clause-told
 returns-then-not-may_be_status-clause-told c = λ lines.
-    told_by-passed c.args.self c.args.line.now lines (stays_by _ (sym c.stays.ensures ∙ c.if-stays.true))
+    told_by-passed c.args.self c.args.line.now lines
+    (stays_by _ (sym c.stays.ensures ∙ c.if-stays.true))
     (sym c.may_be_status.ensures ∙ c.if-not-may_be_status.true)
 
 pub returns-then-not-may_be_status-clause-stays : goal.returns-then-not-may_be_status-clause-stays
 returns-then-not-may_be_status-clause-stays c = λ lines.
-    without_status-passed (drops c.args.self) c.args.line.now lines (stays_by _ (sym c.stays.ensures ∙ c.if-stays.true))
+    without_status-passed (drops c.args.self) c.args.line.now lines
+    (stays_by _ (sym c.stays.ensures ∙ c.if-stays.true))
     (sym c.may_be_status.ensures ∙ c.if-not-may_be_status.true)

@@ -1,4 +1,5 @@
-use Rattle.std.proofs.Common.{◌≡◌, ◌+◌, ◌-◌, length, take, drop, sym, ◌∙◌, arith, take_all, length-drop}
+use Rattle.std.proofs.Common.{◌≡◌, ◌+◌, ◌-◌, length, take, drop, sym, ◌∙◌, arith, take_all}
+use Rattle.std.proofs.Common.{length-drop}
 use Rattle.std.specs.Prelude.{codes}
 use Rattle.mbox_folder.specs.Status.{is_status, is_x_status}
 use Rattle.mbox_folder.proofs.StatusLemmas.{GoOn-field, GoOn-continued, told_by-line}
@@ -13,9 +14,12 @@ returns-in-Some-clause-told c = λ lines.
     let place = sym c.colon_of.ensures.value ∙ c.in-Some.is in
     let text : take (length line - (k + 1)) (drop (k + 1) line) ≡ drop (k + 1) line =
     take_all _ _ (omega (arith, length-drop (k + 1) line)) in
-    told_by-line told c.past_field.result.0 named.result line _ lines c.past_field.ensures.field c.past_field.ensures.flags
-    (GoOn-field (codes "Status") line _ k lines (is_status told.field) _ place text named.ensures.status)
-    (GoOn-field (codes "X-Status") line _ k lines (is_x_status told.field) _ place text named.ensures.x_status)
+    told_by-line told c.past_field.result.0 named.result line _ lines c.past_field.ensures.field
+    c.past_field.ensures.flags
+    (GoOn-field (codes "Status") line _ k lines (is_status told.field) _ place text
+    named.ensures.status)
+    (GoOn-field (codes "X-Status") line _ k lines (is_x_status told.field) _ place text
+    named.ensures.x_status)
 
 pub returns-in-None-clause-told : goal.returns-in-None-clause-told
 returns-in-None-clause-told c = λ lines.

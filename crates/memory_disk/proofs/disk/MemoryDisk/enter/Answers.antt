@@ -10,8 +10,11 @@ use Rattle.memory_disk.proofs.disk.MemoryDisk.enter.Goals as goal
 pub invariant_of-self-2 : goal.invariant_of-self-2
 invariant_of-self-2 c =
     sound_enters (plain_call c.args.call) c.args.refused c.self.invariant c.requires.text
-    (subst (λ (s : State). IsAllowed (plain_call c.args.call) (answer_by_refusal c.args.refused) (tree_of s))
+    (subst (λ (s : State). IsAllowed (plain_call c.args.call) (answer_by_refusal c.args.refused)
+    (tree_of s))
     (sym c.self.invariant.now)
-    (subst (λ (d : Remembered). IsAllowed (plain_call c.args.call) (answer_by_refusal c.args.refused) (tree_now d))
+    (subst (λ (d : Remembered). IsAllowed (plain_call c.args.call)
+    (answer_by_refusal c.args.refused) (tree_now d))
     (sym c.self.view_is) c.requires.allowed))
-    c.in_ok-enter.ensures.state c.in_ok-enter.ensures.journal (ap (map plain_action) c.in_ok-enter.ensures.waiting)
+    c.in_ok-enter.ensures.state c.in_ok-enter.ensures.journal
+    (ap (map plain_action) c.in_ok-enter.ensures.waiting)

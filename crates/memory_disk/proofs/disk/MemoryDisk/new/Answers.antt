@@ -10,7 +10,8 @@ pub invariant_of-result : goal.invariant_of-result
 invariant_of-result c =
     sound_first
     (ap is_first_tree c.in_ok-first.ensures.tree
-    ∙ is_first_tree-stamped (map plain_node c.as_slice.result.now) 1 (rw (← c.as_slice.ensures) at c.requires))
+    ∙ is_first_tree-stamped (map plain_node c.as_slice.result.now) 1
+    (rw (← c.as_slice.ensures) at c.requires))
     c.in_ok-first.ensures.clock
     c.in_ok-state.ensures
     c.in_ok-first.ensures.small

@@ -8,13 +8,15 @@ use Rattle.disk_state.specs.Plain.{plain_names, plain_state}
 use Rattle.memory_disk.specs.contracts.disk.MemoryDisk.{the_view}
 use Rattle.memory_disk.proofs.Oks.{ok_names}
 use Rattle.memory_disk.proofs.Sounds.{sound_text}
-use Rattle.memory_disk.proofs.Turns.{err_step, refused_plays, tree_met, turns, value_step, waits_plays}
+use Rattle.memory_disk.proofs.Turns.{err_step, refused_plays, tree_met, turns, value_step}
+use Rattle.memory_disk.proofs.Turns.{waits_plays}
 use Rattle.memory_disk.proofs.disk.MemoryDiskDisk.list.Goals as goal
 
 pub returns-in-Ok-Some-clause-step : goal.returns-in-Ok-Some-clause-step
 returns-in-Ok-Some-clause-step c =
     err_step (λ tree. list_of tree c.args.dir.now) (λ tree. names_in tree c.args.dir.now)
-    (turns c.in-Ok.ensures.ok c.in-Ok-Some.ensures.ok) c.in-Ok-Some.field-0-is (record { is = λ tree. refl })
+    (turns c.in-Ok.ensures.ok c.in-Ok-Some.ensures.ok) c.in-Ok-Some.field-0-is
+    (record { is = λ tree. refl })
 
 pub returns-in-Ok-Some-clause-looks : goal.returns-in-Ok-Some-clause-looks
 returns-in-Ok-Some-clause-looks c = called_looks refl (returns-in-Ok-Some-clause-step c).called
@@ -33,7 +35,8 @@ returns-in-Ok-None-clause-step c =
     c.in-Ok-None.field-0-is (record { is = λ tree. refl })
     (ok_names _ _ (c.in-Ok-names_in.ensures
     ∙ ap (λ (tree : List TreeNode). names_in tree c.args.dir.now)
-    (tree_met (plain_state c.self.inside.state) (the_view c.self.inside) c.face.new.self c.args.self.now
+    (tree_met (plain_state c.self.inside.state) (the_view c.self.inside) c.face.new.self
+    c.args.self.now
     c.self.invariant.now c.self.view_is c.in-Ok.ensures.ok.met)))
     refl
 

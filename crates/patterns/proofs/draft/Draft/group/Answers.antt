@@ -6,11 +6,13 @@ use Rattle.patterns.proofs.draft.Draft.group.Goals as goal
 
 pub invariant_of-result : goal.invariant_of-result
 invariant_of-result c = record {
-  code = (with_last Group operation.Group c.args.self.operations.items c.in_ok-operations.operations.items
+  code = (with_last Group operation.Group c.args.self.operations.items
+      c.in_ok-operations.operations.items
       c.in_ok-operations.ensures c.args.self.code (λ _. refl)).is_code;
 }
 
 pub returns : goal.returns
 returns c =
-    (with_last Group operation.Group c.args.self.operations.items c.in_ok-operations.operations.items
+    (with_last Group operation.Group c.args.self.operations.items
+    c.in_ok-operations.operations.items
     c.in_ok-operations.ensures c.args.self.code (λ _. refl)).tree_is

@@ -6,7 +6,8 @@ use Rattle.patterns.proofs.draft.Draft.negate.Goals as goal
 
 pub invariant_of-result : goal.invariant_of-result
 invariant_of-result c = record {
-  code = (with_last Not operation.Negate c.args.self.operations.items c.in_ok-operations.operations.items
+  code = (with_last Not operation.Negate c.args.self.operations.items
+      c.in_ok-operations.operations.items
       c.in_ok-operations.ensures c.args.self.code (λ _. refl)).is_code;
 }
 

@@ -28,7 +28,8 @@ returns-in-Kept-clause-index c =
     on_ok_weaker c.keep_scores.result (λ turned. subst (λ (l : Lesson).
     Shows mails (with_lesson mails (plain_lesson l) (index_of view)) c.keep_scores.new.self)
     (sym c.in-Kept.is) (turned_shows mails view c.keep_scores.new.self _ c.requires
-    (subst (λ (marks : List Bool). Turned mails view c.keep_scores.new.self (record (facts_of view) {
+    (subst (λ (marks : List Bool). Turned mails view c.keep_scores.new.self
+    (record (facts_of view) {
       scores = kept marks (held_entries view.scores);
     })) c.as_slice-in-Kept.ensures.value turned)))
     c.keep_scores.ensures

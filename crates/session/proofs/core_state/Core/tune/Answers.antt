@@ -16,5 +16,6 @@ returns c =
     let is : c.options_of-options.result ≡ options_of core.rules.settings =
     c.options_of-options.ensures ∙ ap options_of c.settings.ensures in
     on_ok_weaker c.tune.result (λ holds. stands_as mails _ _ _
-    (ap (λ (o : ViewOptions). with_desk (tuned mails o (plain_desk core.desk)) (plain_core core)) is)
+    (ap (λ (o : ViewOptions). with_desk (tuned mails o (plain_desk core.desk)) (plain_core core))
+    is)
     (stands_by mails core c.tune.new.self _ holds)) c.tune.ensures

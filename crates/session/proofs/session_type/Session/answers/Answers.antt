@@ -8,10 +8,12 @@ use Rattle.session.proofs.StepsLemmas.{off_at, sources_at}
 use Rattle.session.proofs.session_type.Session.answers.Goals as goal
 
 pub returns-in_err-session-clause-sources : goal.returns-in_err-session-clause-sources
-returns-in_err-session-clause-sources g c = off_at (plain_setup c.args.setup) _ _ (to_z-of_z c.ranges.moment) c.sourced.ensures.off
+returns-in_err-session-clause-sources g c =
+    off_at (plain_setup c.args.setup) _ _ (to_z-of_z c.ranges.moment) c.sourced.ensures.off
 
 pub returns-clause-sources : goal.returns-clause-sources
-returns-clause-sources g c = off_at (plain_setup c.args.setup) _ _ (to_z-of_z c.ranges.moment) c.sourced.ensures.off
+returns-clause-sources g c =
+    off_at (plain_setup c.args.setup) _ _ (to_z-of_z c.ranges.moment) c.sourced.ensures.off
 
 pub returns-clause-ok : goal.returns-clause-ok
 returns-clause-ok g c =
@@ -22,7 +24,8 @@ returns-clause-ok g c =
     c.in_ok-session.ensures.sourced.ready.read (rw c.as_slice.ensures at c.answers.ensures)
 
 pub returns-in_err-session-clause-ok : goal.returns-in_err-session-clause-ok
-returns-in_err-session-clause-ok g c = no_answer c.from_residual.result _ _ c.from_residual.ensures.1
+returns-in_err-session-clause-ok g c =
+    no_answer c.from_residual.result _ _ c.from_residual.ensures.1
 
 pub returns-in_err-session-clause-archive : goal.returns-in_err-session-clause-archive
 returns-in_err-session-clause-archive g c = c.sourced.ensures.archive

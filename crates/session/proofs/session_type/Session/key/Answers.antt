@@ -11,7 +11,8 @@ use Rattle.session.proofs.session_type.Session.key.Goals as goal
 pub returns-in_err-push-clause-presses : goal.returns-in_err-push-clause-presses
 returns-in_err-push-clause-presses g c =
     presses_none _ c.args.key c.args.moment c.args.self.now _ _ _ refl c.take-taken.ensures.kept
-    (λ room. false≢true (c.in_err-push.ensures.has_room room)) (ap plain_events c.in_err-push.ensures.err)
+    (λ room. false≢true (c.in_err-push.ensures.has_room room))
+    (ap plain_events c.in_err-push.ensures.err)
 
 pub returns-in_err-taken-clause-presses : goal.returns-in_err-taken-clause-presses
 returns-in_err-taken-clause-presses g c =

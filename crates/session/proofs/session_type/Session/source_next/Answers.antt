@@ -27,7 +27,8 @@ returns-in-None-clause-whole g c =
 pub returns-in_err-happen-in-Some-clause-reads : goal.returns-in_err-happen-in-Some-clause-reads
 returns-in_err-happen-in-Some-clause-reads g c =
     file_read c.args.self.now _ _ _ _ _ _
-    (c.happen.ensures.happens.events ∙ ap (λ (l : List Happening). l ++ plain_event c.in-Some.event ∷ [])
+    (c.happen.ensures.happens.events
+    ∙ ap (λ (l : List Happening). l ++ plain_event c.in-Some.event ∷ [])
     (ap plain_events c.in_ok-reserve.ensures.items))
     (rw c.in-Some.is at c.in_ok-source.ensures.ok)
     ((rw c.in-Some.is at c.in_ok-source.ensures.wish) c.args.trace.now.notes)
@@ -36,7 +37,8 @@ returns-in_err-happen-in-Some-clause-reads g c =
 pub returns-in_ok-happen-in-Some-clause-reads : goal.returns-in_ok-happen-in-Some-clause-reads
 returns-in_ok-happen-in-Some-clause-reads g c =
     file_read c.args.self.now _ _ _ _ _ _
-    (c.happen.ensures.happens.events ∙ ap (λ (l : List Happening). l ++ plain_event c.in-Some.event ∷ [])
+    (c.happen.ensures.happens.events
+    ∙ ap (λ (l : List Happening). l ++ plain_event c.in-Some.event ∷ [])
     (ap plain_events c.in_ok-reserve.ensures.items))
     (rw c.in-Some.is at c.in_ok-source.ensures.ok)
     ((rw c.in-Some.is at c.in_ok-source.ensures.wish) c.args.trace.now.notes)
@@ -45,7 +47,8 @@ returns-in_ok-happen-in-Some-clause-reads g c =
 pub returns-in_ok-happen-in-Some-clause-whole : goal.returns-in_ok-happen-in-Some-clause-whole
 returns-in_ok-happen-in-Some-clause-whole g c =
     file_whole c.args.self.now c.happen.new.self _ c.happen.new.trace _ _ _
-    (c.happen.ensures.happens.events ∙ ap (λ (l : List Happening). l ++ plain_event c.in-Some.event ∷ [])
+    (c.happen.ensures.happens.events
+    ∙ ap (λ (l : List Happening). l ++ plain_event c.in-Some.event ∷ [])
     (ap plain_events c.in_ok-reserve.ensures.items))
     (rw c.in-Some.is at c.in_ok-source.ensures.ok)
     ((rw c.in-Some.is at c.in_ok-source.ensures.wish) c.args.trace.now.notes)

@@ -22,7 +22,8 @@ source_all-requires g c =
     first_fits (map plain_letter c.args.trace.now.archive.items) c.in_ok-session.session
     (plain_setup c.args.setup) c.args.moment c.in_ok-session.ensures.empty
     (c.in_ok-session.ensures.state (record { items = []; room = 0 }) refl
-    ∙ ap (first_state (plain_setup c.args.setup)) (to_z-of_z c.ranges.moment)) c.requires.window c.requires.moment
+    ∙ ap (first_state (plain_setup c.args.setup)) (to_z-of_z c.ranges.moment)) c.requires.window
+    c.requires.moment
 
 pub returns-in_err-source_all-clause-off : goal.returns-in_err-source_all-clause-off
 returns-in_err-source_all-clause-off g c =
@@ -33,7 +34,8 @@ returns-in_err-source_all-clause-off g c =
     (plain_session c.in_ok-session.session c.args.trace.now.notes)
     (plain_events c.args.trace.now.events.items)
     (plain_events c.source_all.new.trace.events.items) (plain_texts c.args.trace.now.notes) _ _ is
-    (ap plain_events c.requires.events) refl c.source_all.ensures.reads.files c.source_all.ensures.reads.kept
+    (ap plain_events c.requires.events) refl c.source_all.ensures.reads.files
+    c.source_all.ensures.reads.kept
     c.source_all.ensures.reads.on
 
 pub returns-clause-off : goal.returns-clause-off
@@ -45,7 +47,8 @@ returns-clause-off g c =
     (plain_session c.in_ok-session.session c.args.trace.now.notes)
     (plain_events c.args.trace.now.events.items)
     (plain_events c.source_all.new.trace.events.items) (plain_texts c.args.trace.now.notes) _ _ is
-    (ap plain_events c.requires.events) refl c.source_all.ensures.reads.files c.source_all.ensures.reads.kept
+    (ap plain_events c.requires.events) refl c.source_all.ensures.reads.files
+    c.source_all.ensures.reads.kept
     c.source_all.ensures.reads.on
 
 pub returns-clause-sourced : goal.returns-clause-sourced
@@ -81,7 +84,8 @@ returns-in_err-session-clause-sourced g c =
 
 pub returns-in_err-source_all-clause-sourced : goal.returns-in_err-source_all-clause-sourced
 returns-in_err-source_all-clause-sourced g c =
-    no_answer c.from_residual-in_err-source_all.result _ _ c.from_residual-in_err-source_all.ensures.1
+    no_answer c.from_residual-in_err-source_all.result _ _
+    c.from_residual-in_err-source_all.ensures.1
 
 pub returns-in_err-source_all-clause-archive : goal.returns-in_err-source_all-clause-archive
 returns-in_err-source_all-clause-archive g c = c.source_all.ensures.reads.archive

@@ -13,7 +13,8 @@ returns-in_err-session-clause-err g c =
     no_memory _ _ c.from_residual.ensures.1 (λ given is.
     fails_early _ given (first_state (plain_setup c.args.setup) c.args.moment) _ _ _ _ _
     (is.mails_are ∙ rw c.sourced.ensures.archive (ap (map plain_letter) c.requires.archive))
-    is.keeps (off_at (plain_setup c.args.setup) _ _ (to_z-of_z c.ranges.moment) c.sourced.ensures.off))
+    is.keeps (off_at (plain_setup c.args.setup) _ _ (to_z-of_z c.ranges.moment)
+    c.sourced.ensures.off))
 
 pub returns-in_err-open_wished-clause-err : goal.returns-in_err-open_wished-clause-err
 returns-in_err-open_wished-clause-err g c =
@@ -32,17 +33,21 @@ returns-clause-ok g c =
 
 pub returns-in_err-open_wished-clause-fits : goal.returns-in_err-open_wished-clause-fits
 returns-in_err-open_wished-clause-fits g c =
-    no_answer c.from_residual-in_err-open_wished.result _ _ c.from_residual-in_err-open_wished.ensures.1
+    no_answer c.from_residual-in_err-open_wished.result _ _
+    c.from_residual-in_err-open_wished.ensures.1
 
 pub returns-in_err-open_wished-clause-ok : goal.returns-in_err-open_wished-clause-ok
 returns-in_err-open_wished-clause-ok g c =
-    no_answer c.from_residual-in_err-open_wished.result _ _ c.from_residual-in_err-open_wished.ensures.1
+    no_answer c.from_residual-in_err-open_wished.result _ _
+    c.from_residual-in_err-open_wished.ensures.1
 
 pub returns-in_err-session-clause-fits : goal.returns-in_err-session-clause-fits
-returns-in_err-session-clause-fits g c = no_answer c.from_residual.result _ _ c.from_residual.ensures.1
+returns-in_err-session-clause-fits g c =
+    no_answer c.from_residual.result _ _ c.from_residual.ensures.1
 
 pub returns-in_err-session-clause-ok : goal.returns-in_err-session-clause-ok
-returns-in_err-session-clause-ok g c = no_answer c.from_residual.result _ _ c.from_residual.ensures.1
+returns-in_err-session-clause-ok g c =
+    no_answer c.from_residual.result _ _ c.from_residual.ensures.1
 
 pub open_wished-requires-clause-ready : goal.open_wished-requires-clause-ready
 open_wished-requires-clause-ready g c = c.in_ok-session.ensures.sourced.ready

@@ -28,8 +28,10 @@ returns-in_ok-read-in-Sourced-clause-arrived g c =
     on_ok_weaker c.read_on.result (λ on given is. on given is c.read.new.notes
     ∙ ap (read_on given) (c.in_ok-read-in-Sourced.ensures.read given.verdicts
     (keeps_then c.read_on.ensures.kept is.keeps)
-    ∙ ap (λ (t : List ℕ). read_in given.verdicts t (plain_session c.args.self.now c.args.notes.now)) c.as_slice.ensures)
-    ∙ ap (λ (e : Event). arrived given (plain_session c.args.self.now c.args.notes.now) (plain_event e)) (sym c.in-Sourced.is))
+    ∙ ap (λ (t : List ℕ). read_in given.verdicts t (plain_session c.args.self.now c.args.notes.now))
+    c.as_slice.ensures)
+    ∙ ap (λ (e : Event). arrived given (plain_session c.args.self.now c.args.notes.now)
+    (plain_event e)) (sym c.in-Sourced.is))
     c.read_on.ensures.on
 
 pub returns-in_ok-skip-in-NotSourced-clause-arrived :
@@ -38,7 +40,8 @@ returns-in_ok-skip-in-NotSourced-clause-arrived g c =
     on_ok_weaker c.read_on-in-NotSourced.result (λ on given is. on given is c.skip.new.notes
     ∙ ap (read_on given) (c.in_ok-skip-in-NotSourced.ensures.skipped given.verdicts
     (keeps_then c.read_on-in-NotSourced.ensures.kept is.keeps))
-    ∙ ap (λ (e : Event). arrived given (plain_session c.args.self.now c.args.notes.now) (plain_event e)) (sym c.in-NotSourced.is))
+    ∙ ap (λ (e : Event). arrived given (plain_session c.args.self.now c.args.notes.now)
+    (plain_event e)) (sym c.in-NotSourced.is))
     c.read_on-in-NotSourced.ensures.on
 
 pub type_in-requires-clause-is_of : goal.type_in-requires-clause-is_of
@@ -54,5 +57,6 @@ returns-in-Pressed-clause-arrived g c =
     on_ok_weaker c.type_in.result (λ types given is. types given is c.args.notes.now
     ∙ ap (typed given c.in-Pressed.key c.in-Pressed.moment)
     (c.take_key.ensures.taken c.args.notes.now)
-    ∙ ap (λ (e : Event). arrived given (plain_session c.args.self.now c.args.notes.now) (plain_event e)) (sym c.in-Pressed.is))
+    ∙ ap (λ (e : Event). arrived given (plain_session c.args.self.now c.args.notes.now)
+    (plain_event e)) (sym c.in-Pressed.is))
     (rw (to_z-of_z fits) at c.type_in.ensures.typed)

@@ -30,7 +30,8 @@ returns-in-Source-clause-half g c = λ later keeps.
     (plain_told c.loop-self.told) (Ok (ToRead c.in-Source.path.items))
     (sym (ap plain_obeyed (c.in-Answered.is ∙ ap Answered c.in-Source.is))
     ∙ c.in_ok-answer.ensures.value)
-    ∙ ap (λ (ls : List PlainLine). file_run c.args.time later (place_of c.loop-self.self) ls c.loop-self.rules
+    ∙ ap (λ (ls : List PlainLine). file_run c.args.time later (place_of c.loop-self.self) ls
+    c.loop-self.rules
     (plain_told c.loop-self.told)) (sym left)
     ∙ c.loop-self.invariant.went later (keeps_on _ _ _ c.run_line.ensures.keeps keeps)
 
@@ -80,7 +81,8 @@ loop-self-preserved-in-Show g c = record {
       c.index-as_slice-self.result) c.as_slice.ensures)) in
       ap (λ (told : PlainTold). file_run c.args.time later (place_of c.loop-self.self) lines
       c.run_line.new.rules told) c.answer.ensures
-      ∙ file_step c.args.time later (plain_line c.index-as_slice-self.result) lines c.loop-self.rules
+      ∙ file_step c.args.time later (plain_line c.index-as_slice-self.result) lines
+      c.loop-self.rules
       c.run_line.new.rules (plain_obeyed c.in_ok-obeyed.obeyed)
       (c.in_ok-obeyed.ensures.ran later keeps) (place_of c.loop-self.self)
       (plain_told c.loop-self.told) (Ok (ToShow c.in-Show.line.items))
@@ -112,7 +114,8 @@ loop-self-preserved g c = record {
       c.index-as_slice-self.result) c.as_slice.ensures)) in
       ap (λ (told : PlainTold). file_run c.args.time later (place_of c.loop-self.self) lines
       c.run_line.new.rules told) c.in_ok-fault-in-Refused.ensures
-      ∙ file_step c.args.time later (plain_line c.index-as_slice-self.result) lines c.loop-self.rules
+      ∙ file_step c.args.time later (plain_line c.index-as_slice-self.result) lines
+      c.loop-self.rules
       c.run_line.new.rules (plain_obeyed c.in_ok-obeyed.obeyed)
       (c.in_ok-obeyed.ensures.ran later keeps) (place_of c.loop-self.self)
       (plain_told c.loop-self.told) (Err (plain_error c.in-Refused.error))

@@ -10,7 +10,8 @@ invariant-loop-self g l = record {
   keeps : Keeps l.initial.verdicts.kept l.verdicts.kept;
   went : (later : List PlainJudged) → Keeps l.verdicts.kept later
       → file_run l.time later (place_of l.self) (commands_left l.self) l.rules (plain_told l.told)
-      ≡ file_run l.time later (place_of l.initial.self) (commands_left l.initial.self) l.initial.rules
+      ≡ file_run l.time later (place_of l.initial.self) (commands_left l.initial.self)
+      l.initial.rules
       (plain_told l.initial.told);
   file : l.self.file ≡ l.initial.self.file;
   origin : l.self.origin ≡ l.initial.self.origin;
