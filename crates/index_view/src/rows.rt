@@ -34,10 +34,7 @@ fn first_row(listed: &Listed<'_>, item: Item, collapsed: bool) -> Row
 fn is_shut(items: &[Item], root: usize) -> bool
     ensures { result ≡ (spec.item_at (plain_items items.now) root).shut }
 {
-    match items.get(root) {
-        Some(item) => item.shut,
-        None => false,
-    }
+    root < items.len() && items[root].shut
 }
 
 fn first_row_at(listed: &[Listed<'_>], items: &[Item], links: &[Links], place: usize) -> Row

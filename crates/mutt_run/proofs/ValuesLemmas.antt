@@ -35,6 +35,15 @@ use Rattle.mutt_run.proofs.ReadsLemmas.{notes_cut, notes_whole, prints_all, read
 use Rattle.mutt_run.proofs.ReadsLemmas.{usage_free}
 use Rattle.session.proofs.StepsLemmas.{files_unopened}
 
+-- at a moment that is the same
+pub names_at : {given : Given} {events : List Happening} {names lines notes : List (List ℕ)}
+    (setup : PlainSetup) (a b : ℤ) → a ≡ b
+    → AnswersNames given (first_state setup a) events names lines notes
+    → AnswersNames given (first_state setup b) events names lines notes
+names_at {given} {events} {names} {lines} {notes} setup a b same answers =
+    subst (λ (m : ℤ). AnswersNames given (first_state setup m) events names lines notes) same
+    answers
+
 abbrev IsUnopened : Stage → Type 0
 IsUnopened Unopened = Unit {0}
 IsUnopened Pushing = ⊥

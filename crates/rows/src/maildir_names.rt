@@ -2,7 +2,7 @@
 
 use crate::flags::put_flags;
 use case_files::{Answer, Case, CaseFault, Subject};
-use maildir_folder::{make_name, order_of, read_name};
+use maildir_folder::{MaildirName, make_name, order_of, read_name};
 use std::alloc::Global;
 
 /// `name` is the name of a file, `in` its folder, `cur` or `new`; `base` is `none` where the name
@@ -20,16 +20,20 @@ impl Subject for MaildirNames {
             return Err(CaseFault::BadInput);
         };
         let in_cur = case.need(b"in")? == b"cur".as_slice();
-        let Some(read) = read_name(alloc, name, in_cur)? else {
-            answer.put(b"base", b"none")?;
-            return Ok(answer);
-        };
-        answer.put(b"base", read.base.as_slice())?;
-        put_flags(&mut answer, b"flags", read.flags)?;
-        answer.put(b"others", read.others.as_slice())?;
-        answer.put(b"made", make_name(alloc, &read)?.as_slice())?;
-        let order = order_of(read.base.as_slice());
-        answer.put(b"order", format!(in alloc; "{order}")?.as_bytes())?;
+        match read_name(alloc, name, in_cur)? {
+            Some(read) => put_name(alloc, &mut answer, &read)?,
+            None => answer.put(b"base", b"none")?,
+        }
         Ok(answer)
     }
+}
+
+// What a name says, the name that is made of it, and what it is sorted by.
+fn put_name(alloc: Global, answer: &mut Answer, read: &MaildirName) -> Result<(), CaseFault> {
+    answer.put(b"base", read.base.as_slice())?;
+    put_flags(answer, b"flags", read.flags)?;
+    answer.put(b"others", read.others.as_slice())?;
+    answer.put(b"made", make_name(alloc, read)?.as_slice())?;
+    let order = order_of(read.base.as_slice());
+    answer.put(b"order", format!(in alloc; "{order}")?.as_bytes())
 }

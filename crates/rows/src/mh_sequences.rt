@@ -51,7 +51,11 @@ fn run(answer: &mut Answer, sequences: &mut Sequences, entry: &Entry) -> Result<
 
 // The name and the number of an entry.
 fn member(entry: &[u8]) -> Result<(&[u8], u32), CaseFault> {
-    let (name, digits) = split_once(b' ', entry).ok_or(CaseFault::BadInput)?;
-    let number = read_number(digits).ok_or(CaseFault::BadInput)?;
-    Ok((name, number))
+    let Some((name, digits)) = split_once(b' ', entry) else {
+        return Err(CaseFault::BadInput);
+    };
+    match read_number(digits) {
+        Some(number) => Ok((name, number)),
+        None => Err(CaseFault::BadInput),
+    }
 }

@@ -226,7 +226,11 @@ impl Stage {
 
 // The table to which an entry adds.
 fn table_of(entry: &Entry) -> Option<PeopleTable> {
-    match entry.role() {
+    table_named(entry.role())
+}
+
+fn table_named(name: &[u8]) -> Option<PeopleTable> {
+    match name {
         b"lists" => Some(PeopleTable::Lists),
         b"subscribed" => Some(PeopleTable::Subscribed),
         b"mine" => Some(PeopleTable::Mine),

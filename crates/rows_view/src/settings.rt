@@ -3,6 +3,7 @@
 use case_files::CaseFault;
 use index_order::Sort;
 use index_view::ViewOptions;
+use mail_base::behind_text;
 use threads::ThreadOptions;
 
 /// What no word of a case's settings says.
@@ -42,13 +43,13 @@ fn put_word(options: &mut ViewOptions, word: &[u8]) -> Result<(), CaseFault> {
 }
 
 fn put_sort(options: &mut ViewOptions, word: &[u8]) -> Result<(), CaseFault> {
-    if let Some(value) = word.strip_prefix(b"sort=") {
+    if let Some(value) = behind_text(b"sort=", word) {
         let (reverse, name) = behind_prefix(value, b"reverse-");
         options.reverse = reverse;
         options.sort = sort_named(name)?;
         return Ok(());
     }
-    let Some(value) = word.strip_prefix(b"aux=") else {
+    let Some(value) = behind_text(b"aux=", word) else {
         return Err(CaseFault::BadInput);
     };
     let (reverse, rest) = behind_prefix(value, b"reverse-");
@@ -61,7 +62,7 @@ fn put_sort(options: &mut ViewOptions, word: &[u8]) -> Result<(), CaseFault> {
 
 // Whether a prefix stands there, and what stands behind it.
 fn behind_prefix<'a>(value: &'a [u8], prefix: &[u8]) -> (bool, &'a [u8]) {
-    match value.strip_prefix(prefix) {
+    match behind_text(prefix, value) {
         Some(rest) => (true, rest),
         None => (false, value),
     }

@@ -4,7 +4,7 @@ ghost use Rattle.std.specs.Prelude.{◌≡◌, List, ℕ, [], slice_get};
 ghost use Rattle.std.specs.Option.{option_map_or};
 ghost use Rattle.mail_base.specs.Shown.{utf8_text};
 
-use case_files::{Answer, Case, CaseFault, Subject};
+use case_files::{Answer, Case, CaseFault, Entry, Subject};
 use expando::{FormatError, Values, read_format, render};
 use mail_base::{Bytes, Line, NoMemory, Series, append_utf8, behind};
 use std::alloc::Global;
@@ -66,14 +66,19 @@ impl Texts {
 /// The text of a letter in a case, which is empty where none is given.
 fn text_in<'a>(case: &'a Case, letter: u8) -> &'a [u8] {
     for entry in case.entries.as_slice() {
-        if entry.key.as_slice() == b"value".as_slice()
-            && let Some(sign) = behind(letter, entry.value.as_slice())
-            && let Some(text) = behind(b'=', sign)
-        {
+        if let Some(text) = text_of(entry, letter) {
             return text;
         }
     }
     b""
+}
+
+/// The text of the letter, where this entry gives it.
+fn text_of(entry: &Entry, letter: u8) -> Option<&[u8]> {
+    if entry.key.as_slice() != b"value".as_slice() {
+        return None;
+    }
+    behind(b'=', behind(letter, entry.value.as_slice())?)
 }
 
 impl Values for Texts {

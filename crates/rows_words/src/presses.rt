@@ -3,6 +3,7 @@
 use crate::key_texts::{menu_named, need_function};
 use case_files::{Answer, Case, CaseFault, Entry, Subject};
 use keymap::{KeyQueue, Keymap, Menu, Press, read_keys};
+use mail_base::NoMemory;
 use std::alloc::Global;
 
 /// The lines are done in their order. `bind MENU FUNCTION` binds the keys of its word to a function
@@ -39,10 +40,11 @@ struct Table {
 impl Table {
     // The index with the default keys.
     fn new(alloc: Global) -> Result<Table, CaseFault> {
+        let keymap = default_keys(alloc)?;
         Ok(Table {
             alloc,
             menu: Menu::Index,
-            keymap: Keymap::new(alloc)?,
+            keymap,
             queue: KeyQueue::new(alloc),
             answer: Answer::new(alloc),
             presses: 0,
@@ -135,6 +137,11 @@ impl Table {
         self.answer.put(b"last", self.last)?;
         self.answer.put_count(b"waiting", self.queue.len())
     }
+}
+
+// A call of its own, so that no other proof has the table of default keys before it.
+fn default_keys(alloc: Global) -> Result<Keymap, NoMemory> {
+    Keymap::new(alloc)
 }
 
 fn shown_press(press: Press) -> &'static [u8] {

@@ -45,11 +45,18 @@ fn run(alloc: Global, settings: &mut Settings, line: &RcLine) -> Result<Option<L
     if let Some(fault) = line.fault {
         return Err(RcError::new(alloc, fault, b""));
     }
-    let command = settings.read_command(alloc, &line.words)?;
+    let changes = changes_variables(settings.read_command(alloc, &line.words)?);
     let words = settings.expand(alloc, &line.words)?;
+    if changes {
+        return settings.apply(&words);
+    }
+    Ok(None)
+}
+
+fn changes_variables(command: Command) -> bool {
     match command {
-        Command::Set | Command::Unset | Command::Toggle | Command::Reset => settings.apply(&words),
-        _ => Ok(None),
+        Command::Set | Command::Unset | Command::Toggle | Command::Reset => true,
+        _ => false,
     }
 }
 

@@ -14,9 +14,11 @@ use Rattle.session_events.specs.Telling.{TellsFile}
 use Rattle.session_events.specs.Wishes.{answered}
 use Rattle.session_events.specs.declared.event.Trace.{Trace}
 use Rattle.session_events.specs.declared.setup.Next.{Next}
+use Rattle.session_events.specs.declared.setup.StartError.{StartError}
 use Rattle.session_state.specs.Frames.{plain_frames}
-use Rattle.session.specs.Calls.{IsGivenIn, IsSourced, Presses, PressesWhole, Pushes, PushesWhole}
-use Rattle.session.specs.Calls.{Reads, ReadsWhole, events_in, letters_in, state_in}
+use Rattle.session.specs.Calls.{FailsIn, IsGivenIn, IsSourced, Presses, PressesWhole, Pushes}
+use Rattle.session.specs.Calls.{PushesWhole, Reads, ReadsWhole, StartsIn, events_in, letters_in}
+use Rattle.session.specs.Calls.{state_in}
 use Rattle.session.specs.Fitting.{Fits, IsLeft, StaysUnopened}
 use Rattle.session.specs.Given.{Given}
 use Rattle.session.specs.Runs.{State, arrived, pushed, shown, wish}
@@ -120,6 +122,19 @@ pub sourced_at : {X : Type 0} {Is : X → Type 0} {session : Session} {trace : T
     → IsSourced (first_state setup b) session trace before now
 sourced_at {X} {Is} {session} {trace} {before} {now} setup a b same sourced =
     subst (λ (m : ℤ). IsSourced (first_state setup m) session trace before now) same sourced
+
+pub starts_at : {X : Type 0} {Is : X → Type 0} {Has : Kind → Type 0} {first : State}
+    {before now : Seen} (session : Session) (trace : Trace X Is) (a b : ℤ) → a ≡ b
+    → StartsIn Has first a session trace before now
+    → StartsIn Has first b session trace before now
+starts_at {X} {Is} {Has} {first} {before} {now} session trace a b same starts =
+    subst (λ (m : ℤ). StartsIn Has first m session trace before now) same starts
+
+pub fails_at : {X : Type 0} {Is : X → Type 0} {Has : Kind → Type 0} {first : State}
+    {why : StartError} {before now : Seen} (trace : Trace X Is) (a b : ℤ) → a ≡ b
+    → FailsIn Has first a why trace before now → FailsIn Has first b why trace before now
+fails_at {X} {Is} {Has} {first} {why} {before} {now} trace a b same fails =
+    subst (λ (m : ℤ). FailsIn Has first m why trace before now) same fails
 
 -- some were read, and then others
 module _ {X : Type 0} {Is : X → Type 0} {old mid new : Session} {was then now : Trace X Is}

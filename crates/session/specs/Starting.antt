@@ -7,7 +7,7 @@ use Rattle.session_state.specs.Beginning.{first_frames}
 use Rattle.session_state.specs.declared.stage.Stage.TheVariants.{Unopened}
 use Rattle.session_screen.specs.declared.window.Window.{Window}
 use Rattle.session_events.specs.declared.setup.Setup.{Setup}
-use Rattle.session.specs.Core.{first_core}
+use Rattle.session.specs.Core.{CoreState, first_core}
 use Rattle.session.specs.Runs.{State}
 
 -- what a session starts from, of what the words of a command line say
@@ -29,15 +29,10 @@ plain_setup setup = record {
   window = record { rows = setup.rows; cols = setup.cols; offset = setup.offset };
 }
 
--- at this moment
-abbrev pub first_state : PlainSetup → ℤ → State
-first_state setup moment = record {
-  turn = record {
-    core = first_core setup.read_only (first_frames setup.rc setup.commands setup.kind);
-    queue = [];
-    replaced = 0;
-    stage = Unopened;
-  };
+-- at this moment, over this core
+abbrev pub state_over : PlainSetup → CoreState → ℤ → State
+state_over setup core moment = record {
+  turn = record { core = core; queue = []; replaced = 0; stage = Unopened };
   notes = [];
   window = setup.window;
   folder = record { path = []; kind = Mbox };
@@ -46,3 +41,8 @@ first_state setup moment = record {
   moment = moment;
   named = setup.path;
 }
+
+-- at this moment
+abbrev pub first_state : PlainSetup → ℤ → State
+first_state setup moment = state_over setup
+    (first_core setup.read_only (first_frames setup.rc setup.commands setup.kind)) moment

@@ -22,7 +22,7 @@ impl Session {
     ghost use Rattle.session.specs.Beginning.{AnswersNames};
     ghost use Rattle.session.specs.Calls.{FailsIn, IsSourced, IsUnopened, StartsIn, events_in};
     ghost use Rattle.session.specs.Calls.{letters_in};
-    ghost use Rattle.session.specs.Core.{IsEmpty};
+    ghost use Rattle.session.specs.Core.{IsEmpty, plain_core};
     ghost use Rattle.session_events.specs.Events.{plain_event};
     ghost use Rattle.session_screen.specs.Window.{IsWindow};
     ghost use Rattle.session_state.specs.Instants.{IsMoment};
@@ -30,7 +30,7 @@ impl Session {
     ghost use Rattle.session.specs.Given.{Given};
     ghost use Rattle.session_events.specs.Opening.{OpensPath};
     ghost use Rattle.session.specs.Runs.{State, plain_session};
-    ghost use Rattle.session.specs.Starting.{first_state, plain_setup};
+    ghost use Rattle.session.specs.Starting.{first_state, plain_setup, state_over};
     ghost use Rattle.session.specs.Steps.{SourcesOff};
 
     /// Reads the files of commands, and then opens the folder. The keys that commands have put wait
@@ -93,17 +93,16 @@ impl Session {
         session.core.rules.answers(alloc, names.as_slice())
     }
 
-    // What a session stands on before anything happened.
-    fn first(alloc: Global, setup: Setup, moment: Moment) -> Result<Session, NoMemory>
-        ensures state { IfOk result (λ session. (notes : Held (Held ℕ)) → notes.items ≡ []
-            → plain_session session notes ≡ first_state (plain_setup setup) moment.0) }
-        ensures empty { IfOk result (λ session. IsEmpty session.core.desk.view) }
+    // A session over a core. A call of its own, so that no other proof has the table of default
+    // keys before it.
+    fn over(alloc: Global, setup: Setup, core: Core, moment: Moment) -> Session
+        ensures state { (notes : Held (Held ℕ)) → notes.items ≡ [] → plain_session result notes
+            ≡ state_over (plain_setup setup) (plain_core core) moment.0 }
+        ensures view { result.core.desk.view ≡ core.desk.view }
     {
-        let commands = setup.commands.as_slice();
-        let frames = first_frames(alloc, &setup.rc, commands, setup.kind)?;
-        Ok(Session {
+        Session {
             alloc,
-            core: Core::new(alloc, setup.read_only, frames)?,
+            core,
             queue: KeyQueue::new(alloc),
             stage: Stage::Unopened,
             window: Window {
@@ -117,7 +116,19 @@ impl Session {
             checked: moment,
             moment,
             named: setup.path,
-        })
+        }
+    }
+
+    // What a session stands on before anything happened.
+    fn first(alloc: Global, setup: Setup, moment: Moment) -> Result<Session, NoMemory>
+        ensures state { IfOk result (λ session. (notes : Held (Held ℕ)) → notes.items ≡ []
+            → plain_session session notes ≡ first_state (plain_setup setup) moment.0) }
+        ensures empty { IfOk result (λ session. IsEmpty session.core.desk.view) }
+    {
+        let commands = setup.commands.as_slice();
+        let frames = first_frames(alloc, &setup.rc, commands, setup.kind)?;
+        let core = Core::new(alloc, setup.read_only, frames)?;
+        Ok(Session::over(alloc, setup, core, moment))
     }
 
     // A session that has read its files of commands.

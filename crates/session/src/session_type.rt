@@ -154,17 +154,9 @@ impl Session {
     {
         let time = self.moment.with_offset(self.window.offset);
         let mut told = Told::new(self.alloc);
-        let core = &mut self.core;
-        let frames = &mut core.frames;
-        read_first(
-            self.alloc,
-            &mut core.rules,
-            time,
-            verdicts,
-            frames,
-            &mut told,
-            text,
-        )?;
+        let (alloc, core) = (self.alloc, &mut self.core);
+        let (rules, frames) = (&mut core.rules, &mut core.frames);
+        read_first(alloc, rules, time, verdicts, frames, &mut told, text)?;
         self.tell(notes, told)
     }
 
@@ -184,17 +176,9 @@ impl Session {
     {
         let time = self.moment.with_offset(self.window.offset);
         let mut told = Told::new(self.alloc);
-        let core = &mut self.core;
-        let frames = &mut core.frames;
-        skip_first(
-            self.alloc,
-            &mut core.rules,
-            time,
-            verdicts,
-            frames,
-            &mut told,
-            why,
-        )?;
+        let (alloc, core) = (self.alloc, &mut self.core);
+        let (rules, frames) = (&mut core.rules, &mut core.frames);
+        skip_first(alloc, rules, time, verdicts, frames, &mut told, why)?;
         self.tell(notes, told)
     }
 

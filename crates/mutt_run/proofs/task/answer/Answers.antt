@@ -3,9 +3,11 @@ use Rattle.std.proofs.Math.Facts.{to_z-of_z}
 use Rattle.mail_base.specs.Series.{Held}
 use Rattle.folder_core.specs.Letters.{plain_letter}
 use Rattle.folder_core.specs.declared.letter.Letter.{Letter}
+use Rattle.session.specs.Starting.{plain_setup}
 use Rattle.session.proofs.GivenLemmas.{keeps_same}
-use Rattle.mutt_run.proofs.ValuesLemmas.{values_done, values_early, values_off, values_part}
-use Rattle.mutt_run.proofs.ValuesLemmas.{values_untold}
+use Rattle.session.proofs.StepsLemmas.{off_at}
+use Rattle.mutt_run.proofs.ValuesLemmas.{names_at, values_done, values_early, values_off}
+use Rattle.mutt_run.proofs.ValuesLemmas.{values_part, values_untold}
 use Rattle.mutt_run.proofs.task.answer.Goals as goal
 
 pub returns-in_default-clause-reads : goal.returns-in_default-clause-reads
@@ -13,15 +15,18 @@ returns-in_default-clause-reads g c = λ o is task left moments.
     values_early o c.args.moment _ _ _ _ _ _ is task
     (ap (λ (a : Held Letter). map plain_letter a.items) c.answers.ensures.archive
     ∙ ap (map plain_letter) c.requires.archive)
-    (rw (to_z-of_z c.ranges.moment) at c.answers.ensures.sources) refl refl refl refl
+    (off_at (plain_setup c.args.setup) _ _ (to_z-of_z c.ranges.moment)
+    c.answers.ensures.sources) refl refl refl refl
 
 pub returns-in-Err-clause-reads : goal.returns-in-Err-clause-reads
 returns-in-Err-clause-reads g c = λ o is task left moments.
     values_untold o c.args.moment _ _ _ _ _ _ is task
     (ap (λ (a : Held Letter). map plain_letter a.items) c.answers.ensures.archive
     ∙ ap (map plain_letter) c.requires.archive)
-    (rw (to_z-of_z c.ranges.moment) at c.answers.ensures.sources) refl refl _ _
-    ((rw (to_z-of_z c.ranges.moment) at c.in-Ok.ensures.ok) _ (keeps_same _)) refl _
+    (off_at (plain_setup c.args.setup) _ _ (to_z-of_z c.ranges.moment)
+    c.answers.ensures.sources) refl refl _ _
+    (names_at (plain_setup c.args.setup) _ _ (to_z-of_z c.ranges.moment)
+    (c.in-Ok.ensures.ok _ (keeps_same _))) refl _
     c.in-Err.ensures.which c.in-Err.ensures.err
 
 pub returns-then-is_err-clause-reads : goal.returns-then-is_err-clause-reads
@@ -29,8 +34,10 @@ returns-then-is_err-clause-reads g c = λ o is task left moments.
     values_off o c.args.moment _ _ _ _ _ _ is task
     (ap (λ (a : Held Letter). map plain_letter a.items) c.answers.ensures.archive
     ∙ ap (map plain_letter) c.requires.archive)
-    (rw (to_z-of_z c.ranges.moment) at c.answers.ensures.sources) refl refl _ _
-    ((rw (to_z-of_z c.ranges.moment) at c.in-Ok.ensures.ok) _ (keeps_same _))
+    (off_at (plain_setup c.args.setup) _ _ (to_z-of_z c.ranges.moment)
+    c.answers.ensures.sources) refl refl _ _
+    (names_at (plain_setup c.args.setup) _ _ (to_z-of_z c.ranges.moment)
+    (c.in-Ok.ensures.ok _ (keeps_same _)))
     c.in_default-tell_notes.ensures.ok refl _ (inr refl)
 
 pub returns-in-Ok-print-clause-reads : goal.returns-in-Ok-print-clause-reads
@@ -38,8 +45,10 @@ returns-in-Ok-print-clause-reads g c = λ o is task left moments.
     values_done o c.args.moment _ _ _ _ _ _ is task
     (ap (λ (a : Held Letter). map plain_letter a.items) c.answers.ensures.archive
     ∙ ap (map plain_letter) c.requires.archive)
-    (rw (to_z-of_z c.ranges.moment) at c.answers.ensures.sources) refl refl _ _
-    ((rw (to_z-of_z c.ranges.moment) at c.in-Ok.ensures.ok) _ (keeps_same _))
+    (off_at (plain_setup c.args.setup) _ _ (to_z-of_z c.ranges.moment)
+    c.answers.ensures.sources) refl refl _ _
+    (names_at (plain_setup c.args.setup) _ _ (to_z-of_z c.ranges.moment)
+    (c.in-Ok.ensures.ok _ (keeps_same _)))
     c.in_default-tell_notes.ensures.ok (search rules)
 
 pub returns-clause-reads : goal.returns-clause-reads
@@ -47,7 +56,9 @@ returns-clause-reads g c = λ o is task left moments.
     values_part o c.args.moment _ _ _ _ _ _ is task
     (ap (λ (a : Held Letter). map plain_letter a.items) c.answers.ensures.archive
     ∙ ap (map plain_letter) c.requires.archive)
-    (rw (to_z-of_z c.ranges.moment) at c.answers.ensures.sources) refl refl _ _
-    ((rw (to_z-of_z c.ranges.moment) at c.in-Ok.ensures.ok) _ (keeps_same _))
+    (off_at (plain_setup c.args.setup) _ _ (to_z-of_z c.ranges.moment)
+    c.answers.ensures.sources) refl refl _ _
+    (names_at (plain_setup c.args.setup) _ _ (to_z-of_z c.ranges.moment)
+    (c.in-Ok.ensures.ok _ (keeps_same _)))
     c.in_default-tell_notes.ensures.ok _
     c.in-Err-print.ensures.which (search rules)

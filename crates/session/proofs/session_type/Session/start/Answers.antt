@@ -4,7 +4,7 @@ use Rattle.folder_core.specs.Letters.{plain_letter}
 use Rattle.session_state.specs.Instants.{IsMoment}
 use Rattle.session.specs.Starting.{first_state, plain_setup}
 use Rattle.session.proofs.BeginningLemmas.{fails_early, if_error, no_answer, no_memory}
-use Rattle.session.proofs.CallsLemmas.{sourced_at}
+use Rattle.session.proofs.CallsLemmas.{fails_at, sourced_at, starts_at}
 use Rattle.session.proofs.StepsLemmas.{off_at}
 use Rattle.session.proofs.session_type.Session.start.Goals as goal
 
@@ -19,17 +19,19 @@ returns-in_err-session-clause-err g c =
 pub returns-in_err-open_wished-clause-err : goal.returns-in_err-open_wished-clause-err
 returns-in_err-open_wished-clause-err g c =
     if_error _ c.in_err-open_wished.field-0.0 _ c.from_residual-in_err-open_wished.ensures.1
-    ((rw (to_z-of_z c.ranges.moment) at c.in_err-open_wished.ensures.err)
+    (fails_at c.open_wished.new.trace _ _ (to_z-of_z c.ranges.moment)
+    (c.in_err-open_wished.ensures.err
     (first_state (plain_setup c.args.setup) c.args.moment) _
     (sourced_at (plain_setup c.args.setup) _ _ (to_z-of_z c.ranges.moment)
-    c.in_ok-session.ensures.sourced))
+    c.in_ok-session.ensures.sourced)))
 
 pub returns-clause-ok : goal.returns-clause-ok
 returns-clause-ok g c =
-    (rw (to_z-of_z c.ranges.moment) at c.in_ok-open_wished.ensures.ok)
+    starts_at c.open_wished.new.self c.open_wished.new.trace _ _ (to_z-of_z c.ranges.moment)
+    (c.in_ok-open_wished.ensures.ok
     (first_state (plain_setup c.args.setup) c.args.moment) _
     (sourced_at (plain_setup c.args.setup) _ _ (to_z-of_z c.ranges.moment)
-    c.in_ok-session.ensures.sourced)
+    c.in_ok-session.ensures.sourced))
 
 pub returns-in_err-open_wished-clause-fits : goal.returns-in_err-open_wished-clause-fits
 returns-in_err-open_wished-clause-fits g c =
