@@ -129,7 +129,10 @@ fn is_hidden(skip_empty: bool, listing: &[Listed]) -> bool
     ensures hidden { result ≡ true → (skip_empty ≡ true) × (listing.now ≡ []) }
     ensures shown { result ≡ false → skip_empty ≡ true → listing.now ≡ [] → ⊥ }
 {
-    skip_empty && listing.is_empty()
+    match listing {
+        [] => skip_empty,
+        _ => false,
+    }
 }
 
 // Tells of faulty commands where no folder was opened.
