@@ -509,6 +509,5 @@ names_are_of_files state path number h is =
     in_names state.names path number is in
     record {
       name = is;
-      below =
-          below_in (length state.files) state.names path number named h.below;
+      below = below_in (length state.files) state.names path number named h.below;
     }

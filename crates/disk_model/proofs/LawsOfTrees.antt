@@ -123,8 +123,7 @@ placed_all one other (name ∷ names) keeps h = (
   record {
     no_root = h.0.no_root;
     text = h.0.text;
-    folder =
-        keeps (folder_of name.path) h.0.folder;
+    folder = keeps (folder_of name.path) h.0.folder;
   },
   placed_all one other names keeps h.1,
 )

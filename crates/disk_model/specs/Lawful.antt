@@ -40,8 +40,7 @@ most_written (SyncDir dir) = 0
 most_written (MakeDir path) = 0
 
 -- The tree allows the answer: Ok where nothing is in the way, a refusal for the cause that stands
--- there, and a fault at
--- any time, which wrote no more than was given.
+-- there, and a fault at any time, which wrote no more than was given.
 abbrev pub IsAllowed : Call → Answer → List TreeNode → Type 0
 IsAllowed call Done tree = refusal call tree ≡ None
 IsAllowed call (Refused Fault wrote) tree = wrote ≤ most_written call

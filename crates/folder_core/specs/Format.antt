@@ -15,8 +15,7 @@ pub record Format : Type 1 where
   -- the letter that a message makes under an id
   pub letter : ℕ → Message → Mail
   -- Between two marks of a past these messages were seen in the known folder, as its bytes and
-  -- stamps say, and they
-  -- may be listed beside so many letters.
+  -- stamps say, and they may be listed beside so many letters.
   pub Saw : ℕ → KnownFolder → List Message → ℕ → ℕ → Past → Type 0
   -- between two marks of a past the folder at a path was not to be listed for this cause beside so
   -- many letters

@@ -141,10 +141,9 @@ StaysThere path file m n past = (mark : ℕ) → m ≤ mark → mark ≤ n
     → is_some (message_at (tree_at past mark) path file) ≡ true
 
 -- What a scan saw between two marks: each message that it lists stood there once with its key,
--- flags and bytes, in order; one
--- that stood under one name all along is listed, or under one name in `new` until it was moved to
--- one in `cur` before
--- that was listed; and where nobody else acted they are those of the folder.
+-- flags and bytes, in order; one that stood under one name all along is listed, or under one name
+-- in `new` until it was moved to one in `cur` before that was listed; and where nobody else acted
+-- they are those of the folder.
 pub record SawMaildir (path : List ℕ) (messages : List Message) (m n : ℕ) (past : Past) : Type 0
   where
     pub in_order : are_in_order messages ≡ true

@@ -7,8 +7,8 @@ use Rattle.std.specs.Str.{bytes_eq}
 use Rattle.mail_base.specs.declared.flags.Flags.{Flags}
 
 -- Its place among the folder's messages, what tells it from others at the same place, its flags and
--- its bytes. The
--- messages of an mbox have the order of the file alone, so that place and key say nothing there.
+-- its bytes. The messages of an mbox have the order of the file alone, so that place and key say
+-- nothing there.
 pub record Message : Type 0 where
   pub order : ℕ
   pub key : List ℕ

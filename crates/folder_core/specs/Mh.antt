@@ -110,10 +110,8 @@ StaysThere path name m n past = (mark : ℕ) → m ≤ mark → mark ≤ n
     → is_some (message_at (tree_at past mark) path [] name) ≡ true
 
 -- What a scan saw between two marks: the sequences at one of them; each message that it lists stood
--- there once with its
--- number and bytes, and has the flags of the sequences; one that stood there all along is listed;
--- and where nobody else
--- acted they are those of the folder.
+-- there once with its number and bytes, and has the flags of the sequences; one that stood there
+-- all along is listed; and where nobody else acted they are those of the folder.
 pub record SawMh (path : List ℕ) (messages : List Message) (stamps : List ℕ) (m n : ℕ)
     (past : Past) : Type 0 where
   pub mark : ℕ

@@ -1,7 +1,6 @@
 -- Which numbers stand in the sequences of an MH folder (mh-sequence(5)): lines `name: ranges`,
--- ranges being `n` or
--- `n-m` with blanks between. Of two lines of one name both count, and a line that is not of this
--- form says nothing.
+-- ranges being `n` or `n-m` with blanks between. Of two lines of one name both count, and a line
+-- that is not of this form says nothing.
 use Rattle.std.specs.Prelude.{◌==◌, ◌&&◌, ◌||◌, ℕ, Bool, false, not, nat_le, nat_lt, List, [], ◌∷◌}
 use Rattle.std.specs.Prelude.{◌++◌, length, codes, Option, Some, None, unwrap_or, if◌then◌else◌}
 use Rattle.std.specs.List.{list_any}
@@ -13,8 +12,7 @@ use Rattle.mail_base.specs.declared.flags.Flags.{Flags}
 use Rattle.folder_core.specs.MhNumbers.{number_of}
 
 -- the lines of a text, of which the first has these bytes so far; a last line without a line end
--- counts where it is
--- not empty
+-- counts where it is not empty
 abbrev pub last_text : List ℕ → List (List ℕ)
 last_text [] = []
 last_text (b ∷ line) = (b ∷ line) ∷ []

@@ -1,6 +1,5 @@
 -- A mailbox in one file whose messages stand between lines of four bytes 1. No driver reads it yet:
--- it has no messages,
--- and is refused as no mailbox.
+-- it has no messages, and is refused as no mailbox.
 use Rattle.std.specs.Prelude.{◌≡◌, ℕ, pos, List, [], None}
 use Rattle.disk_model.specs.Journal.{Past}
 use Rattle.folder_core.specs.Format.{Format}

@@ -70,8 +70,7 @@ refused_from path Missing old mid new low was =
       mark = was.mark;
       from = omega (arith, was.from, low);
       to = was.to;
-      nothing =
-          was.nothing;
+      nothing = was.nothing;
     }
 refused_from path (NotMailbox place) old mid new low was = (
   was.0,
@@ -79,8 +78,7 @@ refused_from path (NotMailbox place) old mid new low was = (
     mark = was.1.mark;
     from = omega (arith, was.1.from, low);
     to = was.1.to;
-    other =
-        was.1.other;
+    other = was.1.other;
   },
 )
 refused_from path (TooMany count) old mid new low was = absurd was.saw

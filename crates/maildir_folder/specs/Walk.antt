@@ -48,8 +48,7 @@ pub record TakesNext (path : List ℕ) (last : Option (List ℕ)) (file : Maildi
   pub saw : GoesOn (NextSeen (is_taken last (base_of file)) path file found) old new
 
 -- A walk over files in order: each message stood there, in order, each base has one where a file of
--- it stays there, and
--- those of a tree that does not change are its messages.
+-- it stays there, and those of a tree that does not change are its messages.
 pub record WalkSeen (path : List ℕ) (files : List MaildirFile) (messages : List Message)
     (old new : Past)
     : Type 0 where

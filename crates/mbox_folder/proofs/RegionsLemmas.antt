@@ -22,8 +22,7 @@ use Rattle.folder_core.proofs.Messages.{concat-lines}
 use Rattle.mbox_folder.specs.Regions.{last_empty}
 
 -- the regions from a message on that began at `start`: `at` is the place of the lines left, and
--- `empty` tells of the
--- line before them
+-- `empty` tells of the line before them
 abbrev pub opened : ℕ → ℕ → Bool → List (List ℕ) → List Region
 opened start at empty [] = region_at start at ∷ []
 opened start at empty (line ∷ lines) =

@@ -211,8 +211,7 @@ joined f a b c d =
       seen = f.seen || a;
       aged = f.aged || b;
       replied = f.replied || c;
-      flagged =
-          f.flagged || d;
+      flagged = f.flagged || d;
     }
 
 joined-joined : (f : Flags) (a b c d p q r s : Bool)

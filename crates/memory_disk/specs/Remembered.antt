@@ -17,8 +17,7 @@ use Rattle.disk_state.specs.Plain.{answer_by_refusal}
 use Rattle.memory_disk.specs.Plan.{Planned, due, in_order, left}
 
 -- A disk in memory: its past, what others have done since, what they have still to do, which calls
--- fail, the call from
--- which on all fail, and the calls and the faults so far.
+-- fail, the call from which on all fail, and the calls and the faults so far.
 pub record Remembered : Type 0 where
   pub past : Past
   pub waiting : List Action

@@ -23,8 +23,7 @@ makes_step {result} {call} {wanted} {bytes} {old} {new} counts errors =
       grows = refl;
       counts = counts;
       reads = refl;
-      errors =
-          errors;
+      errors = errors;
     }
 
 -- The same of answers that are told as plain values.
@@ -38,8 +37,7 @@ counts_ok given plain old new counts =
     record {
       marks = counts.marks;
       faults = counts.faults;
-      cause =
-          λ no. absurd (no_fault plain no);
+      cause = λ no. absurd (no_fault plain no);
     }
 
 fault_of : {B : Type 0} (why : DiskError) → ◌≡◌ {A = Result B DiskError} (Err why) (Err Fault)

@@ -29,8 +29,7 @@ answered press rules queue =
       press = press;
       begun = rules.keymap.begun;
       waiting = queue.items;
-      replaced =
-          queue.replaced;
+      replaced = queue.replaced;
     }
 
 -- A press took the core and the queue to others.

@@ -13,8 +13,7 @@ use Rattle.session_state.specs.declared.stage.Stage.TheVariants.{Unopened}
 use Rattle.session.specs.declared.session_type.Session.{Session}
 
 -- the screen has room for a page, the calendar has the moment at which commands run and keys act,
--- and
--- of the keys that wait not too many were replaced
+-- and of the keys that wait not too many were replaced
 pub record CanRead (session : Session) : Type 0 where
   pub window : IsWindow session.window
   pub moment : IsMoment session.moment.0

@@ -46,8 +46,7 @@ IsNext Go stage = stage ≡ Idle
 IsNext Quit stage = stage ≡ Over
 
 -- The events are a run, which shows these screens and then, if it shows one, the state to which
--- they
--- lead; so many notes stood before.
+-- they lead; so many notes stood before.
 pub record GoesOn (given : Given) (first : State) (events : List Happening)
     (screens : List (List (List ℕ))) (notes : List (List ℕ)) : Type 0 where
   pub run : IsRunFrom given first events
@@ -115,8 +114,8 @@ IsSettled Reading frames = frames ≢ []
 IsSettled Over frames = Unit {0}
 
 -- Files of commands were read before a folder is open: the events are a run up to this state, no
--- screen
--- was shown, and what they say of the disk is true, for every list that keeps these verdicts.
+-- screen was shown, and what they say of the disk is true, for every list that keeps these
+-- verdicts.
 pub record Sources (kept : List PlainJudged) (first : State) (events : List Happening)
     (state : State) (before now : Seen) : Type 0 where
   pub are : AreFiles events
