@@ -93,8 +93,8 @@ impl Session {
         session.core.rules.answers(alloc, names.as_slice())
     }
 
-    // A session over a core. A call of its own, so that no other proof has the table of default
-    // keys before it.
+    // A session over a core. A call of its own, so that its proof does not have the tables of
+    // default keys and settings before it.
     fn over(alloc: Global, setup: Setup, core: Core, moment: Moment) -> Session
         ensures state { (notes : Held (Held ℕ)) → notes.items ≡ [] → plain_session result notes
             ≡ state_over (plain_setup setup) (plain_core core) moment.0 }
