@@ -34,7 +34,7 @@ stands_at xs i none = ⊎_elim
 stands_first : (xs : List Id) → Stands xs (slice_get xs 0)
 stands_first xs = stands_at xs 0 (empty xs)
 
-stands_last : (xs : List Id) (place : ℕ) → Stands xs (at_or_last xs place)
+pub stands_last : (xs : List Id) (place : ℕ) → Stands xs (at_or_last xs place)
 stands_last xs place =
     stands_at xs (min place (length xs - 1)) (λ le. empty xs (omega (arith, le)))
 

@@ -7,8 +7,8 @@ ghost use Rattle.index_listed.specs.Seen.{visible_ids};
 use crate::sight::Sight;
 use mail_base::Id;
 
-// The id that is seen at a place, or the last one.
-fn at_or_last(visible: &[Id], place: usize) -> Option<Id>
+/// The id that is seen at a place, or the last one.
+pub fn at_or_last(visible: &[Id], place: usize) -> Option<Id>
     ensures { result ≡ spec.at_or_last visible.now place }
 {
     visible

@@ -20,7 +20,7 @@ mod threading;
 mod tree;
 mod visibility;
 
-pub use cursor::{moved, moved_by_shutting};
+pub use cursor::{at_or_last, moved, moved_by_shutting};
 pub use entry::Above;
 pub use heads::read_heads;
 pub use links::Links;

@@ -3,6 +3,7 @@ pub mod ItemLemmas
 pub mod OrderLemmas
 pub mod AnswersLemmas
 pub mod StillLemmas
+pub mod OneLemmas
 pub mod ViewLemmas
 pub mod JoinLemmas
 pub mod LinesLemmas

@@ -47,18 +47,18 @@ use Rattle.index_view.specs.View.{answers_over}
 use Rattle.index_view.proofs.ActingLemmas.{acted_keeps_id}
 use Rattle.index_view.proofs.AnswersLemmas.{rows_long}
 
-read_map : {X Y : Type 0} (f : X → Y) (d : X) (xs : List X) (p : ℕ)
+pub read_map : {X Y : Type 0} (f : X → Y) (d : X) (xs : List X) (p : ℕ)
     → slice_index_or (map f xs) p (f d) ≡ f (slice_index_or xs p d)
 read_map f d [] p = refl
 read_map f d (x ∷ xs) zero = refl
 read_map f d (x ∷ xs) (suc p) = read_map f d xs p
 
-each_same : {X Y : Type 0} (f g : X → Y) (xs : List X) → ((x : X) → f x ≡ g x)
+pub each_same : {X Y : Type 0} (f g : X → Y) (xs : List X) → ((x : X) → f x ≡ g x)
     → map f xs ≡ map g xs
 each_same f g [] same = refl
 each_same f g (x ∷ xs) same = λ k. same x k ∷ each_same f g xs same k
 
-abbrev shut_of : PlainItem → Bool
+abbrev pub shut_of : PlainItem → Bool
 shut_of i = i.shut
 
 -- Rows and messages without flags, marks of deletion and tags.
@@ -83,14 +83,14 @@ AreBlind entries = (people : PlainPeople) → (ms : List Message) → (ns : List
 bare_at : (rows : List Row) (p : ℕ) → bare_row (row_at rows p) ≡ row_at (map bare_row rows) p
 bare_at rows p = sym (read_map bare_row no_row rows p)
 
-same_at : (rows others : List Row) → map bare_row rows ≡ map bare_row others → (p : ℕ)
+pub same_at : (rows others : List Row) → map bare_row rows ≡ map bare_row others → (p : ℕ)
     → bare_row (row_at rows p) ≡ bare_row (row_at others p)
 same_at rows others same p =
     bare_at rows p ∙ ap (λ (all : List Row). row_at all p) same ∙ sym (bare_at others p)
 
 -- What is seen.
 
-module _ (ls : List PlainListed) (f : Facts) (items : List PlainItem) (blind : IsBlind f.limit)
+module _ (ls : List PlainListed) (f : Facts) (items : List PlainItem)
     (scores_blind : AreBlind f.scores) (same : map shut_of items ≡ map shut_of f.items) where
   abbrev g : Facts
   g = record f { items = items }
@@ -104,14 +104,14 @@ module _ (ls : List PlainListed) (f : Facts) (items : List PlainItem) (blind : I
   abbrev first : List PlainItem → List Row
   first is = first_rows ls is links
 
-  same_shut : (p : ℕ) → in_shut items links p ≡ in_shut f.items links p
+  pub same_shut : (p : ℕ) → in_shut items links p ≡ in_shut f.items links p
   same_shut p =
       let root = (links_at links p).root in
       sym (read_map shut_of no_item items root)
       ∙ ap (λ (shut : List Bool). slice_index_or shut root no_item.shut) same
       ∙ read_map shut_of no_item f.items root
 
-  first_bare : map bare_row (first items) ≡ map bare_row (first f.items)
+  pub first_bare : map bare_row (first items) ≡ map bare_row (first f.items)
   first_bare =
       map-map bare_row (first_row_at ls items links) places
       ∙ each_same (λ p. bare_row (first_row_at ls items links p))
@@ -119,11 +119,11 @@ module _ (ls : List PlainListed) (f : Facts) (items : List PlainItem) (blind : I
       (λ p. ap (λ (c : Bool). bare_row (first_row (at ls p) no_item c)) (same_shut p))
       ∙ sym (map-map bare_row (first_row_at ls f.items links) places)
 
-  first_long : (is : List PlainItem) → length (first is) ≡ length ls
+  pub first_long : (is : List PlainItem) → length (first is) ≡ length ls
   first_long is =
       length-map places (first_row_at ls is links) ∙ length-range_with_len 0 (length ls)
 
-  table_bare : (rows others : List Row) → map bare_row rows ≡ map bare_row others
+  pub table_bare : (rows others : List Row) → map bare_row rows ≡ map bare_row others
       → map bare (table ls rows links) ≡ map bare (table ls others links)
   table_bare rows others are =
       map-map bare (message_at ls rows links) places
@@ -151,13 +151,13 @@ module _ (ls : List PlainListed) (f : Facts) (items : List PlainItem) (blind : I
       (first_long items ∙ sym (first_long f.items))
       ∙ sym (map-map bare_row (scores_at f.items) (range_with_len 0 (length (first f.items))))
 
-  same_order : ordered ls g ≡ ordered ls f
+  pub same_order : ordered ls g ≡ ordered ls f
   same_order = ap (λ ks. order (sort_options f.options) ks (threads_of ls f))
       (each_same (key_at ls (scored ls g)) (key_at ls (scored ls f)) places
       (λ p. ap (λ (r : Row). key_of (at ls p) r.score)
       (same_at (scored ls g) (scored ls f) scored_bare p)))
 
-  same_stances : stances_of ls g ≡ stances_of ls f
+  pub same_stances : stances_of ls g ≡ stances_of ls f
   same_stances = ap (λ ids. stances (is_threads f.options.sort) (threads_of ls f) (ids_in ls) ids)
       same_order
 
@@ -166,14 +166,14 @@ module _ (ls : List PlainListed) (f : Facts) (items : List PlainItem) (blind : I
   numbers_bare order rows =
       map-map bare_row (with_number order) rows ∙ sym (map-map (with_number order) bare_row rows)
 
-  rows_bare : map bare_row (rows_of ls g) ≡ map bare_row (rows_of ls f)
+  pub rows_bare : map bare_row (rows_of ls g) ≡ map bare_row (rows_of ls f)
   rows_bare =
       numbers_bare (ordered ls g) (scored ls g)
       ∙ (λ k. map (with_number (same_order k)) (scored_bare k))
       ∙ sym (numbers_bare (ordered ls f) (scored ls f))
 
-  same_within : within_of ls g ≡ within_of ls f
-  same_within = blind f.people (messages_of ls g) (messages_of ls f)
+  same_within : IsBlind f.limit → within_of ls g ≡ within_of ls f
+  same_within blind = blind f.people (messages_of ls g) (messages_of ls f)
       (table_bare (rows_of ls g) (rows_of ls f) rows_bare)
 
   -- the mark at each place is the same but for what tells new messages from old ones
@@ -183,12 +183,13 @@ module _ (ls : List PlainListed) (f : Facts) (items : List PlainItem) (blind : I
   mark_same pick F G each (x ∷ xs) zero = each x
   mark_same pick F G each (x ∷ xs) (suc p) = mark_same pick F G each xs p
 
-  same_satisfies : (p : ℕ) → (mark_at (marks_of (rows_of ls g) (within_of ls g)) p).satisfies
+  same_satisfies : IsBlind f.limit → (p : ℕ)
+      → (mark_at (marks_of (rows_of ls g) (within_of ls g)) p).satisfies
       ≡ (mark_at (marks_of (rows_of ls f) (within_of ls f)) p).satisfies
-  same_satisfies p =
+  same_satisfies blind p =
       mark_same (λ m. m.satisfies) (mark_of (rows_of ls g) (within_of ls g))
       (mark_of (rows_of ls f) (within_of ls f))
-      (λ q. ap (λ (ws : List Bool). slice_index_or ws q false) same_within)
+      (λ q. ap (λ (ws : List Bool). slice_index_or ws q false) (same_within blind))
       (range_with_len 0 (length (rows_of ls g))) p
       ∙ ap (λ n.
       (mark_at (map (mark_of (rows_of ls f) (within_of ls f)) (range_with_len 0 n))
@@ -208,25 +209,28 @@ module _ (ls : List PlainListed) (f : Facts) (items : List PlainItem) (blind : I
       (mark_at (map (mark_of (rows_of ls f) (within_of ls f)) (range_with_len 0 n)) p).is_shut)
       (rows_long ls g ∙ sym (rows_long ls f))
 
-  same_entry : (s : Stance) → entry_of (marks_of (rows_of ls g) (within_of ls g)) s
+  same_entry : IsBlind f.limit → (s : Stance)
+      → entry_of (marks_of (rows_of ls g) (within_of ls g)) s
       ≡ entry_of (marks_of (rows_of ls f) (within_of ls f)) s
-  same_entry s = λ k. record {
+  same_entry blind s = λ k. record {
     parent = s.parent;
     root = s.root;
-    satisfies = same_satisfies s.place k;
+    satisfies = same_satisfies blind s.place k;
     is_shut = same_is_shut s.place k;
   }
 
-  same_entries : entries (marks_of (rows_of ls g) (within_of ls g)) (stances_of ls g)
+  same_entries : IsBlind f.limit
+      → entries (marks_of (rows_of ls g) (within_of ls g)) (stances_of ls g)
       ≡ entries (marks_of (rows_of ls f) (within_of ls f)) (stances_of ls f)
-  same_entries =
+  same_entries blind =
       ap (λ (all : List Stance). entries (marks_of (rows_of ls g) (within_of ls g)) all)
       same_stances
       ∙ each_same (entry_of (marks_of (rows_of ls g) (within_of ls g)))
-      (entry_of (marks_of (rows_of ls f) (within_of ls f))) (stances_of ls f) same_entry
+      (entry_of (marks_of (rows_of ls f) (within_of ls f))) (stances_of ls f)
+      (same_entry blind)
 
-  pub seen_still : visible_ids (sight_of ls g) ≡ visible_ids (sight_of ls f)
-  seen_still = λ k. visible (same_order k) (same_entries k)
+  pub seen_still : IsBlind f.limit → visible_ids (sight_of ls g) ≡ visible_ids (sight_of ls f)
+  seen_still blind = λ k. visible (same_order k) (same_entries blind k)
 
 -- Acts.
 
@@ -261,7 +265,7 @@ module _ (i : PlainItem) where
   act_keeps TurnNew shown tag = if_keeps (shown.seen || shown.aged) _ _ refl refl
   act_keeps TurnTag shown tag = refl
 
-acted_shut : (act : Act) (id : Id) (items : List PlainItem)
+pub acted_shut : (act : Act) (id : Id) (items : List PlainItem)
     → map shut_of (alter_at id (acted act) items) ≡ map shut_of items
 acted_shut act id items =
     map-map shut_of (altered_where id (acted act)) items
@@ -273,7 +277,7 @@ acted_shut act id items =
     by_test i true keeps = keeps
     by_test i false keeps = refl
 
-acted_ids : (act : Act) (id : Id) (items : List PlainItem)
+pub acted_ids : (act : Act) (id : Id) (items : List PlainItem)
     → ids_of (alter_at id (acted act) items) ≡ ids_of items
 acted_ids act id items =
     map-map (λ (i : PlainItem). i.id) (altered_where id (acted act)) items
@@ -295,4 +299,4 @@ seen_acted mails f act id blind scores_blind =
     ap (λ (xs : List Id). visible_ids
     (sight_of (with_letters mails xs) (record f { items = items })))
     (acted_ids act id f.items)
-    ∙ seen_still (all_listed mails f.items) f items blind scores_blind (acted_shut act id f.items)
+    ∙ seen_still (all_listed mails f.items) f items scores_blind (acted_shut act id f.items) blind

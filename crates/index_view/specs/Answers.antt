@@ -1,6 +1,6 @@
 -- What the index answers, worked out from scratch.
 use Rattle.std.specs.Prelude.{◌≡◌, ℕ, Bool, false, List, [], Option, None, length, map}
-use Rattle.std.specs.Prelude.{nat_eq, option_and_then, option_map, position, slice_index_or}
+use Rattle.std.specs.Prelude.{nat_eq, not, option_and_then, option_map, position, slice_index_or}
 use Rattle.std.specs.List.{IsDistinct, filter}
 use Rattle.std.specs.Option.{option_map_or}
 use Rattle.mail_base.specs.declared.kind.Id.{Id}
@@ -123,6 +123,10 @@ place_of a id = position (nat_eq id.0) (map (λ r. r.id.0) a.rows)
 -- what is shown of a message, where it is listed
 abbrev pub row : PlainAnswers → Id → Option Row
 row a id = option_map (row_at a.rows) (place_of a id)
+
+-- it is listed, and its thread is not shut
+abbrev pub is_open : PlainAnswers → Id → Bool
+is_open a id = option_map_or (λ r. not r.collapsed) (row a id) false
 
 -- its parent, if it has one
 abbrev pub parent_of : PlainAnswers → Id → Option Parent

@@ -292,7 +292,8 @@ impl Answers {
 
     /// What is seen.
     pub fn sight(&self) -> &Sight
-        ensures { result.now ≡ self.now.sight }
+        ensures value { result.now ≡ self.now.sight }
+        ensures apart { IsDistinct nat_eq (numbers result.now.order) }
     {
         &self.sight
     }

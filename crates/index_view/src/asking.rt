@@ -11,11 +11,13 @@ use threads::Parent;
 
 impl View {
     ghost use Rattle.std.specs.Prelude.{◌≡◌, [], None, List, is_some, length, map, true, IfOk};
-    ghost use Rattle.std.specs.Prelude.{IfSome, option_map};
+    ghost use Rattle.std.specs.Prelude.{IfSome, nat_eq, option_map};
+    ghost use Rattle.std.specs.List.{IsDistinct};
     ghost use Rattle.folder_core.specs.Letters.{Mail, plain_letter};
     ghost use Rattle.index_items.specs.Changes.{AreBelow, changes_of, plain_changes};
     ghost use Rattle.index_items.specs.Tally.{tally_of};
     ghost use Rattle.index_listed.specs.Cursor.{is_seen};
+    ghost use Rattle.index_listed.specs.Places.{numbers};
     ghost use Rattle.index_view.specs.Answers as answers;
     ghost use Rattle.index_view.specs.Limit.{plain_limit};
     ghost use Rattle.index_view.specs.View as spec;
@@ -27,7 +29,7 @@ impl View {
         ensures moved { self.new ≡ spec.moved_to self.old id }
         ensures is_of { (mails : List Mail) → spec.IsOf mails self.old → spec.IsOf mails self.new }
     {
-        let is_seen = self.answers.sight().visible_place(id).is_some();
+        let is_seen = self.is_seen(id);
         if is_seen {
             self.cursor = Some(id);
         }
@@ -69,9 +71,17 @@ impl View {
 
     /// All ids in the order of the index.
     pub fn ordered(&self) -> &Ids
-        ensures { result.now.items ≡ self.now.answers.sight.order }
+        ensures value { result.now.items ≡ self.now.answers.sight.order }
+        ensures apart { IsDistinct nat_eq (numbers result.now.items) }
     {
         self.answers.sight().order()
+    }
+
+    /// Whether a message is seen.
+    pub fn is_seen(&self, id: Id) -> bool
+        ensures { result ≡ is_seen (spec.visible_of self.now) id }
+    {
+        self.answers.sight().visible_place(id).is_some()
     }
 
     /// The ids that are seen, in order.

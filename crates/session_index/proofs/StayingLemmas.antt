@@ -26,13 +26,8 @@ use Rattle.patterns_match.specs.declared.letter.Number.TheVariants as number
 use Rattle.patterns_match.specs.declared.relation.Relation.{Relation}
 use Rattle.patterns_match.specs.declared.relation.Relation.TheVariants.{Thread, Parent, Child}
 use Rattle.index_view.specs.Limit.{PlainLimit, all_within, is_within}
-use Rattle.index_view.proofs.StillLemmas.{AreBlind, IsBlind, bare}
+use Rattle.index_view.proofs.StillLemmas.{AreBlind, IsBlind, bare, each_same}
 use Rattle.session_index.specs.Staying.{entries_stay, leaf_stays, limit_stays, mark_stays, stays}
-
-each_same : {X Y : Type 0} (f g : X → Y) (xs : List X) → ((x : X) → f x ≡ g x)
-    → map f xs ≡ map g xs
-each_same f g [] same = refl
-each_same f g (x ∷ xs) same = λ k. same x k ∷ each_same f g xs same k
 
 any_same : {X : Type 0} (f g : X → Bool) (xs : List X) → ((x : X) → f x ≡ g x)
     → list_any f xs ≡ list_any g xs
@@ -63,7 +58,7 @@ passes_at f g ms p same =
     ap (passes f) (get_map bare ms p) ∙ passes_same f g (slice_get ms p) same
 
 module _ (people : PlainPeople) (offset : ℤ) (ms : List Message) where
-  child_same : (p : ℕ) → has_child (map bare ms) p ≡ has_child ms p
+  pub child_same : (p : ℕ) → has_child (map bare ms) p ≡ has_child ms p
   child_same p = any_map (λ m. is_place p m.parent) bare ms
 
   mark_same : (p : ℕ) (m : Message) (x : Mark) → mark_stays x ≡ true

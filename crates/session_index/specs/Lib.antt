@@ -14,3 +14,4 @@ pub mod Answering
 pub mod Typing
 pub mod Opening
 pub mod Staying
+pub mod Hiding

@@ -36,7 +36,7 @@ impl Desk {
             (plain_limit pattern.old) (plain_desk self.old)) self.new) }
     {
         let ids = self.view.pick(self.alloc, archive, pattern)?;
-        act_on(&mut self.view, archive, act, ids.as_slice())
+        act_on(self.alloc, &mut self.view, archive, act, ids.as_slice())
     }
 
     /// Sets another limit, or none.

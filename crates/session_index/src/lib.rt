@@ -8,6 +8,7 @@ mod desk;
 mod effect;
 mod folding;
 mod functions;
+mod hiding;
 mod message;
 mod motion;
 mod neighbours;

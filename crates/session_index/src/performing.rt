@@ -94,7 +94,7 @@ impl Desk {
             (plain_desk self.old)) self.new) }
     {
         let ids = self.scope_ids(scope)?;
-        act_on(&mut self.view, archive, act, ids.as_slice())
+        act_on(self.alloc, &mut self.view, archive, act, ids.as_slice())
     }
 
     // What tag-thread does to each message.

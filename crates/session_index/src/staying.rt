@@ -51,7 +51,8 @@ fn stays(pattern: &Pattern) -> bool
     all_stay(pattern.operations.as_slice())
 }
 
-fn entries_stay(entries: &[ScoreEntry]) -> bool
+/// Whether no entry of scores looks at flags, marks of deletion and tags.
+pub fn entries_stay(entries: &[ScoreEntry]) -> bool
     ensures { result ≡ spec.entries_stay (held_entries entries.now) }
 {
     let mut left = entries;

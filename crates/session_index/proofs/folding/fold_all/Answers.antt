@@ -19,7 +19,7 @@ returns c =
     let v = c.args.view.now in
     let some_shut : c.is_some-is_shut.result ≡ is_some_shut v.answers = c.is_some-is_shut.ensures
     ∙ ap is_some (c.first_shown.ensures ∙ ap (find (shows Collapsed v.answers))
-    (c.as_slice-ids.ensures ∙ c.ordered.ensures)) in
+    (c.as_slice-ids.ensures ∙ c.ordered.ensures.value)) in
     let items : all_shut (not c.is_some-is_shut.result) v.answers v.items
     ≡ all_shut (not (is_some_shut (answers_of mails (index_of v)))) (answers_of mails (index_of v))
     v.items = ap (λ b. all_shut (not b) v.answers v.items) some_shut

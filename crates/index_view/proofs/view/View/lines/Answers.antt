@@ -19,7 +19,8 @@ returns c =
     let offset : FitsSigned w32 c.args.offset = c.ranges.offset in
     let put = rw (to_z-of_z offset) at c.in_ok-put_rows.ensures in
     let page_is : c.page-page.result.now ≡ page rows c.args.self.now = c.page-page.ensures.page
-    ∙ ap (λ (s : PlainSight). page_of rows (visible_ids s) c.self.inside.cursor) c.sight.ensures
+    ∙ ap (λ (s : PlainSight). page_of rows (visible_ids s) c.self.inside.cursor)
+    c.sight.ensures.value
     ∙ (λ i. page_of rows (visible_ids (c.self.view_is i).answers.sight)
     (c.self.view_is i).cursor) in
     c.in_ok-put_blanks.ensures

@@ -29,7 +29,7 @@ pub returns-in-Ok-clause-ok : goal.returns-in-Ok-clause-ok
 returns-in-Ok-clause-ok c =
     let inside = c.self.inside in
     let tables = c.limited.ensures.same in
-    let cursor = c.moved-self-inside.ensures ∙ (λ i. moved (visible_ids (c.sight.ensures i))
+    let cursor = c.moved-self-inside.ensures ∙ (λ i. moved (visible_ids (c.sight.ensures.value i))
     (visible_ids c.in-Ok.sight) inside.cursor) in
     limit_set (map plain_letter c.args.archive.now.items) c.args.self.now _ _ c.args.limit
     c.replace-old.new.dest _ c.in-Ok.sight c.requires c.self.view_is c.replace-old.ensures.after

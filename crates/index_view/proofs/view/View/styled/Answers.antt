@@ -51,7 +51,7 @@ returns c =
       length-map letters plain_letter,
     )) in
     let tree = c.in_ok-tree.ensures ∙ ap (λ (s : PlainSight). tree_line s id)
-    (c.sight.ensures ∙ ap (λ (w : PlainView). w.answers.sight) c.self.view_is) in
+    (c.sight.ensures.value ∙ ap (λ (w : PlainView). w.answers.sight) c.self.view_is) in
     ap Some (c.in_ok-index_row.ensures
     ∙ (λ i. index_row c.args.cols ((c.entry-entry.ensures
     ∙ (λ j. spec.entry_with (header j) (raw j) (tree j) v style id place)) i) style.format))
