@@ -3,7 +3,7 @@
 use case_files::{Case, CaseFault, Entry, read_number};
 use disk_model::{Node, Tree, is_tree};
 use disk_state::Action;
-use mail_base::{Bytes, Numbers, Words};
+use mail_base::{Bytes, NoMemory, Numbers, Words};
 use memory_disk::{Foreign, MemoryDisk, Script};
 use std::alloc::Global;
 
@@ -11,24 +11,25 @@ use std::alloc::Global;
 /// `stop` on fail, and on which others do what stands under `others N DEED PATH`, before call N:
 /// `append`, `put`, `remove`, `write`, or `rename` to the value.
 pub fn disk_of(alloc: Global, case: &Case) -> Result<MemoryDisk, CaseFault> {
-    let tree = tree_of(alloc, case)?;
-    if !is_tree(&tree) {
-        return Err(CaseFault::BadInput);
-    }
-    let script = script_of(alloc, case)?;
-    let fails = numbers_of(alloc, case, b"failing disk")?;
     let stop = case.number(b"stop")?;
-    Ok(MemoryDisk::new(alloc, tree, script, fails, stop)?)
+    let fails = numbers_of(alloc, case, b"failing disk")?;
+    let mut script = Script::new(alloc);
+    push_script(alloc, case, &mut script)?;
+    let tree = tree_of(alloc, case)?;
+    if is_tree(&tree) {
+        Ok(MemoryDisk::new(alloc, tree, script, fails, stop)?)
+    } else {
+        Err(CaseFault::BadInput)
+    }
 }
 
-fn script_of(alloc: Global, case: &Case) -> Result<Script, CaseFault> {
-    let mut script = Script::new(alloc);
+fn push_script(alloc: Global, case: &Case, script: &mut Script) -> Result<(), CaseFault> {
     for entry in case.entries.as_slice() {
         if entry.role() == b"others".as_slice() {
             script.push(foreign_of(alloc, entry)?)?;
         }
     }
-    Ok(script)
+    Ok(())
 }
 
 fn foreign_of(alloc: Global, entry: &Entry) -> Result<Foreign, CaseFault> {
@@ -36,34 +37,44 @@ fn foreign_of(alloc: Global, entry: &Entry) -> Result<Foreign, CaseFault> {
         .split_once(' ')
         .ok_or(CaseFault::BadInput)?;
     let (deed, path) = deed.split_once(' ').ok_or(CaseFault::BadInput)?;
+    let before_call = read_number(number.as_bytes())?;
     let path = Bytes::copy_of(alloc, path.as_bytes())?;
     let bytes = Bytes::copy_of(alloc, entry.value.as_slice())?;
-    let action = match deed {
-        "append" => Action::Append { path, bytes },
-        "put" => Action::Put { path, bytes },
-        "write" => Action::Write { path, bytes },
-        "remove" => Action::Remove { path },
-        "rename" => Action::Rename {
-            from: path,
-            to: bytes,
-        },
-        _ => return Err(CaseFault::BadInput),
-    };
+    let action = action_of(deed, path, bytes)?;
     Ok(Foreign {
-        before_call: read_number(number.as_bytes())?,
+        before_call,
         action,
     })
+}
+
+fn action_of(deed: &str, path: Bytes, bytes: Bytes) -> Result<Action, CaseFault> {
+    match deed {
+        "append" => Ok(Action::Append { path, bytes }),
+        "put" => Ok(Action::Put { path, bytes }),
+        "write" => Ok(Action::Write { path, bytes }),
+        "remove" => Ok(Action::Remove { path }),
+        "rename" => Ok(Action::Rename {
+            from: path,
+            to: bytes,
+        }),
+        _ => Err(CaseFault::BadInput),
+    }
 }
 
 /// The nodes under `file PATH` and `folder PATH`, in their order.
 pub fn tree_of(alloc: Global, case: &Case) -> Result<Tree, CaseFault> {
     let mut tree = Tree::new(alloc);
+    push_nodes(alloc, case, &mut tree)?;
+    Ok(tree)
+}
+
+fn push_nodes(alloc: Global, case: &Case, tree: &mut Tree) -> Result<(), CaseFault> {
     for entry in case.entries.as_slice() {
         if let Some(node) = node_of(alloc, entry)? {
             tree.push(node)?;
         }
     }
-    Ok(tree)
+    Ok(())
 }
 
 fn node_of(alloc: Global, entry: &Entry) -> Result<Option<Node>, CaseFault> {
@@ -95,6 +106,11 @@ pub fn numbers_of(alloc: Global, case: &Case, key: &[u8]) -> Result<Numbers, Cas
 /// The words under `words`, with blanks between them, and then each one under `word`.
 pub fn words_of(alloc: Global, case: &Case) -> Result<Words, CaseFault> {
     let mut words = Words::new(alloc);
+    push_words(alloc, case, &mut words)?;
+    Ok(words)
+}
+
+fn push_words(alloc: Global, case: &Case, words: &mut Words) -> Result<(), NoMemory> {
     let value = case.find(b"words").unwrap_or(b"");
     for word in value
         .split(|byte| *byte == b' ')
@@ -107,7 +123,7 @@ pub fn words_of(alloc: Global, case: &Case) -> Result<Words, CaseFault> {
             words.push(Bytes::copy_of(alloc, entry.value.as_slice())?)?;
         }
     }
-    Ok(words)
+    Ok(())
 }
 
 /// A value as text.

@@ -1,7 +1,7 @@
 //! A case file, played.
 
 use crate::comparison::{compare, expects};
-use crate::{Case, FileFault, Report, Subject, read_cases};
+use crate::{Answer, Case, CaseFault, FileFault, Report, Subject, read_cases};
 use mail_base::NoMemory;
 use std::alloc::Global;
 
@@ -38,22 +38,46 @@ fn play_case<S: Subject>(
     case: &Case,
     report: &mut Report,
 ) -> Result<bool, NoMemory> {
-    let line = case.line;
-    let answer = match expects(subject, case) {
-        Ok(()) => subject.answer(alloc, case),
-        Err(fault) => Err(fault),
-    };
-    let answer = match answer {
-        Ok(answer) => answer,
-        Err(fault) => {
-            report.tell_case(file, line, case.name())?;
-            report.tell_fault(file, FileFault { line, fault })?;
-            return Ok(false);
-        }
-    };
-    if compare(subject, case, &answer, report)? {
-        report.tell_case(file, line, case.name())?;
+    let mut answer = Answer::new(alloc);
+    is_right(alloc, subject, file, case, &mut answer, report)
+}
+
+fn is_right<S: Subject>(
+    alloc: Global,
+    subject: &S,
+    file: &str,
+    case: &Case,
+    answer: &mut Answer,
+    report: &mut Report,
+) -> Result<bool, NoMemory> {
+    if let Err(fault) = answer_case(alloc, subject, case, answer) {
+        tell_unanswered(file, case, fault, report)?;
+        return Ok(false);
+    }
+    if compare(subject, case, answer, report)? {
+        report.tell_case(file, case.line, case.name())?;
         return Ok(false);
     }
     Ok(true)
+}
+
+fn answer_case<S: Subject>(
+    alloc: Global,
+    subject: &S,
+    case: &Case,
+    answer: &mut Answer,
+) -> Result<(), CaseFault> {
+    expects(subject, case)?;
+    subject.answer(alloc, case, answer)
+}
+
+fn tell_unanswered(
+    file: &str,
+    case: &Case,
+    fault: CaseFault,
+    report: &mut Report,
+) -> Result<(), NoMemory> {
+    let line = case.line;
+    report.tell_case(file, line, case.name())?;
+    report.tell_fault(file, FileFault { line, fault })
 }

@@ -9,6 +9,6 @@ pub trait Subject {
     /// The first words of keys that are inputs. All other keys are what is expected.
     fn inputs(&self) -> &[&[u8]];
 
-    /// Makes the call of a case.
-    fn answer(&self, alloc: Global, case: &Case) -> Result<Answer, CaseFault>;
+    /// Makes the call of a case, and puts what it answers.
+    fn answer(&self, alloc: Global, case: &Case, answer: &mut Answer) -> Result<(), CaseFault>;
 }

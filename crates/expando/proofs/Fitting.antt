@@ -7,6 +7,7 @@ use Rattle.std.specs.List.{flat_map, list_all}
 use Rattle.std.specs.Str.{chars}
 use Rattle.expando.specs.Columns.{blanks, columns_in, columns_of, is_control, kept, padded}
 use Rattle.expando.specs.Columns.{shown_char, shown_text}
+use Rattle.expando.specs.Cut.{shown}
 use Rattle.expando.specs.Drawing.{Texts, branch_of, drawn, drawn_leaf, drawn_piece, field_chars}
 use Rattle.expando.specs.Drawing.{shown_line}
 use Rattle.expando.specs.Formats.{PlainPiece, Simple, Either}
@@ -253,6 +254,18 @@ pub line_plain : (cols : ℕ) (texts : Texts) (pieces : List PlainPiece)
 line_plain cols texts pieces =
     laid_plain (spare cols (drawn texts pieces)) cols (drawn texts pieces)
     (flat_plain (drawn_piece texts) pieces (piece_plain texts))
+
+-- Texts that are cut.
+
+-- a line that shows a text takes no more than the columns
+pub text_fits : (cols : ℕ) (text : List ℕ) → columns_in (shown cols text) ≤ cols
+text_fits cols text = laid_fits 0 cols (map Shown (shown_text text))
+
+-- and has no control character
+pub text_plain : (cols : ℕ) (text : List ℕ)
+    → list_all (λ c. not (is_control c)) (shown cols text) ≡ true
+text_plain cols text = laid_plain 0 cols (map Shown (shown_text text))
+    (shown_plain (shown_text text) (plain_chars (chars text)))
 
 -- Gaps.
 

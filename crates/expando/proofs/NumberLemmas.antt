@@ -1,32 +1,13 @@
 -- Numbers of decimal digits.
 use Rattle.std.proofs.Common.{◌≡◌, ◌<◌, ◌^◌, ◌-◌, if◌then◌else◌, min, ℕ, true}
-use Rattle.std.proofs.Common.{List, [], ◌∷◌, length, Some, None, Result, Ok, Err, refl}
+use Rattle.std.proofs.Common.{List, length, Some, None, Result, Ok, Err}
 use Rattle.std.proofs.Common.{arith, ap, sym, ◌∙◌}
 use Rattle.std.specs.Result.{OkIff, result_unwrap_or}
-use Rattle.std.specs.Str.{all_ascii_digits, IsUtf8}
 use Rattle.std.specs.Str.Parse.{ParsesUnsigned, digits_value}
-use Rattle.std.proofs.lemmas.Fmt.{IsAscii-from_digits}
-use Rattle.std.proofs.lemmas.Str.{IsUtf8-from_ascii}
-use Rattle.std.proofs.lemmas.Str.Parse.{IsNumeralModel, numerals_by_value, tells_all_ascii_digits}
 use Rattle.std.proofs.lemmas.Str.Parse.{parse_digits}
-use Rattle.std.proofs.lemmas.Bool.{and_parts}
-use Rattle.expando.specs.Numbers.{is_number, no_limit, number_of}
-
-pub own : IsNumeralModel (λ ds. all_ascii_digits ds ≡ true) (digits_value 10)
-own = numerals_by_value _ tells_all_ascii_digits
-
-pub all_digits : (text : List ℕ) → is_number text ≡ true → all_ascii_digits text ≡ true
-all_digits [] number = refl
-all_digits (b ∷ []) number = number
-all_digits (b ∷ c ∷ rest) number = (and_parts _ _ number).1
-
-some_digit : (text : List ℕ) → is_number text ≡ true → 0 < length text
-some_digit [] number = cc
-some_digit (b ∷ rest) number = omega arith
-
-pub number_utf8 : (text : List ℕ) → is_number text ≡ true → IsUtf8 text
-number_utf8 text number = IsUtf8-from_ascii text (IsAscii-from_digits text (own.to text
-    (all_digits text number)))
+use Rattle.mail_base.specs.Number.{is_number}
+use Rattle.mail_base.proofs.NumberLemmas.{all_digits, own, some_digit}
+use Rattle.expando.specs.Numbers.{no_limit, number_of}
 
 past : (n : ℕ) → (n < 2 ^ 64 → ⊥) → 2 ^ 64 - 1 ≡ min n (2 ^ 64 - 1)
 past n beyond = omega arith

@@ -28,7 +28,8 @@ use Rattle.expando.specs.Formats.{first_piece, marked, or_whole}
 use Rattle.expando.specs.Laws.{FormatsAreRead}
 use Rattle.expando.specs.Leaves.{behind_percent, filler_at, first_leaf, leaf_at, leaves, text_piece}
 use Rattle.expando.specs.Letters.{date_at, is_date_text, letter, letter_at, letter_behind}
-use Rattle.expando.specs.Numbers.{digits_at, digits_len, is_number, no_limit, number_of, width_of}
+use Rattle.mail_base.specs.Number.{is_number}
+use Rattle.expando.specs.Numbers.{digits_at, digits_len, no_limit, number_of, width_of}
 use Rattle.expando.specs.Pieces.{◌>>?◌, Scanned, char_at, char_or_mark, more_bytes, piece_map}
 use Rattle.expando.specs.Pieces.{piece_until, pieces, with_front}
 use Rattle.expando.specs.Printed.{closing, is_choice, is_empty, is_field, is_field_sign, is_inner}
@@ -41,7 +42,7 @@ use Rattle.expando.specs.declared.leaf.Leaf.{Leaf}
 use Rattle.expando.specs.declared.leaf.Leaf.TheVariants.{Text, Value, Fill, ToEnd}
 use Rattle.expando.specs.declared.letter.Letter.{Letter}
 use Rattle.expando.specs.declared.piece.Piece.{Piece}
-use Rattle.expando.proofs.NumberLemmas.{own}
+use Rattle.mail_base.proofs.NumberLemmas.{own}
 use Rattle.expando.proofs.PiecesLemmas.{pieces_step}
 use lib.Utf8.{scalar}
 

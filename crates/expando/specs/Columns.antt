@@ -31,6 +31,7 @@ kept limit [] = []
 kept limit (c ∷ rest) =
     if nat_le (columns_of c) limit then c ∷ kept (limit - columns_of c) rest else []
 
+-- so many blanks
 abbrev pub blanks : ℕ → List ℕ
 blanks count = replicate count 32
 

@@ -16,6 +16,7 @@ use Rattle.expando.specs.declared.letter.Letter.{Letter}
 abbrev pub Texts : Type 0
 Texts = ℕ → List ℕ → List ℕ
 
+-- the text of a letter
 abbrev pub text_of : Texts → Letter (List ℕ) → List ℕ
 text_of texts letter = texts letter.sign letter.inner
 
@@ -24,12 +25,14 @@ abbrev pub field_chars : Texts → Field (List ℕ) → List ℕ
 field_chars texts field =
     padded field.left field.width (kept field.limit (shown_text (text_of texts field.letter)))
 
+-- the cells of a leaf
 abbrev pub drawn_leaf : Texts → Leaf (List ℕ) → List Cell
 drawn_leaf texts (Text c) = Shown (shown_char c) ∷ []
 drawn_leaf texts (Value field) = map Shown (field_chars texts field)
 drawn_leaf texts (Fill c) = Gap (shown_char c) ∷ []
 drawn_leaf texts (ToEnd c) = Rest (shown_char c) ∷ []
 
+-- the cells of leaves, one after the other
 abbrev pub drawn_leaves : Texts → List (Leaf (List ℕ)) → List Cell
 drawn_leaves texts leaves = flat_map (drawn_leaf texts) leaves
 
@@ -44,6 +47,7 @@ abbrev pub branch_of : Texts → PlainChoice → List (Leaf (List ℕ))
 branch_of texts choice =
     if is_nothing (text_of texts choice.test) then choice.none else choice.some
 
+-- the cells of a piece
 abbrev pub drawn_piece : Texts → PlainPiece → List Cell
 drawn_piece texts (Simple leaf) = drawn_leaf texts leaf
 drawn_piece texts (Either choice) = drawn_leaves texts (branch_of texts choice)

@@ -25,6 +25,7 @@ side_at (b ∷ rest) = if b == byte "-" then (true, rest) else (false, b ∷ res
 abbrev pub width_at : List ℕ → Option (ℕ × List ℕ)
 width_at text = option_map (λ n. (n, (digits_at text).1)) (width_of (digits_at text).0)
 
+-- the limit behind a full stop, and what follows it
 abbrev pub limit_behind : List ℕ → Option (ℕ × List ℕ)
 limit_behind text = option_map (λ n. (n, (digits_at text).1)) (number_of (digits_at text).0)
 

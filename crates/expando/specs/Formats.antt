@@ -27,6 +27,7 @@ pub data PlainPiece : Type 0 where
   Simple : Leaf (List ℕ) → PlainPiece
   Either : PlainChoice → PlainPiece
 
+-- a condition without the rooms of its lists
 abbrev pub plain_choice : Choice → PlainChoice
 plain_choice c = record {
   test = letter_map (λ inner. inner.items) c.test;
@@ -39,6 +40,7 @@ abbrev pub plain_piece : FormatPiece → PlainPiece
 plain_piece (held.Simple leaf) = Simple (leaf_map (λ inner. inner.items) leaf)
 plain_piece (held.Either choice) = Either (plain_choice choice)
 
+-- the pieces of a format without their rooms
 abbrev pub plain_pieces : Held FormatPiece → List PlainPiece
 plain_pieces pieces = map plain_piece pieces.items
 
@@ -50,6 +52,7 @@ pub record PlainCondition : Type 0 where
   pub front : ℕ
   pub rest : List ℕ
 
+-- a condition as its text is cut
 abbrev pub plain_condition : Condition → PlainCondition
 plain_condition c = record {
   test = letter_map (λ inner. inner.now) c.test;
@@ -77,6 +80,7 @@ condition_at letters text = do
     rest = parts.1;
   })
 
+-- both branches of a condition; one that has no `&` has an empty second one
 abbrev pub or_whole : List ℕ → Option (List ℕ × List ℕ) → List ℕ × List ℕ
 or_whole inner (Some parts) = parts
 or_whole inner None = (inner, [])
@@ -99,6 +103,7 @@ first_choice letters place text =
     >>? (λ c. choice_of letters (place + c.front) c.test (branches c.inner)
     >>? (λ choice. Ok (record { value = choice; more = more_bytes text c.rest })))
 
+-- a text begins a condition
 abbrev pub begins_condition : List ℕ → Bool
 begins_condition text = is_some (behind_text (codes "%?") text)
 

@@ -7,6 +7,7 @@ use Rattle.mail_base.specs.Fronts.{◌>>=◌}
 use Rattle.mail_base.specs.Places.{split_once}
 use Rattle.expando.specs.declared.letter.Letter.{Letter}
 
+-- a letter with what stands in its brackets
 abbrev pub letter : ℕ → List ℕ → Letter (List ℕ)
 letter sign inner = record { sign = sign; inner = inner }
 

@@ -6,6 +6,7 @@ pub mod Leaves
 pub mod Formats
 pub mod Columns
 pub mod Lines
+pub mod Cut
 pub mod Drawing
 pub mod Printed
 pub mod Laws

@@ -1,10 +1,10 @@
 -- Numbers in a format: decimal digits without a leading zero.
-use Rattle.std.specs.Prelude.{◌==◌, ◌&&◌, ◌-◌, ◌^◌, ℕ, Bool, false, not, nat_le, List, [], ◌∷◌}
+use Rattle.std.specs.Prelude.{◌&&◌, ◌-◌, ◌^◌, ℕ, not, nat_le, List, [], ◌∷◌}
 use Rattle.std.specs.Prelude.{drop, take, min, Option, Some, None, if◌then◌else◌}
 use Rattle.std.specs.List.{position_or_len}
-use Rattle.std.specs.Str.{all_ascii_digits, byte}
 use Rattle.std.specs.Char.{is_ascii_digit}
 use Rattle.std.specs.Str.Parse.{digits_value}
+use Rattle.mail_base.specs.Number.{is_number}
 
 -- how many digits stand at the front
 abbrev pub digits_len : List ℕ → ℕ
@@ -13,12 +13,6 @@ digits_len text = position_or_len (λ b. not (is_ascii_digit b)) text
 -- the digits at the front, and what stands behind them
 abbrev pub digits_at : List ℕ → List ℕ × List ℕ
 digits_at text = (take (digits_len text) text, drop (digits_len text) text)
-
--- a number: digits alone, without a leading zero
-abbrev pub is_number : List ℕ → Bool
-is_number [] = false
-is_number (b ∷ []) = all_ascii_digits (b ∷ [])
-is_number (b ∷ c ∷ rest) = not (b == byte "0") && all_ascii_digits (b ∷ c ∷ rest)
 
 -- the columns of no limit
 abbrev pub no_limit : ℕ

@@ -24,6 +24,7 @@ Scanned X = Result X ℕ
 
 -- the next step, where the one before gave a value
 infixl 10 ◌>>?◌
+-- the second reading behind the first; a fault of the first ends both
 abbrev pub ◌>>?◌ : {A B : Type 0} → Scanned A → (A → Scanned B) → Scanned B
 Ok a >>? f = f a
 Err place >>? f = Err place
@@ -33,10 +34,12 @@ abbrev pub with_front : {X : Type 0} → List X → Scanned (List X) → Scanned
 with_front xs (Ok ys) = Ok (xs ++ ys)
 with_front xs (Err place) = Err place
 
+-- how many bytes a piece takes beyond its first
 abbrev pub behind_piece : {X : Type 0} → Scanned (Piece X) → ℕ
 behind_piece (Ok piece) = piece.more
 behind_piece (Err place) = 0
 
+-- a piece before those that follow it
 abbrev pub joined : {X : Type 0} → Scanned (Piece X) → Scanned (List X) → Scanned (List X)
 joined (Ok piece) more = with_front (piece.value ∷ []) more
 joined (Err place) more = Err place

@@ -16,6 +16,7 @@ use lib.Utf8.{scalar}
 
 -- Written.
 
+-- a character of a text: a percent sign is written twice
 abbrev pub printed_char : ℕ → List ℕ
 printed_char c = if c == byte "%" then codes "%%" else encode_utf8 c
 
@@ -24,40 +25,50 @@ abbrev pub closing : ℕ → List ℕ
 closing sign =
     if sign == byte "{" then codes "}" else (if sign == byte "[" then codes "]" else [])
 
+-- a letter with its brackets
 abbrev pub printed_letter : Letter (List ℕ) → List ℕ
 printed_letter l = l.sign ∷ (l.inner ++ closing l.sign)
 
+-- the sign of a field that is filled on the right
 abbrev pub printed_side : Bool → List ℕ
 printed_side left = if left then codes "-" else []
 
+-- a width, of which none is written for 0
 abbrev pub printed_width : ℕ → List ℕ
 printed_width width = if width == 0 then [] else decimal width
 
+-- a limit behind its full stop, of which none is written for no limit
 abbrev pub printed_limit : ℕ → List ℕ
 printed_limit limit = if limit == no_limit then [] else byte "." ∷ decimal limit
 
+-- a field behind its percent sign
 abbrev pub printed_field : Field (List ℕ) → List ℕ
 printed_field d =
     printed_side d.left
     ++ (printed_width d.width ++ (printed_limit d.limit ++ printed_letter d.letter))
 
+-- a leaf as it is written
 abbrev pub printed_leaf : Leaf (List ℕ) → List ℕ
 printed_leaf (Text c) = printed_char c
 printed_leaf (Value field) = byte "%" ∷ printed_field field
 printed_leaf (Fill c) = byte "%" ∷ byte ">" ∷ encode_utf8 c
 printed_leaf (ToEnd c) = byte "%" ∷ byte "|" ∷ encode_utf8 c
 
+-- leaves as they are written
 abbrev pub printed_leaves : List (Leaf (List ℕ)) → List ℕ
 printed_leaves leaves = flat_map printed_leaf leaves
 
+-- both branches of a condition, with `&` between them
 abbrev pub printed_branches : PlainChoice → List ℕ
 printed_branches c = printed_leaves c.some ++ byte "&" ∷ printed_leaves c.none
 
+-- a condition as it is written
 abbrev pub printed_choice : PlainChoice → List ℕ
 printed_choice c =
     byte "%" ∷ byte "?"
     ∷ (printed_letter c.test ++ byte "?" ∷ (printed_branches c ++ byte "?" ∷ []))
 
+-- a piece as it is written
 abbrev pub printed_piece : PlainPiece → List ℕ
 printed_piece (Simple leaf) = printed_leaf leaf
 printed_piece (Either choice) = printed_choice choice
@@ -68,9 +79,11 @@ printed pieces = flat_map printed_piece pieces
 
 -- Can be written.
 
+-- a byte stands nowhere in a text
 abbrev pub lacks : ℕ → List ℕ → Bool
 lacks b text = list_all (λ x. not (x == b)) text
 
+-- nothing stands in a text
 abbrev pub is_empty : List ℕ → Bool
 is_empty [] = true
 is_empty (b ∷ rest) = false
@@ -92,11 +105,13 @@ is_field_sign b =
     not (is_ascii_digit b) && not (b == byte "-") && not (b == byte ".") && not (b == byte "%")
     && not (b == byte ">") && not (b == byte "|") && not (b == byte "?")
 
+-- a field can be written
 abbrev pub is_field : List ℕ → Field (List ℕ) → Bool
 is_field letters d =
     is_letter letters d.letter && is_field_sign d.letter.sign && nat_le d.width 500
     && nat_le d.limit no_limit
 
+-- a leaf can be written
 abbrev pub is_leaf : List ℕ → Leaf (List ℕ) → Bool
 is_leaf letters (Text c) = scalar c
 is_leaf letters (Value field) = is_field letters field
@@ -111,6 +126,7 @@ is_choice letters c =
     && lacks (byte "&") (printed_leaves c.some) && lacks (byte "?") (printed_leaves c.some)
     && lacks (byte "?") (printed_leaves c.none)
 
+-- a piece can be written
 abbrev pub is_piece : List ℕ → PlainPiece → Bool
 is_piece letters (Simple leaf) = is_leaf letters leaf
 is_piece letters (Either choice) = is_choice letters choice

@@ -1,12 +1,13 @@
 //! Formats of lines: `read_format` reads one, with the letters that it may have, and `render`
 //! makes a line of it over any `Values`. A format is a list of pieces: text, fields, fills and
-//! conditions.
+//! conditions. `cut` makes a line of a text.
 #![tactic(auto)]
 
 mod cell;
 mod choice;
 mod columns;
 mod condition;
+mod cutting;
 mod error;
 mod field;
 mod format;
@@ -19,6 +20,8 @@ mod piece;
 mod rendering;
 mod values;
 
+pub use columns::{columns_of, shown_char};
+pub use cutting::cut;
 pub use error::FormatError;
 pub use format::{Format, read_format};
 pub use laws::{gaps_are_filled, printed_formats_are_read};

@@ -1,6 +1,6 @@
 //! Lines that are filled and cut at their columns.
 
-ghost use Rattle.std.specs.Prelude.{◌≡◌, ◌<◌, ◌++◌, ℕ, encode_utf8, replicate, OnOk};
+ghost use Rattle.std.specs.Prelude.{◌≡◌, ◌<◌, ◌++◌, replicate, OnOk};
 ghost use Rattle.std.specs.Str.{encode_utf8_all};
 ghost use Rattle.expando.specs.Columns.{columns_of};
 ghost use Rattle.expando.specs.Lines as spec;
@@ -9,20 +9,13 @@ use crate::cell::Cell;
 use crate::columns::columns_of;
 use mail_base::{Line, NoMemory};
 
-fn push_char(line: &mut Line, c: char) -> Result<(), NoMemory>
-    ensures { OnOk result (line.new.items ≡ line.old.items ++ encode_utf8 c) }
-{
-    let mut buffer = [0; 4];
-    line.append(c.encode_utf8(&mut buffer))
-}
-
 #[tactic(auto, using(crate::proofs::LineLemmas::times_next))]
 fn push_times(line: &mut Line, c: char, count: usize) -> Result<(), NoMemory>
     ensures { OnOk result (line.new.items
         ≡ line.old.items ++ encode_utf8_all (replicate count c)) }
 {
     for _i in 0..count {
-        push_char(line, c)?;
+        line.push_char(c)?;
     }
     Ok(())
 }
@@ -48,8 +41,8 @@ fn push_filled(line: &mut Line, c: char, count: usize) -> Result<(), NoMemory>
     push_times(line, ' ', count % columns)
 }
 
-// Adds a blank where a column is left.
-fn push_blank(line: &mut Line, left: usize) -> Result<(), NoMemory>
+/// Adds a blank where a column is left.
+pub fn push_blank(line: &mut Line, left: usize) -> Result<(), NoMemory>
     ensures { OnOk result (line.new.items
         ≡ line.old.items ++ encode_utf8_all (spec.blank_in left)) }
 {
@@ -89,7 +82,7 @@ fn push_laid(line: &mut Line, cells: &[Cell], cols: usize, gap: usize) -> Result
                 if left < columns {
                     return push_blank(line, left);
                 }
-                push_char(line, c)?;
+                line.push_char(c)?;
                 left -= columns;
             }
             Cell::Gap(c) => {

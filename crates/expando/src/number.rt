@@ -1,10 +1,11 @@
 //! Numbers in a format: decimal digits without a leading zero.
 
-ghost use Rattle.std.specs.Prelude.{◌≡◌, ◌<◌, ◌≤◌, true, false, not, IfSome, IfNone};
+ghost use Rattle.std.specs.Prelude.{◌≡◌, ◌<◌, ◌≤◌, not, IfSome};
 ghost use Rattle.std.specs.Prelude.{length, position};
 ghost use Rattle.std.specs.Char.{is_ascii_digit};
-ghost use Rattle.std.specs.Str.{all_ascii_digits};
 ghost use Rattle.expando.specs.Numbers as spec;
+
+use mail_base::number_text;
 
 /// The most columns of a field that has no limit.
 pub const NO_LIMIT: usize = usize::MAX;
@@ -55,42 +56,4 @@ pub fn width_of(text: &[u8]) -> Option<usize>
         Some(width) if width <= MOST_WIDTH => Some(width),
         _ => None,
     }
-}
-
-// The text, if it is a number.
-fn number_text(text: &[u8]) -> Option<&str>
-    ensures some { IfSome result
-        (λ digits. (digits.now ≡ text.now) × (spec.is_number text.now ≡ true)) }
-    ensures none { IfNone result (spec.is_number text.now ≡ false) }
-{
-    if !is_number(text) {
-        return None;
-    }
-    let Ok(digits) = str::from_utf8(text) else {
-        unreachable!()
-    };
-    Some(digits)
-}
-
-fn is_number(text: &[u8]) -> bool
-    ensures { result ≡ spec.is_number text.now }
-{
-    match text {
-        [] => false,
-        [_] => are_digits(text),
-        [first, ..] => *first != b'0' && are_digits(text),
-    }
-}
-
-fn are_digits(text: &[u8]) -> bool
-    ensures { result ≡ all_ascii_digits text.now }
-{
-    let mut left = text;
-    while let [first, rest @ ..] = left {
-        if !first.is_ascii_digit() {
-            return false;
-        }
-        left = rest;
-    }
-    true
 }

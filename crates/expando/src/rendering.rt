@@ -39,10 +39,7 @@ fn draw_field<V: Values>(
         (spec.field_chars (V.texts values.now) (field_map (λ i. i.items) field.now))) }
 {
     let text = text_of(alloc, &field.letter, values)?;
-    let Ok(text) = str::from_utf8(text.as_slice()) else {
-        unreachable!()
-    };
-    push_padded(cells, text, field.left, field.width, field.limit)
+    push_padded(cells, text.as_str(), field.left, field.width, field.limit)
 }
 
 fn draw_leaf<V: Values>(

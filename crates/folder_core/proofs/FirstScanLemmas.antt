@@ -11,24 +11,27 @@ use Rattle.disk_model.specs.Seen.{Seen}
 use Rattle.disk_model.specs.Tree.{TreeNode}
 use Rattle.folder_core.specs.Costs.{letters_behind}
 use Rattle.folder_core.specs.Directory.{DirectoryRefused}
+use Rattle.folder_core.specs.FirstLook.{found_first}
 use Rattle.folder_core.specs.FirstScan.{FolderRefused, IsFirst, ListsFolder, ScansFolder}
 use Rattle.folder_core.specs.FirstScan.{known_listed}
 use Rattle.folder_core.specs.Format.{Format}
 use Rattle.folder_core.specs.Known.{KnownFolder}
-use Rattle.folder_core.specs.Letters.{Mail}
+use Rattle.folder_letters.specs.Letters.{Mail}
 use Rattle.folder_core.specs.Limits.{list_refusal, most_bytes, most_letters, most_messages}
 use Rattle.folder_core.specs.Limits.{sum_refusal, told_sum}
 use Rattle.folder_core.specs.ListedSoFar.{Holds, Store}
 use Rattle.folder_core.specs.Looked.{OnlyMeets}
 use Rattle.folder_core.specs.Message.{Message, bytes_together}
 use Rattle.folder_core.specs.Reads.{format_of, letters_from, listed_from}
-use Rattle.folder_core.specs.Scanned.{Saw, ids_from}
+use Rattle.folder_core.specs.Scanned.{Saw}
+use Rattle.folder_letters.specs.Listings.{ids_from}
 use Rattle.folder_core.specs.declared.error.ScanError.{ScanError}
 use Rattle.folder_core.specs.declared.error.ScanError.TheVariants.{Missing, NotMailbox, TooMany}
 use Rattle.folder_core.specs.declared.error.ScanError.TheVariants.{TooLarge, Unfinished}
 use Rattle.folder_core.specs.declared.error.ScanError.TheVariants.{ArchiveFull, Fault, NoMemory}
-use Rattle.folder_core.specs.declared.listing.Found.{Found}
-use Rattle.folder_core.specs.declared.listing.Listed.{Listed}
+use Rattle.folder_letters.specs.declared.listing.Found.{Found}
+use Rattle.folder_letters.specs.declared.listing.Listed.{Listed}
+use Rattle.folder_core.proofs.FirstLookLemmas.{stood_first, stood_later, tells_there}
 use Rattle.folder_core.proofs.ListedSoFarLemmas.{full_near, held_refusal}
 use Rattle.folder_core.proofs.SeenLemmas.{goes_as, only_then, rose_later}
 
@@ -45,9 +48,10 @@ pub folder_listed : {A : Type 0} (format : Format) (path : List ℕ) (given : A)
     (Sees : A → List Message → Past → Past → Type 0) (first store : Store) (a c : Seen)
     → first.letters ≡ length first.archive → came_of given ≡ store.came
     → sum_refusal store.letters store.count store.bytes ≡ None → OnlyLooks a c
+    → GoesOn (λ p q. found_first path p q ≡ Some true) a.told c.told → format.MayRead path a c
     → (w : FolderWalked format (Sees given) first store a.told c.told)
     → ListsFolder format path first.archive store.archive (Ok given) came_of Sees a c
-folder_listed format path given came_of Sees first store a c letters same none only w =
+folder_listed format path given came_of Sees first store a c letters same none only there within w =
     let taken : list_refusal first.letters w.messages ≡ None =
     sym (held_refusal format first store w.messages w.holds) ∙ none in
     record {
@@ -60,6 +64,8 @@ folder_listed format path given came_of Sees first store a c letters same none o
         saw = w.saw;
       };
       refused = tt;
+      first = tells_there (Ok given) path a.told c.told (λ is. (cc)) there;
+      within = within;
       full = λ is. absurd (cc);
       only = only;
       cause = λ is. absurd (cc);
@@ -119,9 +125,11 @@ pub folder_refused : {A : Type 0} (format : Format) (path : List ℕ) (why : Sca
     → FolderRefused format (length first.archive) path why p q)
     → first.letters ≡ length first.archive
     → sum_refusal store.letters store.count store.bytes ≡ Some why → OnlyLooks a c
+    → GoesOn (λ p q. found_first path p q ≡ Some true) a.told c.told → format.MayRead path a c
     → (w : FolderWalked format Met first store a.told c.told)
     → ListsFolder {A = A} format path first.archive store.archive (Err why) came_of Sees a c
-folder_refused format path why came_of Sees Met first store a c refuses letters some only w =
+folder_refused {A} format path why came_of Sees Met first store a c refuses letters some only there
+    within w =
     let limit : IsLimit why = limit_only store.letters store.count store.bytes why some in
     let is : list_refusal (length first.archive) w.messages ≡ Some why =
     subst (λ (n : ℕ). list_refusal n w.messages ≡ Some why) letters
@@ -129,6 +137,9 @@ folder_refused format path why came_of Sees Met first store a c refuses letters 
     record {
       ok = tt;
       refused = goes_as a.told c.told (λ p q saw. refuses w.messages p q limit is saw) w.saw;
+      first = tells_there {A = A} (Err why) path a.told c.told
+          (λ e. let missing : why ≡ Missing = cc in subst IsLimit missing limit) there;
+      within = within;
       full = λ e. let full : why ≡ ArchiveFull = cc in
           full_near (length first.archive) (length w.messages) (bytes_together w.messages)
           (is ∙ ap Some full);
@@ -142,13 +153,19 @@ pub walk_failed : {A B : Type 0} (format : Format) (path : List ℕ) (archive ne
     (came_of : A → List Listed) (Sees : A → List Message → Past → Past → Type 0) (a b c : Seen)
     → ((p q : Past) → (why ≡ Fault) ⊎ (why ≡ NoMemory)
     → FolderRefused format (length archive) path why p q)
-    → OnlyLooks a b → OnlyMeets {A = B} (Err why) b c
+    → OnlyLooks a b → GoesOn (λ p q. found_first path p q ≡ Some true) a.told b.told
+    → format.MayRead path a c → OnlyMeets {A = B} (Err why) b c
     → ListsFolder {A = A} format path archive new_archive (Err why) came_of Sees a c
-walk_failed format path archive new_archive why came_of Sees a b c refuses before meets =
+walk_failed {A} format path archive new_archive why came_of Sees a b c refuses before there within
+    meets =
     let only : OnlyLooks a c = only_then a b c before meets.only in
     record {
       ok = tt;
       refused = goes_as a.told c.told (λ p q x. refuses p q meets.errors) only.looks;
+      first = tells_there {A = A} (Err why) path a.told c.told
+          (λ e. let missing : why ≡ Missing = cc in no_missing missing meets.errors)
+          (stood_later path a.told b.told c.told before.looks meets.only.looks there);
+      within = within;
       full = λ e. let full : why ≡ ArchiveFull = cc in absurd (no_full full meets.errors);
       only = only;
       cause = λ e. let fault : why ≡ Fault = cc in
@@ -158,6 +175,10 @@ walk_failed format path archive new_archive why came_of Sees a b c refuses befor
     no_full : why ≡ ArchiveFull → (why ≡ Fault) ⊎ (why ≡ NoMemory) → ⊥
     no_full full (inl is) = cc
     no_full full (inr is) = cc
+
+    no_missing : why ≡ Missing → (why ≡ Fault) ⊎ (why ≡ NoMemory) → ⊥
+    no_missing missing (inl is) = cc
+    no_missing missing (inr is) = cc
 
 -- a fault and want of memory are no causes in the tree
 pub no_cause : (is_of_kind : List TreeNode → List ℕ → Bool) (Sees : List Message → Type 0)
@@ -192,12 +213,13 @@ pub known_scanned : {A : Type 0} (kind : Kind) (archive new_archive : List Mail)
     → (format_of kind).Saw (length archive) (known_listed known came stamps) messages
     (length p.journal)
     (length q.journal) q)
-    → came ≡ came_of given → new_known ≡ known_listed known came stamps → IsFirst came found
+    → path ≡ known.path → came ≡ came_of given → new_known ≡ known_listed known came stamps
+    → IsFirst came found
     → ListsFolder (format_of kind) path archive new_archive (Ok given) came_of Sees a c
     → (format_of kind).Costs (letters_behind archive new_archive) a.bytes_read c.bytes_read
     → ScansFolder kind archive new_archive known new_known (Ok found) a c
 known_scanned kind archive new_archive known new_known path came stamps given came_of Sees found a c
-    sees same put is
+    sees at same put is
     lists costs =
     let listed : came ≡ listed_from (length archive) lists.ok.messages = same ∙ lists.ok.listed in
     record {
@@ -225,6 +247,10 @@ known_scanned kind archive new_archive known new_known path came stamps given ca
             { listing = came; bytes = k.bytes; stamps = k.stamps }) (sym put) refl);
       };
       reads = costs;
+      first = tells_there (Ok found) known.path a.told c.told (λ e. (cc))
+          (subst (λ (l : List ℕ). GoesOn (λ p q. found_first l p q ≡ Some true) a.told c.told) at
+          (stood_first given path a.told c.told lists.first));
+      within = subst (λ (l : List ℕ). (format_of kind).MayRead l a c) at lists.within;
       err_known = tt;
       full = λ is. absurd (cc);
       only = lists.only;

@@ -4,7 +4,7 @@ use Rattle.std.proofs.Common.{Option, Some, None, Result, Ok, Err, length, nat_l
 use Rattle.std.proofs.Common.{take, if◌then◌else◌, inl, inr, refl, sym, ◌∙◌, ap, subst, arith, map}
 use Rattle.std.specs.Char.{is_ascii_digit}
 use Rattle.std.specs.List.{list_any}
-use Rattle.std.specs.Prelude.{option_and_then}
+use Rattle.std.specs.Prelude.{IfErr, option_and_then}
 use Rattle.std.specs.Str.{all_ascii_digits, bytes_eq}
 use Rattle.std.specs.Str.Parse.{digits_value}
 use Rattle.std.proofs.lemmas.Bool.{and_parts, lt-ltb}
@@ -23,7 +23,9 @@ use Rattle.disk_model.proofs.Folders.{folder_stays}
 use Rattle.disk_model.proofs.Looking.{looked_longer, looked_then}
 use Rattle.disk_model.proofs.Marks.{tree_at-longer}
 use Rattle.folder_core.specs.Directory.{file_at, is_folder_at, is_name, node_file, path_in}
-use Rattle.folder_core.specs.Kinds.{DirectorySeen, IsKindSeen, KindSeen, MhSeen, NumberSeen}
+use Rattle.folder_core.specs.FirstLook.{FindsFirst, TellsMissing}
+use Rattle.folder_core.specs.Kinds.{DirectorySeen, IsDirectoryError, IsKindError, IsKindSeen}
+use Rattle.folder_core.specs.Kinds.{KindSeen, MhSeen, NumberSeen}
 use Rattle.folder_core.specs.Kinds.{NumbersSeen, WasKind, bytes_kind, directory_kind, file_kind}
 use Rattle.folder_core.specs.Kinds.{front_kind, names_sequences, has_number, has_sequences}
 use Rattle.folder_core.specs.Kinds.{is_filled, is_message, kind_at, node_kind}
@@ -33,7 +35,9 @@ use Rattle.folder_core.specs.declared.error.ScanError.TheVariants.{ArchiveFull, 
 use Rattle.folder_core.specs.Maildir.{directory}
 use Rattle.folder_core.specs.declared.looks.Front.{Front}
 use Rattle.folder_core.specs.declared.looks.Front.TheVariants.{Directory}
-use Rattle.folder_core.specs.Looked.{IsContents, IsFrontOf, SawAt, is_names, node_stat, stat_there}
+use Rattle.folder_core.specs.Looked.{IsContents, IsFrontOf, SawAt, has_front, is_names, node_stat}
+use Rattle.folder_core.specs.Looked.{stat_there}
+use Rattle.folder_core.proofs.FirstLookLemmas.{stood_later, tells_there}
 use Rattle.folder_core.specs.declared.looks.Contents.{Contents}
 use Rattle.folder_core.specs.declared.looks.Contents.TheVariants.{Nothing, File, Names}
 use Rattle.folder_core.specs.declared.error.ScanError.{ScanError}
@@ -631,3 +635,34 @@ directory_seen result front call empty path a b c is first next saw told =
     (longer_later p q x)
     (kind (λ mark from to. folder_stays p r mark later.mark path (looked_then p q r x y)
     (omega (arith, from, longer_later p q x)) later.from ∙ later.tells))) first next seen told
+
+-- What the first look has found, where a directory stood there.
+
+not_missing : (result : Result Kind ScanError) → IfErr result IsDirectoryError
+    → result ≡ Err Missing → ⊥
+not_missing result errors is =
+    subst (λ (r : Result Kind ScanError). IfErr r IsDirectoryError) is errors
+
+pub directory_first : (result : Result Kind ScanError) (path : List ℕ) (front : Front)
+    (a b c : Option Past) → front ≡ Directory → IfErr result IsDirectoryError → LooksOnly a b
+    → LooksOnly b c → GoesOn (FindsFirst has_front (Ok front) path) a b
+    → GoesOn (TellsMissing result path) a c
+directory_first result path front a b c is errors first next found =
+    tells_there result path a c (not_missing result errors)
+    (stood_later path a b c first next
+    (goes_as a b (λ p q f. f ∙ ap (λ (d : Front). Some (has_front d)) is) found))
+
+pub directory_error : (why : ScanError) → IsDirectoryError why → IsKindError why
+directory_error Missing error = absurd error
+directory_error (NotMailbox place) error = error
+directory_error (TooMany count) error = error
+directory_error (TooLarge bytes) error = error
+directory_error Unfinished error = error
+directory_error ArchiveFull error = error
+directory_error Fault error = error
+directory_error NoMemory error = error
+
+pub directory_errors : (result : Result Kind ScanError) → IfErr result IsDirectoryError
+    → IfErr result IsKindError
+directory_errors (Ok kind) errors = tt
+directory_errors (Err why) errors = directory_error why errors

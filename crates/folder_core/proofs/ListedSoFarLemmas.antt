@@ -13,19 +13,19 @@ use Rattle.disk_model.specs.State.{tree_at}
 use Rattle.disk_model.specs.Tree.{node_at}
 use Rattle.disk_model.specs.declared.answers.FileRead.{FileRead}
 use Rattle.folder_core.specs.Format.{Format}
-use Rattle.folder_core.specs.Letters.{Mail}
+use Rattle.folder_letters.specs.Letters.{Mail}
 use Rattle.folder_core.specs.Limits.{count_refusal, list_refusal, most_bytes, most_letters}
 use Rattle.folder_core.specs.Limits.{most_messages, sum_refusal}
 use Rattle.folder_core.specs.Limits.{told_sum}
 use Rattle.folder_core.specs.ListedSoFar.{Holds, IsEmpty, Store, store_found, store_message}
 use Rattle.folder_core.specs.ListedSoFar.{store_with, stored_if}
-use Rattle.folder_core.specs.Looked.{FileSeen, IsContent, IsPast, NoFileSeen, SawAt}
+use Rattle.folder_core.specs.Looked.{FileSeen, IsContent, FitsLimit, NoFileSeen, SawAt}
 use Rattle.folder_core.specs.Message.{Message, bytes_together}
 use Rattle.folder_core.specs.Mh.{stamp_there}
 use Rattle.folder_core.specs.Reads.{letters_from, listed_from}
 use Rattle.folder_core.specs.declared.error.ScanError.{ScanError}
 use Rattle.folder_core.specs.declared.error.ScanError.TheVariants.{TooMany, TooLarge, ArchiveFull}
-use Rattle.folder_core.specs.declared.listing.Listed.{Listed}
+use Rattle.folder_letters.specs.declared.listing.Listed.{Listed}
 use Rattle.folder_core.specs.declared.looks.Content.{Content}
 use Rattle.folder_core.specs.declared.looks.Content.TheVariants.{NoFile, TooLong, Whole}
 use Rattle.folder_core.proofs.SeenLemmas.{goes_as}
@@ -381,5 +381,5 @@ long_stored store flags mail size limit left past same =
     (omega (arith, left, past, same))))
 
 pub long_past : (limit : ℕ) (content : Content) (size : ℕ) → content ≡ TooLong size
-    → IsPast limit content → limit < size
-long_past limit content size told past = subst (IsPast limit) told past
+    → FitsLimit limit content → limit < size
+long_past limit content size told past = subst (FitsLimit limit) told past

@@ -6,7 +6,7 @@ use Rattle.std.proofs.Common.{Result, Ok, Err, map, length, take, drop, nat_lt, 
 use Rattle.std.proofs.Common.{if◌then◌else◌, refl, ◌⊎◌, inl, inr, ltb-false, ltb-true, sym, ◌∙◌, ap}
 use Rattle.std.proofs.Common.{subst, arith, append_assoc, length-append}
 use Rattle.std.proofs.Math.Seq.{drop-append_seam, take-append_seam}
-use Rattle.disk_model.specs.Journal.{Call, Entry, Others, Own, Past}
+use Rattle.disk_model.specs.Journal.{Call, Entry, Others, Own, Past, ReadAll}
 use Rattle.disk_model.specs.Judge.{Counted, GoesOn, IsJudged, MakesStep, OneStep, StepBy, answer_by}
 use Rattle.disk_model.specs.Judge.{bytes_of, front_of, list_of, node_bytes, read_at, read_node}
 use Rattle.disk_model.specs.Judge.{read_of, stat_at, stat_node, stat_of}
@@ -21,12 +21,12 @@ use Rattle.disk_model.specs.declared.answers.DiskError.TheVariants.{Missing, Wro
 use Rattle.disk_model.specs.declared.answers.DiskError.TheVariants.{Long, Fault, NoMemory}
 use Rattle.disk_model.specs.declared.answers.FileRead.{FileRead}
 use Rattle.disk_model.specs.declared.answers.Stat.{Stat}
-use Rattle.folder_core.specs.Costs.{RaisesAtMost}
 use Rattle.folder_core.specs.Directory.{file_at, is_folder_at, node_file}
+use Rattle.folder_core.specs.declared.error.ScanError.{ScanError}
+use Rattle.folder_core.specs.declared.looks.Content.{Content}
 use Rattle.folder_core.specs.declared.looks.Content.TheVariants.{NoFile, TooLong, Whole}
 use Rattle.folder_core.specs.Looked.{IsContent, Looked, SawAt, node_stat, stat_there}
 use Rattle.folder_core.specs.Mh.{stamp_there}
-use Rattle.folder_core.proofs.CostsLemmas.{raises_by}
 
 -- One step.
 
@@ -74,15 +74,13 @@ saw_told outcome call wanted Tells (Some old) (Some new) step tells =
 
 looked_from : {R A : Type 0} (given : A) (outcome : Result R DiskError) (call : Call)
     (wanted : List TreeNode → Result R DiskError) (Tells : A → List TreeNode → Type 0)
-    (bytes : A → ℕ) (old new : Seen)
+    (old new : Seen)
     → GoesOn (OneStep outcome call wanted) old.told new.told → Counted outcome old new
     → LooksOnly old.told new.told
-    → RaisesAtMost old.bytes_read new.bytes_read (bytes given)
     → ((tree : List TreeNode) → IsJudged outcome (wanted tree) → Tells given tree)
-    → Looked (Ok given) call Tells bytes old new
-looked_from given outcome call wanted Tells bytes old new step counts looks reads tells = record {
+    → Looked (Ok given) call Tells old new
+looked_from given outcome call wanted Tells old new step counts looks tells = record {
   saw = saw_told outcome call wanted (Tells given) old.told new.told step tells;
-  reads = reads;
   only = record { looks = looks; marks = counts.marks; faults = counts.faults };
   cause = λ is. absurd (cc);
   errors = tt;
@@ -91,15 +89,13 @@ looked_from given outcome call wanted Tells bytes old new step counts looks read
 -- a call that gave a value
 pub looked_ok : {R A : Type 0} {call : Call} {wanted : List TreeNode → Result R DiskError}
     {count : ℕ}
-    {Tells : A → List TreeNode → Type 0} {bytes : A → ℕ} {old new : Seen} (given : A) (value : R)
-    → count ≤ bytes given → MakesStep (Ok value) call wanted count old new
+    {Tells : A → List TreeNode → Type 0} {old new : Seen} (given : A) (value : R)
+    → MakesStep (Ok value) call wanted count old new
     → LooksOnly old.told new.told
     → ((tree : List TreeNode) → Ok value ≡ wanted tree → Tells given tree)
-    → Looked (Ok given) call Tells bytes old new
-looked_ok {R} {A} {call} {wanted} {count} {Tells} {bytes} {old} {new} given value gives step looks
-    tells =
-    looked_from given (Ok value) call wanted Tells bytes old new step.called.goes step.counts looks
-    (raises_by old.bytes_read new.bytes_read count (bytes given) gives step.reads) tells
+    → Looked (Ok given) call Tells old new
+looked_ok {R} {A} {call} {wanted} {count} {Tells} {old} {new} given value step looks tells =
+    looked_from given (Ok value) call wanted Tells old new step.called.goes step.counts looks tells
 
 -- a refusal that stands in the journal
 abbrev pub is_entered : DiskError → Bool
@@ -124,20 +120,20 @@ entered_step Fault call wanted old new entered step = step
 -- a call that was refused for this cause
 pub looked_err : {R A : Type 0} {call : Call} {wanted : List TreeNode → Result R DiskError}
     {count : ℕ}
-    {Tells : A → List TreeNode → Type 0} {bytes : A → ℕ} {old new : Seen} (given : A)
+    {Tells : A → List TreeNode → Type 0} {old new : Seen} (given : A)
     (error why : DiskError)
-    → error ≡ why → is_entered why ≡ true → count ≤ bytes given
+    → error ≡ why → is_entered why ≡ true
     → MakesStep (Err error) call wanted count old new
     → LooksOnly old.told new.told
     → ((tree : List TreeNode) → IsJudged (Err why) (wanted tree) → Tells given tree)
-    → Looked (Ok given) call Tells bytes old new
-looked_err {R} {A} {call} {wanted} {count} {Tells} {bytes} {old} {new} given error why is entered
-    gives step looks tells =
+    → Looked (Ok given) call Tells old new
+looked_err {R} {A} {call} {wanted} {count} {Tells} {old} {new} given error why is entered step looks
+    tells =
     let made : MakesStep {A = R} (Err why) call wanted count old new =
     subst (λ (e : DiskError). MakesStep {A = R} (Err e) call wanted count old new) is step in
-    looked_from {R = R} given (Err why) call wanted Tells bytes old new
+    looked_from {R = R} given (Err why) call wanted Tells old new
     (entered_step why call wanted old.told new.told entered made.called.goes) made.counts looks
-    (raises_by old.bytes_read new.bytes_read count (bytes given) gives made.reads) tells
+    tells
 
 -- What the answers tell of what stands there.
 
@@ -291,6 +287,33 @@ pub read_nothing : (tree : List TreeNode) (path : List ℕ) (limit : ℕ) (why :
     → IsContent limit NoFile tree path
 read_nothing tree path limit why which is = no_content (node_at tree path) limit why which is
 
+missing_bytes : (bytes : Option (List ℕ)) (stamp limit : ℕ)
+    → Err Missing ≡ read_node bytes stamp limit → ⊥
+missing_bytes None stamp limit is = cc
+missing_bytes (Some bytes) stamp limit is = by_length (nat_lt limit (length bytes)) is
+  where
+    by_length : (long : Bool) → ◌≡◌ {A = Result (Stat × List ℕ) DiskError} (Err Missing)
+        (if long then Err (Long (length bytes)) else Ok (stat_node (Some bytes) stamp, bytes)) → ⊥
+    by_length true is = cc
+    by_length false is = cc
+
+no_read : (node : Option TreeNode) (limit : ℕ) → Err Missing ≡ read_at node limit → node ≡ None
+no_read None limit is = refl
+no_read (Some node) limit is = absurd (missing_bytes node.bytes node.stamp limit is)
+
+pub read_missing : (tree : List TreeNode) (path : List ℕ) (limit : ℕ)
+    → Err Missing ≡ read_of tree path limit → node_at tree path ≡ None
+read_missing tree path limit is = no_read (node_at tree path) limit is
+
+wrong_read : (node : Option TreeNode) (limit : ℕ) → Err WrongNode ≡ read_at node limit
+    → is_some node ≡ true
+wrong_read None limit is = absurd (cc)
+wrong_read (Some node) limit is = refl
+
+pub read_wrong : (tree : List TreeNode) (path : List ℕ) (limit : ℕ)
+    → Err WrongNode ≡ read_of tree path limit → is_some (node_at tree path) ≡ true
+read_wrong tree path limit is = wrong_read (node_at tree path) limit is
+
 front_bytes : (bytes : Option (List ℕ)) (front : List ℕ)
     → Ok front
     ≡ answer_by (if is_none bytes then Some WrongNode else None) (take 5 (bytes_of bytes))
@@ -343,3 +366,12 @@ pub front_wrong : (tree : List TreeNode) (path : List ℕ) (size : ℕ)
     → Err WrongNode ≡ front_of tree path size → is_folder_at tree path ≡ true
 front_wrong tree path size is =
     folder_front (node_at tree path) (take size (node_bytes (node_at tree path))) is
+
+-- the same look by another name of the path
+pub looked_content : (result : Result Content ScanError) (limit : ℕ) (at path : List ℕ)
+    (old new : Seen) → at ≡ path
+    → Looked result (ReadAll at limit) (λ content tree. IsContent limit content tree at) old new
+    → Looked result (ReadAll path limit) (λ content tree. IsContent limit content tree path) old new
+looked_content result limit at path old new same looked =
+    subst (λ (l : List ℕ). Looked result (ReadAll l limit)
+    (λ content tree. IsContent limit content tree l) old new) same looked

@@ -1,6 +1,6 @@
 -- What reading the messages of a folder costs.
 use Rattle.std.specs.Prelude.{◌≡◌, ◌≤◌, ◌+◌, ℕ, List, [], ◌∷◌, Option, Some, None, drop, length}
-use Rattle.folder_core.specs.Letters.{Mail}
+use Rattle.folder_letters.specs.Letters.{Mail}
 
 -- where the number of bytes read is told, it stays told and rises by no more than this
 abbrev pub RaisesAtMost : Option ℕ → Option ℕ → ℕ → Type 0

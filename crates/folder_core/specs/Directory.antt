@@ -1,6 +1,7 @@
 -- Folders that are directories: paths in them, what stands there, and why they are not listed.
-use Rattle.std.specs.Prelude.{◌≡◌, ◌≤◌, ◌-◌, ◌==◌, ◌&&◌, ℕ, Bool, false, not, nat_lt, length, List}
-use Rattle.std.specs.Prelude.{[], ◌∷◌, ◌++◌, Option, Some, None, take, drop, option_and_then}
+use Rattle.std.specs.Prelude.{◌≡◌, ◌≤◌, ◌-◌, ◌==◌, ◌&&◌, ℕ, Bool, true, false, not, nat_lt, length}
+use Rattle.std.specs.Prelude.{List, [], ◌∷◌, ◌++◌, Option, Some, None, is_some, take, drop}
+use Rattle.std.specs.Prelude.{option_and_then}
 use Rattle.std.specs.Prelude.{if◌then◌else◌}
 use Rattle.std.specs.List.{list_any}
 use Rattle.disk_model.specs.Journal.{Past, has_foreign}
@@ -48,12 +49,13 @@ pub record WasMissing (path : List ℕ) (m n : ℕ) (past : Past) : Type 0 where
   pub to : mark ≤ n
   pub nothing : node_at (tree_at past mark) path ≡ None
 
--- at a mark between two marks the path was no folder of the kind
+-- at a mark between two marks something stood at the path that was no folder of the kind
 pub record WasNoFolder (is_of_kind : List TreeNode → List ℕ → Bool) (path : List ℕ) (m n : ℕ)
     (past : Past) : Type 0 where
   pub mark : ℕ
   pub from : m ≤ mark
   pub to : mark ≤ n
+  pub there : is_some (node_at (tree_at past mark) path) ≡ true
   pub other : is_of_kind (tree_at past mark) path ≡ false
 
 -- messages that would be listed were not for this cause

@@ -9,17 +9,18 @@ use Rattle.disk_model.specs.Judge.{GoesOn}
 use Rattle.disk_model.specs.Looking.{OnlyLooks}
 use Rattle.disk_model.specs.Seen.{Seen}
 use Rattle.folder_core.specs.Costs.{letters_behind}
+use Rattle.folder_core.specs.FirstLook.{TellsMissing}
 use Rattle.folder_core.specs.Format.{Format}
 use Rattle.folder_core.specs.Known.{KnownFolder}
-use Rattle.folder_core.specs.Letters.{Mail}
+use Rattle.folder_letters.specs.Letters.{Mail}
 use Rattle.folder_core.specs.Limits.{list_refusal, most_letters, most_messages}
 use Rattle.folder_core.specs.Message.{Message}
 use Rattle.folder_core.specs.Reads.{format_of, letters_from, listed_from}
 use Rattle.folder_core.specs.Scanned.{ListsNew, Saw}
 use Rattle.folder_core.specs.declared.error.ScanError.{ScanError}
 use Rattle.folder_core.specs.declared.error.ScanError.TheVariants.{ArchiveFull, Fault}
-use Rattle.folder_core.specs.declared.listing.Found.{Found}
-use Rattle.folder_core.specs.declared.listing.Listed.{Listed}
+use Rattle.folder_letters.specs.declared.listing.Found.{Found}
+use Rattle.folder_letters.specs.declared.listing.Listed.{Listed}
 
 -- what is known of a directory whose messages are listed
 abbrev pub known_listed : KnownFolder → List Listed → List ℕ → KnownFolder
@@ -57,6 +58,8 @@ pub record ListsFolder {A : Type 0} (format : Format) (path : List ℕ)
       (came_of given) old.told new.told)
   pub refused : IfErr result
       (λ why. GoesOn (FolderRefused format (length archive) path why) old.told new.told)
+  pub first : GoesOn (TellsMissing result path) old.told new.told
+  pub within : format.MayRead path old new
   pub full : IsErrOf result ArchiveFull → most_letters < length archive + most_messages
   pub only : OnlyLooks old new
   pub cause : IsErrOf result Fault → Rose old.faults new.faults
@@ -70,6 +73,8 @@ pub record ScansFolder (kind : Kind) (archive new_archive : List Mail)
   pub lists : IfOk result (λ found. ListsNew found archive new_archive known new_known)
   pub reads : IfOk result (λ found. (format_of kind).Costs (letters_behind archive new_archive)
       old.bytes_read new.bytes_read)
+  pub first : GoesOn (TellsMissing result known.path) old.told new.told
+  pub within : (format_of kind).MayRead known.path old new
   pub err_known : OnErr result (new_known ≡ known)
   pub full : IsErrOf result ArchiveFull → most_letters < length archive + most_messages
   pub only : OnlyLooks old new

@@ -4,15 +4,16 @@ use Rattle.folder_core.specs.declared.error.ScanError.{ScanError}
 use Rattle.folder_core.specs.declared.error.ScanError.TheVariants.{TooMany, TooLarge, ArchiveFull}
 use Rattle.folder_core.specs.Message.{Message, bytes_together}
 
--- the most messages that are listed
+-- the most messages that are listed: a folder of more is refused (TooMany)
 abbrev pub most_messages : ℕ
 most_messages = 65_535
 
--- the most bytes of a folder
+-- the most bytes of a folder, of the file of an mbox and of the messages of a directory together: a
+-- folder of more is refused (TooLarge)
 abbrev pub most_bytes : ℕ
 most_bytes = 536_870_912
 
--- the most letters of an archive
+-- the most letters of an archive: a folder whose letters would not fit is refused (ArchiveFull)
 abbrev pub most_letters : ℕ
 most_letters = 4_294_967_295
 

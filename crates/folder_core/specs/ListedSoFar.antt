@@ -1,17 +1,21 @@
 -- What of a folder's messages was found so far: each is counted, and listed where all found so far
 -- may be listed.
-use Rattle.std.specs.Prelude.{◌≡◌, ◌+◌, ◌++◌, ℕ, Bool, List, [], ◌∷◌, Option, Some, None, is_none}
-use Rattle.std.specs.Prelude.{length, map}
+use Rattle.std.specs.Prelude.{◌≡◌, ◌≤◌, ◌+◌, ◌-◌, ◌++◌, ℕ, Bool, List, [], ◌∷◌, Option, Some, None}
+use Rattle.std.specs.Prelude.{is_none, length, map, Result, Ok, Err}
 use Rattle.std.specs.Prelude.{if◌then◌else◌}
 use Rattle.mail_base.specs.declared.flags.Flags.{Flags}
+use Rattle.disk_model.specs.Seen.{Seen}
+use Rattle.folder_core.specs.Costs.{RaisesAtMost}
 use Rattle.folder_core.specs.Format.{Format}
-use Rattle.folder_core.specs.Letters.{Mail, plain_letter}
-use Rattle.folder_core.specs.Limits.{list_refusal, sum_refusal, told_sum}
+use Rattle.folder_letters.specs.Letters.{Mail, plain_letter}
+use Rattle.folder_core.specs.Limits.{list_refusal, most_bytes, sum_refusal, told_sum}
+use Rattle.folder_core.specs.Looked.{OnlyMeets}
 use Rattle.folder_core.specs.Message.{Message, bytes_together}
 use Rattle.folder_core.specs.Reads.{letters_from, listed_from}
-use Rattle.folder_core.specs.declared.letter.Letter.{Letter}
+use Rattle.folder_letters.specs.declared.letter.Letter.{Letter}
+use Rattle.folder_core.specs.declared.error.ScanError.{ScanError}
 use Rattle.folder_core.specs.declared.listed_so_far.ListedSoFar.{ListedSoFar}
-use Rattle.folder_core.specs.declared.listing.Listed.{Listed}
+use Rattle.folder_letters.specs.declared.listing.Listed.{Listed}
 
 -- The letters of the archive before, the messages found and their bytes, as they are told, and what
 -- is stored: the listing, and the archive as it is.
@@ -22,6 +26,7 @@ pub record Store : Type 0 where
   pub came : List Listed
   pub archive : List Mail
 
+-- what was found so far, with the letters of the archive
 abbrev pub store_of : ListedSoFar → List Letter → Store
 store_of so_far archive = record {
   letters = so_far.letters;
@@ -49,6 +54,7 @@ stored_if fits flags mail store = record {
   archive = if fits then store.archive ++ mail ∷ [] else store.archive;
 }
 
+-- what was found so far with one more message, which is listed while no limit is passed
 abbrev pub store_with : Flags → Mail → Store → Store
 store_with flags mail store =
     stored_if (is_none (sum_refusal store.letters (store.count + 1)
@@ -64,6 +70,21 @@ store_message format message store =
 abbrev pub store_found : Format → Option Message → Store → Store
 store_found format None store = store
 store_found format (Some message) store = store_message format message store
+
+-- No more was read of files than they take of the bytes that may be listed; where a look failed, no
+-- more than was left of these.
+abbrev pub ReadsLeft : {A : Type 0} → Result A ScanError → ℕ → ℕ → Option ℕ → Option ℕ → Type 0
+ReadsLeft (Ok given) bytes new_bytes old new =
+    (most_bytes - new_bytes ≤ most_bytes - bytes)
+    × RaisesAtMost old new (most_bytes - bytes - (most_bytes - new_bytes))
+ReadsLeft (Err why) bytes new_bytes old new = RaisesAtMost old new (most_bytes - bytes)
+
+-- What a walk does that has found messages of so many bytes: it only looks, and reads no more than
+-- may be listed.
+pub record LooksWithin {A : Type 0} (result : Result A ScanError) (bytes new_bytes : ℕ)
+    (old new : Seen) : Type 0 where
+  pub meets : OnlyMeets result old new
+  pub reads : ReadsLeft result bytes new_bytes old.bytes_read new.bytes_read
 
 -- The messages are counted, and stored where they may be listed.
 pub record Holds (format : Format) (first : Store) (messages : List Message)

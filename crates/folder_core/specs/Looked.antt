@@ -1,6 +1,7 @@
 -- What one look at a disk tells, as a driver or the rule of kinds wants it told.
 use Rattle.std.specs.Prelude.{◌≡◌, ◌≤◌, ◌<◌, ◌⊎◌, ℕ, Bool, true, false, List, [], ◌∷◌, Option, Some}
-use Rattle.std.specs.Prelude.{None, Result, IfOk, IfErr, IsErrOf, is_some, length, map, take, drop}
+use Rattle.std.specs.Prelude.{None, Result, Ok, Err, IfOk, IfErr, IsErrOf, is_some, length, map}
+use Rattle.std.specs.Prelude.{take, drop}
 use Rattle.mail_base.specs.Faults.{Rose}
 use Rattle.disk_model.specs.Answers.{AreText}
 use Rattle.disk_model.specs.Journal.{Answer, Call, Own, Past, ReadAll}
@@ -11,7 +12,6 @@ use Rattle.disk_model.specs.Seen.{Seen}
 use Rattle.disk_model.specs.State.{tree_at}
 use Rattle.disk_model.specs.Tree.{TreeNode, node_at}
 use Rattle.disk_model.specs.declared.answers.Stat.{Stat}
-use Rattle.folder_core.specs.Costs.{RaisesAtMost}
 use Rattle.folder_core.specs.Directory.{file_at, is_folder_at}
 use Rattle.folder_core.specs.Mh.{stamp_there}
 use Rattle.folder_core.specs.declared.error.ScanError.{ScanError}
@@ -32,13 +32,12 @@ pub record SawAt (call : Call) (Tells : List TreeNode → Type 0) (old new : Pas
   pub own : take 1 (drop mark new.journal) ≡ Own call answer ∷ []
   pub tells : Tells (tree_at new mark)
 
--- What a look gives is told of the tree that it met, and no more than so many bytes were read for
--- it; it changes nothing, and fails for a fault or for want of memory alone.
+-- What a look gives is told of the tree that it met; it changes nothing, and fails for a fault or
+-- for want of memory alone.
 pub record Looked {A : Type 0}
-    (result : Result A ScanError) (call : Call) (Tells : A → List TreeNode → Type 0) (bytes : A → ℕ)
+    (result : Result A ScanError) (call : Call) (Tells : A → List TreeNode → Type 0)
     (old new : Seen) : Type 0 where
   pub saw : IfOk result (λ given. GoesOn (SawAt call (Tells given)) old.told new.told)
-  pub reads : IfOk result (λ given. RaisesAtMost old.bytes_read new.bytes_read (bytes given))
   pub only : OnlyLooks old new
   pub cause : IsErrOf result Fault → Rose old.faults new.faults
   pub errors : IfErr result (λ why. (why ≡ Fault) ⊎ (why ≡ NoMemory))
@@ -75,11 +74,16 @@ content_length NoFile = 0
 content_length (TooLong size) = 0
 content_length (Whole read) = length read.bytes.items
 
--- what is too long has more bytes than so many
-abbrev pub IsPast : ℕ → Content → Type 0
-IsPast limit NoFile = Unit {0}
-IsPast limit (TooLong size) = limit < size
-IsPast limit (Whole read) = Unit {0}
+-- the same of an answer
+abbrev pub content_read : Result Content ScanError → ℕ
+content_read (Ok content) = content_length content
+content_read (Err why) = 0
+
+-- what is too long has more bytes than so many, and what was read no more
+abbrev pub FitsLimit : ℕ → Content → Type 0
+FitsLimit limit NoFile = Unit {0}
+FitsLimit limit (TooLong size) = limit < size
+FitsLimit limit (Whole read) = length read.bytes.items ≤ limit
 
 -- what stands there begins so
 abbrev pub IsFrontOf : Front → List TreeNode → List ℕ → Type 0
@@ -93,6 +97,16 @@ abbrev pub HasText : Contents → Type 0
 HasText Nothing = Unit {0}
 HasText File = Unit {0}
 HasText (Names names) = AreText names.items
+
+-- something stands there
+abbrev pub is_there : Contents → Bool
+is_there Nothing = false
+is_there contents = true
+
+-- something stands there, of which the front was asked for
+abbrev pub has_front : Front → Bool
+has_front Free = false
+has_front front = true
 
 -- the names of a directory are told
 abbrev pub is_names : Contents → Bool

@@ -16,12 +16,12 @@ use Rattle.folder_core.specs.Directory.{AloneBetween, DirectoryRefused, file_at,
 use Rattle.folder_core.specs.Directory.{is_name, path_in}
 use Rattle.folder_core.specs.Format.{Format}
 use Rattle.folder_core.specs.Known.{KnownFolder}
-use Rattle.folder_core.specs.Letters.{Mail}
-use Rattle.folder_core.specs.Limits.{list_refusal}
+use Rattle.folder_letters.specs.Letters.{Mail}
+use Rattle.folder_core.specs.Limits.{list_refusal, most_bytes}
 use Rattle.folder_core.specs.MaildirNames.{begins_dot, flags_of, order_of, split_name}
-use Rattle.folder_core.specs.Moments.{in_clock_range}
+use Rattle.folder_letters.specs.Moments.{in_clock_range}
 use Rattle.folder_core.specs.Message.{Message, are_in_order, has_key}
-use Rattle.folder_core.specs.Ordered.{in_order_by}
+use Rattle.mail_base.specs.Ordered.{in_order_by}
 
 -- a name in `cur`, or else in `new`
 pub record MaildirFile : Type 0 where
@@ -32,6 +32,7 @@ pub record MaildirFile : Type 0 where
 abbrev pub directory : Bool → List ℕ → List ℕ
 directory in_cur path = path_in path (if in_cur then codes "cur" else codes "new")
 
+-- the path of a file of a Maildir
 abbrev pub path_of : List ℕ → MaildirFile → List ℕ
 path_of path file = path_in (directory file.in_cur path) file.name
 
@@ -59,24 +60,24 @@ file_cmp a b =
     (ordering_then (slice_cmp nat_cmp (base_of a) (base_of b))
     (ordering_then (bool_cmp b.in_cur a.in_cur) (slice_cmp nat_cmp a.name b.name)))
 
+-- a file comes before another
 abbrev pub comes_before : MaildirFile → MaildirFile → Bool
 comes_before a b = is_lt (file_cmp a b)
 
--- the names that may be messages: those that do not begin with a dot
+-- a name that a message may have: it does not begin with a dot
+abbrev pub is_shown : List ℕ → Bool
+is_shown name = is_name name && not (begins_dot name)
+
+-- the names that may be messages
 abbrev pub files_in : Bool → List (List ℕ) → List MaildirFile
 files_in in_cur names =
-    map (λ name. record { in_cur = in_cur; name = name })
-    (filter (λ name. not (begins_dot name)) names)
+    map (λ name. record { in_cur = in_cur; name = name }) (filter is_shown names)
 
 -- the names in both directories
 abbrev pub all_files : List TreeNode → List ℕ → List MaildirFile
 all_files tree path =
     files_in true (names_in tree (directory true path))
     ++ files_in false (names_in tree (directory false path))
-
--- a name that a message may have
-abbrev pub is_shown : List ℕ → Bool
-is_shown name = is_name name && not (begins_dot name)
 
 -- the base is that of the message that was taken last
 abbrev pub is_taken : Option (List ℕ) → List ℕ → Bool
@@ -97,6 +98,7 @@ messages_behind tree path last (file ∷ files) =
     else with_message (message_at tree path file) (messages_behind tree path last files)
     (messages_behind tree path (Some (base_of file)) files)
 
+-- the messages of a Maildir, in order
 abbrev pub maildir_messages : List TreeNode → List ℕ → List Message
 maildir_messages tree path =
     messages_behind tree path None (in_order_by comes_before (all_files tree path))
@@ -107,6 +109,7 @@ is_maildir tree path =
     is_folder_at tree path && is_folder_at tree (directory true path)
     && is_none (file_at tree (directory false path))
 
+-- the messages of a directory, if it is a Maildir
 abbrev pub maildir_reads : List TreeNode → List ℕ → Option (List Message)
 maildir_reads tree path = if is_maildir tree path then Some (maildir_messages tree path) else None
 
@@ -126,7 +129,7 @@ pub record Stood (path : List ℕ) (m n : ℕ) (past : Past) (message : Message)
   pub from : m ≤ mark
   pub to : mark ≤ n
   pub file : MaildirFile
-  pub shown : begins_dot file.name ≡ false
+  pub shown : is_shown file.name ≡ true
   pub there : message_at (tree_at past mark) path file ≡ Some message
 
 -- each of the messages stood there
@@ -171,6 +174,7 @@ pub record SawListed (letters : ℕ) (known : KnownFolder) (messages : List Mess
   pub bytes : known.bytes ≡ []
   pub stamps : known.stamps ≡ []
 
+-- Maildirs as a kind of folders
 abbrev pub maildir_format : Format
 maildir_format = record {
   reads = maildir_reads;
@@ -181,4 +185,5 @@ maildir_format = record {
       DirectoryRefused is_maildir (λ messages. SawMaildir path messages m n past) letters path why m
       n past;
   Costs = λ came old new. RaisesAtMost old new (cores_together came);
+  MayRead = λ path old new. RaisesAtMost old.bytes_read new.bytes_read most_bytes;
 }

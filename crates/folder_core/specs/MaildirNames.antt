@@ -26,6 +26,7 @@ split_at_mark name (Some letters) = (take (length name - length letters - 3) nam
 abbrev pub split_name : List ℕ → List ℕ × List ℕ
 split_name name = split_at_mark name (last_letters name)
 
+-- a letter is one of these
 abbrev pub has_letter : List ℕ → ℕ → Bool
 has_letter letters letter = list_any (λ b. b == letter) letters
 
@@ -41,6 +42,7 @@ flags_of in_cur letters = record {
   trashed = has_letter letters (byte "T");
 }
 
+-- a name begins with a full stop
 abbrev pub begins_dot : List ℕ → Bool
 begins_dot [] = false
 begins_dot (b ∷ rest) = b == byte "."

@@ -1,26 +1,30 @@
 -- A folder of a numbered file a message (mh-mail(5)), whose flags stand in the sequences of
 -- `.mh_sequences`.
-use Rattle.std.specs.Prelude.{◌≡◌, ◌≤◌, ℕ, pos, Bool, true, List, [], ◌∷◌, codes, Option, Some}
-use Rattle.std.specs.Prelude.{None, is_some, option_and_then, unwrap_or, if◌then◌else◌}
+use Rattle.std.specs.Prelude.{◌≡◌, ◌≤◌, ◌+◌, ℕ, pos, Bool, true, List, [], ◌∷◌, length, codes}
+use Rattle.std.specs.Prelude.{Option, Some, None, is_some}
+use Rattle.std.specs.Prelude.{option_and_then, unwrap_or, if◌then◌else◌}
 use Rattle.std.specs.Cmp.Lexicographic.{slice_cmp}
 use Rattle.std.specs.List.{dedup, filter, filter_map}
 use Rattle.std.specs.Ordering.{is_lt, nat_cmp, ordering_then}
 use Rattle.std.specs.Str.{bytes_eq}
 use Rattle.std.specs.declared.cmp.Ordering.{Ordering}
 use Rattle.disk_model.specs.Journal.{Past}
+use Rattle.disk_model.specs.Judge.{GoesOn}
 use Rattle.disk_model.specs.Names.{names_in}
+use Rattle.disk_model.specs.Seen.{Seen}
 use Rattle.disk_model.specs.State.{tree_at}
 use Rattle.disk_model.specs.Tree.{TreeNode, node_at}
+use Rattle.folder_core.specs.Costs.{RaisesAtMost}
 use Rattle.folder_core.specs.Directory.{AloneBetween, DirectoryRefused, file_at, is_folder_at}
 use Rattle.folder_core.specs.Directory.{path_in}
 use Rattle.folder_core.specs.Format.{Format}
 use Rattle.folder_core.specs.Known.{KnownFolder}
-use Rattle.folder_core.specs.Letters.{Mail}
-use Rattle.folder_core.specs.Limits.{list_refusal}
+use Rattle.folder_letters.specs.Letters.{Mail}
+use Rattle.folder_core.specs.Limits.{list_refusal, most_bytes}
 use Rattle.folder_core.specs.Message.{Message, are_in_order, has_key}
 use Rattle.folder_core.specs.MhNumbers.{number_of}
 use Rattle.folder_core.specs.MhSequences.{mh_flags}
-use Rattle.folder_core.specs.Ordered.{in_order_by}
+use Rattle.mail_base.specs.Ordered.{in_order_by}
 
 -- the file of the sequences
 abbrev pub sequences_path : List ℕ → List ℕ
@@ -34,6 +38,7 @@ sequences_at tree path = unwrap_or (file_at tree (sequences_path path)) []
 abbrev pub is_number : List ℕ → Bool
 is_number name = is_some (number_of name)
 
+-- the number of a name, or 0
 abbrev pub number_at : List ℕ → ℕ
 number_at name = unwrap_or (number_of name) 0
 
@@ -57,6 +62,7 @@ message_at tree path sequences name =
 abbrev pub name_cmp : List ℕ → List ℕ → Ordering
 name_cmp a b = ordering_then (nat_cmp (number_at a) (number_at b)) (slice_cmp nat_cmp a b)
 
+-- a name comes before another
 abbrev pub comes_before : List ℕ → List ℕ → Bool
 comes_before a b = is_lt (name_cmp a b)
 
@@ -64,10 +70,12 @@ comes_before a b = is_lt (name_cmp a b)
 abbrev pub numbers_of : List (List ℕ) → List (List ℕ)
 numbers_of names = dedup bytes_eq (in_order_by comes_before (filter is_number names))
 
+-- the messages of an MH folder, in order
 abbrev pub mh_messages : List TreeNode → List ℕ → List Message
 mh_messages tree path =
     filter_map (message_at tree path (sequences_at tree path)) (numbers_of (names_in tree path))
 
+-- the messages of a directory, as an MH folder
 abbrev pub mh_reads : List TreeNode → List ℕ → Option (List Message)
 mh_reads tree path = if is_folder_at tree path then Some (mh_messages tree path) else None
 
@@ -137,6 +145,20 @@ pub record SawStamped (path : List ℕ) (messages : List Message) (m n : ℕ) (p
     pub stamps : List ℕ
     pub saw : SawMh path messages stamps m n past
 
+-- the file of the sequences had at least so many bytes at a mark between the ends of two journals
+pub record HeldSequences (path : List ℕ) (bytes : ℕ) (old new : Past) : Type 0 where
+  pub mark : ℕ
+  pub from : length old.journal ≤ mark
+  pub to : mark ≤ length new.journal
+  pub held : bytes ≤ length (sequences_at (tree_at new mark) path)
+
+-- beside bytes of the file of the sequences no more than so many were read
+pub record ReadsBeside (path : List ℕ) (most : ℕ) (old new : Seen) : Type 0 where
+  pub sequences : ℕ
+  pub held : GoesOn (HeldSequences path sequences) old.told new.told
+  pub reads : RaisesAtMost old.bytes_read new.bytes_read (sequences + most)
+
+-- MH folders as a kind of folders
 abbrev pub mh_format : Format
 mh_format = record {
   reads = mh_reads;
@@ -147,4 +169,5 @@ mh_format = record {
       DirectoryRefused is_folder_at (λ messages. SawStamped path messages m n past) letters path why
       m n past;
   Costs = λ came old new. Unit {0};
+  MayRead = λ path old new. ReadsBeside path most_bytes old new;
 }

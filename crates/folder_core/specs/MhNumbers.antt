@@ -3,6 +3,7 @@ use Rattle.std.specs.Prelude.{◌==◌, ℕ, Bool, false, List, [], ◌∷◌, O
 use Rattle.std.specs.Str.{byte}
 use Rattle.mail_base.specs.Decimal.{decimal_in}
 
+-- a name begins with a zero
 abbrev pub begins_zero : List ℕ → Bool
 begins_zero [] = false
 begins_zero (b ∷ rest) = b == byte "0"

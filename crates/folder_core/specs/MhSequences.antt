@@ -17,6 +17,7 @@ abbrev pub last_text : List ℕ → List (List ℕ)
 last_text [] = []
 last_text (b ∷ line) = (b ∷ line) ∷ []
 
+-- the lines of a text, of which the first begins with what was read so far
 abbrev pub text_lines : List ℕ → List ℕ → List (List ℕ)
 text_lines so_far [] = last_text so_far
 text_lines so_far (b ∷ rest) =
@@ -34,6 +35,7 @@ abbrev pub between_holds : ℕ → ℕ → ℕ → Option Bool
 between_holds n first last =
     if nat_le first last then Some (nat_le first n && nat_le n last) else None
 
+-- a number is in the range of a word, where the word is one
 abbrev pub range_by : ℕ → List ℕ → Option (List ℕ × List ℕ) → Option Bool
 range_by n word None = number_of word >>= λ number. Some (nat_le number n && nat_le n number)
 range_by n word (Some ends) =
@@ -54,11 +56,13 @@ ranges_hold n ((b ∷ word) ∷ words) =
 abbrev pub is_sequence_name : List ℕ → Bool
 is_sequence_name name = nat_lt 0 (length name) && not (list_any is_blank name)
 
+-- a line of this name holds a number
 abbrev pub named_holds : List ℕ → ℕ → List ℕ × List ℕ → Bool
 named_holds name n parts =
     is_sequence_name parts.0 && bytes_eq parts.0 name
     && unwrap_or (ranges_hold n (words_of [] parts.1)) false
 
+-- the same of a line that is cut at its colon, if it has one
 abbrev pub split_holds : List ℕ → ℕ → Option (List ℕ × List ℕ) → Bool
 split_holds name n None = false
 split_holds name n (Some parts) = named_holds name n parts

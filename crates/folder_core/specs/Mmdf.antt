@@ -2,12 +2,15 @@
 -- it has no messages, and is refused as no mailbox.
 use Rattle.std.specs.Prelude.{◌≡◌, ℕ, pos, List, [], None}
 use Rattle.disk_model.specs.Journal.{Past}
+use Rattle.folder_core.specs.Costs.{RaisesAtMost}
 use Rattle.folder_core.specs.Format.{Format}
-use Rattle.folder_core.specs.Letters.{Mail}
+use Rattle.folder_core.specs.Limits.{most_bytes}
+use Rattle.folder_letters.specs.Letters.{Mail}
 use Rattle.folder_core.specs.Message.{Message}
 use Rattle.folder_core.specs.declared.error.ScanError.{ScanError}
 use Rattle.folder_core.specs.declared.error.ScanError.TheVariants.{NotMailbox, Fault, NoMemory}
 
+-- the letter of a message, as of any kind without a key
 abbrev pub mmdf_letter : ℕ → Message → Mail
 mmdf_letter id message =
     record { order = id; key = []; core = message.raw; text_at = 0; received = pos 0 }
@@ -19,6 +22,7 @@ mmdf_refused letters path Fault m n past = Unit {0}
 mmdf_refused letters path NoMemory m n past = Unit {0}
 mmdf_refused letters path why m n past = ⊥
 
+-- MMDF as a kind of folders of which nothing is read
 abbrev pub mmdf_format : Format
 mmdf_format = record {
   reads = λ tree path. None;
@@ -27,4 +31,5 @@ mmdf_format = record {
   Saw = λ letters known messages m n past. ⊥;
   Refused = mmdf_refused;
   Costs = λ came old new. Unit {0};
+  MayRead = λ path old new. RaisesAtMost old.bytes_read new.bytes_read most_bytes;
 }

@@ -1,22 +1,13 @@
 //! The messages of a folder that were found so far, listed as long as no limit is passed.
 
 ghost use Rattle.std.specs.Prelude.{◌≡◌, ◌+◌, ◌-◌, ◌<◌, ◌^◌, [], OnOk, length, take};
-ghost use Rattle.folder_core.specs.Letters.{plain_letter};
+ghost use Rattle.folder_letters.specs.Letters.{plain_letter};
 ghost use Rattle.folder_core.specs.Limits.{most_bytes, sum_refusal, told_sum};
 ghost use Rattle.folder_core.specs.ListedSoFar as spec;
 
-use crate::{Archive, Letter, Listed, Listing, ScanError};
+use crate::{Archive, Letter, Listed, Listing, MOST_BYTES, MOST_LETTERS, MOST_MESSAGES, ScanError};
 use mail_base::{Flags, Id, NoMemory};
 use std::alloc::Global;
-
-/// The most messages that are listed.
-const MOST_MESSAGES: usize = 65_535;
-
-/// The most bytes of a folder.
-const MOST_BYTES: u64 = 536_870_912;
-
-/// The most letters of an archive.
-const MOST_LETTERS: usize = 4_294_967_295;
 
 /// What was found so far.
 #[derive(Drop)]

@@ -1,8 +1,11 @@
 //! Looks at a disk, as the drivers of directories and the rule of kinds want them told.
 
-ghost use Rattle.std.specs.Prelude.{◌≡◌, IfOk};
+ghost use Rattle.std.specs.Prelude.{◌≡◌, IfOk, is_some};
 ghost use Rattle.disk_model.specs.Journal.{ListDir, ReadAll, ReadFront, StatPath};
+ghost use Rattle.disk_model.specs.Judge.{GoesOn};
 ghost use Rattle.disk_model.specs.Tree.{node_at};
+ghost use Rattle.folder_core.specs.Costs.{RaisesAtMost};
+ghost use Rattle.folder_core.specs.FirstLook.{FindsFirst};
 ghost use Rattle.folder_core.specs.Looked as spec;
 
 use crate::ScanError;
@@ -45,9 +48,12 @@ pub enum Front {
 
 /// What stands at a path.
 pub fn look_at(disk: &mut dyn Disk, path: &str) -> Result<Option<Stat>, ScanError>
-    ensures { spec.Looked result (StatPath path.now)
-        (λ found tree. found ≡ spec.stat_there (node_at tree path.now)) (λ found. 0)
+    ensures looked { spec.Looked result (StatPath path.now)
+        (λ found tree. found ≡ spec.stat_there (node_at tree path.now))
         (seen disk.old) (seen disk.new) }
+    ensures first { GoesOn (FindsFirst (λ found. is_some found) result path.now)
+        (seen disk.old).told (seen disk.new).told }
+    ensures reads { RaisesAtMost (seen disk.old).bytes_read (seen disk.new).bytes_read 0 }
 {
     match disk.stat(path) {
         Ok(stat) => Ok(Some(stat)),
@@ -61,8 +67,11 @@ pub fn look_at(disk: &mut dyn Disk, path: &str) -> Result<Option<Stat>, ScanErro
 /// The names in a directory.
 pub fn contents_of(alloc: Global, disk: &mut dyn Disk, dir: &str) -> Result<Contents, ScanError>
     ensures looked { spec.Looked result (ListDir dir.now)
-        (λ contents tree. spec.IsContents contents tree dir.now) (λ contents. 0)
+        (λ contents tree. spec.IsContents contents tree dir.now)
         (seen disk.old) (seen disk.new) }
+    ensures first { GoesOn (FindsFirst spec.is_there result dir.now)
+        (seen disk.old).told (seen disk.new).told }
+    ensures reads { RaisesAtMost (seen disk.old).bytes_read (seen disk.new).bytes_read 0 }
     ensures text { IfOk result spec.HasText }
 {
     match disk.list(alloc, dir) {
@@ -83,9 +92,11 @@ pub fn content_of(
     limit: u64,
 ) -> Result<Content, ScanError>
     ensures looked { spec.Looked result (ReadAll path.now limit)
-        (λ content tree. spec.IsContent limit content tree path.now) spec.content_length
+        (λ content tree. spec.IsContent limit content tree path.now)
         (seen disk.old) (seen disk.new) }
-    ensures long { IfOk result (spec.IsPast limit) }
+    ensures reads { RaisesAtMost (seen disk.old).bytes_read (seen disk.new).bytes_read
+        (spec.content_read result) }
+    ensures fits { IfOk result (spec.FitsLimit limit) }
 {
     match disk.read_all(alloc, path, limit) {
         Ok(read) => Ok(Content::Whole(read)),
@@ -100,9 +111,11 @@ pub fn content_of(
 
 /// The first bytes of what stands at a path.
 pub fn front_of(alloc: Global, disk: &mut dyn Disk, path: &str) -> Result<Front, ScanError>
-    ensures { spec.Looked result (ReadFront path.now 5)
-        (λ front tree. spec.IsFrontOf front tree path.now) (λ front. 5)
+    ensures looked { spec.Looked result (ReadFront path.now 5)
+        (λ front tree. spec.IsFrontOf front tree path.now)
         (seen disk.old) (seen disk.new) }
+    ensures first { GoesOn (FindsFirst spec.has_front result path.now)
+        (seen disk.old).told (seen disk.new).told }
 {
     let mut front = [0; 5];
     match disk.read_front(path, &mut front) {

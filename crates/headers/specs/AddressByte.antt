@@ -31,6 +31,7 @@ is_comment_role CommentText = true
 is_comment_role CommentEnd = true
 is_comment_role _ = false
 
+-- a byte stands in a comment
 abbrev pub is_comment : AddressByte → Bool
 is_comment b = is_comment_role b.role
 

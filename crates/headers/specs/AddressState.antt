@@ -14,6 +14,7 @@ use Rattle.headers.specs.declared.address_state.Within.{Within}
 use Rattle.headers.specs.declared.address_state.Within.TheVariants.{Plain, Quotes, QuotedPair}
 use Rattle.headers.specs.declared.address_state.Within.TheVariants.{Comment, CommentPair}
 
+-- where in an address list a byte stands
 abbrev pub state_in : Bool → Within → AddressState
 state_in in_angle within = record { in_angle = in_angle; within = within }
 
@@ -49,6 +50,7 @@ comment_step depth b =
 abbrev pub with_angle : Bool → Role × Within → Role × AddressState
 with_angle in_angle p = (p.0, state_in in_angle p.1)
 
+-- what a byte is by where it stands, and where the next one does
 abbrev pub step_at : Bool → Within → ℕ → Role × AddressState
 step_at in_angle Plain b = plain_step in_angle b
 step_at in_angle Quotes b = with_angle in_angle (quotes_step b)

@@ -21,6 +21,7 @@ abbrev pub found_at : ℕ → Option PlainDecodedWord → Option PlainFoundWord 
 found_at b (Some word) later = Some (record { before = []; text = word.text; rest = word.rest })
 found_at b None later = option_map (with_text (b ∷ [])) later
 
+-- the first encoded word of a text, with what stands before it
 abbrev pub first_word : List ℕ → Option PlainFoundWord
 first_word [] = None
 first_word (b ∷ rest) = found_at b (encoded_word (b ∷ rest)) (first_word rest)
@@ -44,6 +45,7 @@ decoded_from (suc n) after_word s = decoded_around (decoded_from n true) after_w
 abbrev pub decoded_words : List ℕ → List ℕ
 decoded_words s = decoded_from (length s) false s
 
+-- a found word as contracts see it
 abbrev pub plain_found_word : FoundWord → PlainFoundWord
 plain_found_word f = record {
   before = f.before.now;

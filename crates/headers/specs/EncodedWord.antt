@@ -60,9 +60,11 @@ encoded_word s = do
   bytes ← bytes_of word.encoding word.text
   Some (record { text = text_in (charset_of word.charset) bytes; rest = word.rest })
 
+-- an encoded word as it is written
 abbrev pub plain_written_word : WrittenWord → PlainWrittenWord
 plain_written_word w =
     record { charset = w.charset.now; encoding = w.encoding; text = w.text.now; rest = w.rest.now }
 
+-- an encoded word with its text decoded
 abbrev pub plain_decoded_word : DecodedWord → PlainDecodedWord
 plain_decoded_word w = record { text = text_in w.charset w.bytes.items; rest = w.rest.now }

@@ -26,6 +26,7 @@ plain_folded f = record { name = f.name.now; value = f.value.now ++ continued f.
 abbrev pub begun : List ℕ → List ℕ → PlainField
 begun line text = record { name = name_of line; value = unfolded line (more_lines text) }
 
+-- the text of an unfolded value
 abbrev pub unfolded_text : Unfolded → List ℕ
 unfolded_text (Whole text) = text.now
 unfolded_text (Joined text) = text.items

@@ -1,6 +1,6 @@
 -- What a message's header says (RFC 5322, section 3.6).
 use Rattle.std.specs.Prelude.{ℕ, Bool, List, Option, option_map, codes}
-use Rattle.mail_base.specs.Lines.{body_at, message_fields}
+use Rattle.mail_base.specs.Lines.{PlainField, body_at, message_fields}
 use Rattle.mail_base.specs.Series.{plain_texts}
 use Rattle.headers.specs.BodyLines.{body_lines}
 use Rattle.headers.specs.Candidates.{candidates}
@@ -45,6 +45,7 @@ header text =
       body_lines = body_lines text;
     }
 
+-- a header as contracts see it
 abbrev pub plain_header : Header → PlainHeader
 plain_header h = record {
   subject = h.subject.items;
@@ -60,4 +61,27 @@ plain_header h = record {
   sent = h.sent;
   body_at = h.body_at;
   body_lines = h.body_lines;
+}
+
+-- For the code alone.
+
+-- a header with the subject, the ids and the date that fields say
+abbrev pub with_texts : List PlainField → PlainHeader → PlainHeader
+with_texts fields h = record h {
+  subject = subject fields;
+  base_subject = base_of (subject fields);
+  reply_prefix = has_prefix (subject fields);
+  message_id = id_in (codes "message-id") fields;
+  candidates = candidates fields;
+  sent = sent fields;
+}
+
+-- a header with the persons that fields name
+abbrev pub with_persons : List PlainField → PlainHeader → PlainHeader
+with_persons fields h = record h {
+  authors = persons (codes "from") fields;
+  senders = persons (codes "sender") fields;
+  to = persons (codes "to") fields;
+  cc = persons (codes "cc") fields;
+  reply_to = persons (codes "reply-to") fields;
 }

@@ -35,5 +35,6 @@ ids_from (suc n) s = ids_with (ids_from n) (first_id s)
 abbrev pub ids : List ℕ → List (List ℕ)
 ids s = ids_from (length s) s
 
+-- a found id as contracts see it
 abbrev pub plain_found_id : FoundId → PlainFoundId
 plain_found_id f = record { inside = f.inside.now; rest = f.rest.now }

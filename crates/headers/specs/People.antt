@@ -25,6 +25,7 @@ pub record PlainBrackets : Type 0 where
   pub inside : List AddressByte
   pub behind : List AddressByte
 
+-- a piece cut at its last open and its first closing angle bracket
 abbrev pub brackets_of : List AddressByte → Option PlainBrackets
 brackets_of bytes =
     let tail = after_last (has AngleStart) bytes in
@@ -54,6 +55,7 @@ unbracketed bytes = record {
   address = trimmed (bytes_of (filter (λ b. not (is_comment b)) bytes));
 }
 
+-- the person of a piece, by whether it has brackets
 abbrev pub person_of : List AddressByte → Option PlainBrackets → PlainPerson
 person_of bytes None = unbracketed bytes
 person_of bytes (Some b) = bracketed b
@@ -71,5 +73,6 @@ people value =
     flat_map (λ piece. option_to_list (person_in piece))
     (slice_split (has Separator) (address_bytes value))
 
+-- a piece that is cut at its brackets as contracts see it
 abbrev pub plain_brackets : Brackets → PlainBrackets
 plain_brackets b = record { before = b.before.now; inside = b.inside.now; behind = b.behind.now }

@@ -53,13 +53,6 @@ impl Charset {
     }
 }
 
-fn push_char(line: &mut Line, c: char) -> Result<(), NoMemory>
-    ensures { OnOk result (line.new.items ≡ line.old.items ++ encode_utf8 c) }
-{
-    let mut buffer = [0; 4];
-    line.append(c.encode_utf8(&mut buffer))
-}
-
 // The bytes before the first that is no ASCII, and those from it on.
 fn split_at_high(bytes: &[u8]) -> (&[u8], &[u8])
     ensures whole { bytes.now ≡ result.0.now ++ result.1.now }
@@ -115,7 +108,7 @@ fn append_latin1(line: &mut Line, bytes: &[u8]) -> Result<(), NoMemory>
     line.reserve(bytes.len().saturating_add(bytes.len() / 8))?;
     let mut left = append_front(line, bytes)?;
     while let [first, rest @ ..] = left {
-        push_char(line, char::from(*first))?;
+        line.push_char(char::from(*first))?;
         left = append_front(line, rest)?;
     }
     Ok(())

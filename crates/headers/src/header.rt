@@ -19,7 +19,6 @@ use mail_base::{Bytes, Line, Names, NoMemory, body_at};
 use std::alloc::Global;
 
 /// What the header block of a message says (RFC 5322, section 3.6).
-#[derive(Drop)]
 pub struct Header {
     /// Its fields in their order. They are left out where the text is at hand.
     pub fields: Fields,
@@ -46,32 +45,88 @@ pub struct Header {
     pub body_lines: u64,
 }
 
+impl Drop for Header {
+    fn drop(self) {
+        let Header {
+            fields: _,
+            subject: _,
+            base_subject: _,
+            reply_prefix: _,
+            authors: _,
+            senders: _,
+            to: _,
+            cc: _,
+            reply_to: _,
+            message_id: _,
+            candidates: _,
+            sent: _,
+            body_at: _,
+            body_lines: _,
+        } = self;
+    }
+}
+
+impl Header {
+    ghost use Rattle.std.specs.Prelude.{◌≡◌, map, OnOk};
+    ghost use Rattle.headers.specs.FoldedField.{plain_folded};
+    ghost use Rattle.headers.specs.Header as spec;
+
+    // Reads the subject, the ids and the date.
+    fn read_texts(&mut self, alloc: Global, fields: &[FoldedField<'_>]) -> Result<(), NoMemory>
+        ensures texts { OnOk result (spec.plain_header self.new
+            ≡ spec.with_texts (map plain_folded fields.now) (spec.plain_header self.old)) }
+        ensures body { self.new.body_at ≡ self.old.body_at }
+    {
+        self.subject = subject_of(alloc, fields)?;
+        self.base_subject = base_of(alloc, &self.subject)?;
+        self.reply_prefix = has_prefix(self.subject.as_slice());
+        self.message_id = id_in(alloc, fields, b"message-id")?;
+        self.candidates = candidates_of(alloc, fields)?;
+        self.sent = sent_in(alloc, fields)?;
+        Ok(())
+    }
+
+    // Reads who wrote the message, and to whom.
+    fn read_persons(&mut self, alloc: Global, fields: &[FoldedField<'_>]) -> Result<(), NoMemory>
+        ensures persons { OnOk result (spec.plain_header self.new
+            ≡ spec.with_persons (map plain_folded fields.now) (spec.plain_header self.old)) }
+        ensures body { self.new.body_at ≡ self.old.body_at }
+    {
+        self.authors = people_of(alloc, fields, b"from")?;
+        self.senders = people_of(alloc, fields, b"sender")?;
+        self.to = people_of(alloc, fields, b"to")?;
+        self.cc = people_of(alloc, fields, b"cc")?;
+        self.reply_to = people_of(alloc, fields, b"reply-to")?;
+        Ok(())
+    }
+}
+
 // What a header with these fields says, but for the list of them.
 fn values_of(alloc: Global, raw: &[u8], fields: &[FoldedField<'_>]) -> Result<Header, NoMemory>
     requires { map plain_folded fields.now ≡ lines.message_fields raw.now }
     ensures header { IfOk result (λ h. spec.plain_header h ≡ spec.header raw.now) }
     ensures within { IfOk result (λ h. h.body_at ≤ length raw.now) }
 {
-    let subject = subject_of(alloc, fields)?;
-    let base_subject = base_of(alloc, &subject)?;
-    let reply_prefix = has_prefix(subject.as_slice());
     let body_at = body_at(raw);
-    Ok(Header {
+    let mut header = Header {
         fields: Fields::new(alloc),
-        subject,
-        base_subject,
-        reply_prefix,
-        authors: people_of(alloc, fields, b"from")?,
-        senders: people_of(alloc, fields, b"sender")?,
-        to: people_of(alloc, fields, b"to")?,
-        cc: people_of(alloc, fields, b"cc")?,
-        reply_to: people_of(alloc, fields, b"reply-to")?,
-        message_id: id_in(alloc, fields, b"message-id")?,
-        candidates: candidates_of(alloc, fields)?,
-        sent: sent_in(alloc, fields)?,
+        subject: Line::new(alloc),
+        base_subject: Line::new(alloc),
+        reply_prefix: false,
+        authors: Persons::new(alloc),
+        senders: Persons::new(alloc),
+        to: Persons::new(alloc),
+        cc: Persons::new(alloc),
+        reply_to: Persons::new(alloc),
+        message_id: None,
+        candidates: Names::new(alloc),
+        sent: None,
         body_at,
         body_lines: body_lines(raw, body_at),
-    })
+    };
+    header.read_texts(alloc, fields)?;
+    header.read_persons(alloc, fields)?;
+    Ok(header)
 }
 
 /// The header of a message; none is refused.

@@ -2,8 +2,8 @@
 use Rattle.std.proofs.Common.{◌≡◌, ◌∙◌, ℕ, Bool, true, false, List, [], ◌∷◌}
 use Rattle.std.proofs.Common.{Option, Some, option_map, refl, ap, nat_eq}
 use Rattle.std.specs.Prelude.{find, if◌then◌else◌}
-use Rattle.folder_core.specs.declared.change.Change.{Change}
-use Rattle.folder_core.specs.declared.change.Changed1.{Changed1}
+use Rattle.folder_letters.specs.declared.change.Change.{Change}
+use Rattle.folder_letters.specs.declared.change.Changed1.{Changed1}
 use Rattle.index_items.specs.Changes.{HasChanges, Tells, change_for, plain_change}
 use Rattle.index_items.specs.Changes.{plain_changed, plain_changes}
 use Rattle.index_items.specs.ById.{first_of}

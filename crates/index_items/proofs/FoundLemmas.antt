@@ -6,7 +6,7 @@ use Rattle.std.proofs.lemmas.List.{get_or-map, length-map}
 use Rattle.std.proofs.lemmas.List.Sorted.{ranks_by}
 use Rattle.std.specs.Cmp.{IsStrictWeakOrder, IsTotalOrder}
 use Rattle.std.specs.List.Sorted.{IsSortedBy}
-use Rattle.folder_core.specs.Letters.{Mail}
+use Rattle.folder_letters.specs.Letters.{Mail}
 use Rattle.index_items.specs.Found.{is_listed_before, key_at, listing_cmp, order_at}
 use Rattle.index_items.specs.Items.{PlainItem, plain_item, plain_items}
 use Rattle.index_items.specs.declared.item.Item.{Item}

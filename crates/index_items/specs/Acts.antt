@@ -15,18 +15,23 @@ use Rattle.index_items.specs.declared.act.Mark.TheVariants.{Flagged}
 use Rattle.index_items.specs.declared.alteration.Alteration.{Alteration}
 use Rattle.index_items.specs.declared.alteration.Alteration.TheVariants.{Pending, Tag, Shut}
 
+-- the flag of what was seen
 abbrev pub seen_flag : Flags
 seen_flag = record no_flags { seen = true }
 
+-- the flag of what was met before
 abbrev pub aged_flag : Flags
 aged_flag = record no_flags { aged = true }
 
+-- both flags of what is not new
 abbrev pub seen_and_aged : Flags
 seen_and_aged = record no_flags { seen = true; aged = true }
 
+-- the flag of what was answered
 abbrev pub replied_flag : Flags
 replied_flag = record no_flags { replied = true }
 
+-- the flag of what is important
 abbrev pub flagged_flag : Flags
 flagged_flag = record no_flags { flagged = true }
 
@@ -37,9 +42,11 @@ pub data PlainAlteration : Type 0 where
   Tags : (mark : Bool) → PlainAlteration
   Shuts : (mark : Bool) → PlainAlteration
 
+-- flags are added and cleared
 abbrev pub flags : Flags → Flags → PlainAlteration
 flags added cleared = Changes added cleared None
 
+-- the mark of deletion is set or taken away
 abbrev pub deletion : Bool → PlainAlteration
 deletion deleted = Changes no_flags no_flags (Some deleted)
 
@@ -88,6 +95,7 @@ acted_all act (id ∷ ids) items = acted_all act ids (alter_at id (acted act) it
 
 -- For the code alone.
 
+-- an alteration as contracts see it
 abbrev pub plain_alteration : Alteration → PlainAlteration
 plain_alteration (Pending delta deleted) = Changes delta.added delta.cleared deleted
 plain_alteration (Tag mark) = Tags mark

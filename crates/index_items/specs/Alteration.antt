@@ -11,9 +11,11 @@ use Rattle.index_items.specs.declared.alteration.Alteration.TheVariants.{Pending
 abbrev pub altered : Flags → Flags → Option Bool → PlainItem → PlainItem
 altered added cleared deleted i = record i { pending = changed added cleared deleted i.pending }
 
+-- a message with or without its tag
 abbrev pub tagged : Bool → PlainItem → PlainItem
 tagged mark i = record i { tagged = mark }
 
+-- a message whose thread is shut or open
 abbrev pub shut : Bool → PlainItem → PlainItem
 shut mark i = record i { shut = mark }
 
@@ -27,6 +29,7 @@ alter_at id change items = map (altered_where id change) items
 
 -- For the code alone.
 
+-- a message behind an alteration
 abbrev pub altered_by : Alteration → PlainItem → PlainItem
 altered_by (Pending delta deleted) i = altered delta.added delta.cleared deleted i
 altered_by (Tag mark) i = tagged mark i

@@ -7,9 +7,9 @@ use Rattle.mail_base.specs.Flags.{applied, stored}
 use Rattle.mail_base.specs.declared.flags.Flags.{Flags}
 use Rattle.mail_base.specs.declared.kind.Id.{Id}
 use Rattle.mail_base.specs.declared.kind.Kind.{Kind}
-use Rattle.folder_core.specs.declared.change.Change.{Change}
-use Rattle.folder_core.specs.declared.change.Change.TheVariants.{Alter, Discard}
-use Rattle.folder_core.specs.declared.change.Changed1.{Changed1}
+use Rattle.folder_letters.specs.declared.change.Change.{Change}
+use Rattle.folder_letters.specs.declared.change.Change.TheVariants.{Alter, Discard}
+use Rattle.folder_letters.specs.declared.change.Changed1.{Changed1}
 use Rattle.index_items.specs.ById.{HasFirsts, first_of}
 use Rattle.index_items.specs.Items.{PlainItem, shown_flags}
 use Rattle.index_items.specs.Pending.{left_by}
@@ -39,6 +39,7 @@ change_of kind purge i =
     else (if same_flags (stored kind (shown_flags i)) i.flags then None
     else Some (Alters i.pending.added i.pending.cleared))
 
+-- a message and what is to become of it, if anything
 abbrev pub changed_item : PlainItem → Option PlainChange → List Changed
 changed_item i None = []
 changed_item i (Some change) = record { id = i.id; change = change } ∷ []
@@ -69,13 +70,16 @@ settled kind changes items =
 
 -- For the code alone.
 
+-- what is to become of a message, as contracts see it
 abbrev pub plain_change : Change → PlainChange
 plain_change (Alter delta) = Alters delta.added delta.cleared
 plain_change Discard = Discards
 
+-- a change as contracts see it
 abbrev pub plain_changed : Changed1 → Changed
 plain_changed c = record { id = c.id; change = plain_change c.change }
 
+-- changes as contracts see them
 abbrev pub plain_changes : List Changed1 → List Changed
 plain_changes changes = map plain_changed changes
 

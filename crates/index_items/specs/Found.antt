@@ -9,9 +9,9 @@ use Rattle.std.specs.Ordering.{is_lt, nat_cmp, ordering_then}
 use Rattle.std.specs.declared.cmp.Ordering.{Ordering}
 use Rattle.mail_base.specs.declared.flags.Flags.{Flags}
 use Rattle.mail_base.specs.declared.kind.Id.{Id}
-use Rattle.folder_core.specs.Letters.{Mail}
-use Rattle.folder_core.specs.declared.listing.Found.{Found}
-use Rattle.folder_core.specs.declared.listing.Listed.{Listed}
+use Rattle.folder_letters.specs.Letters.{Mail}
+use Rattle.folder_letters.specs.declared.listing.Found.{Found}
+use Rattle.folder_letters.specs.declared.listing.Listed.{Listed}
 use Rattle.index_items.specs.ById.{HasFirsts, first_of}
 use Rattle.index_items.specs.Items.{PlainItem, listed}
 
@@ -45,6 +45,7 @@ came_items came = map (λ l. listed l.id l.flags) came
 abbrev pub order_at : List Mail → ℕ → ℕ
 order_at mails number = option_map_or (λ mail. mail.order) (slice_get mails number) 0
 
+-- the key of the letter of a number
 abbrev pub key_at : List Mail → ℕ → List ℕ
 key_at mails number = option_map_or (λ mail. mail.key) (slice_get mails number) []
 
@@ -54,6 +55,7 @@ listing_cmp mails a b =
     ordering_then (ordering_then (nat_cmp (order_at mails a.id.0) (order_at mails b.id.0))
     (slice_cmp nat_cmp (key_at mails a.id.0) (key_at mails b.id.0))) (nat_cmp a.id.0 b.id.0)
 
+-- a message stands before another in listing order
 abbrev pub is_listed_before : List Mail → PlainItem → PlainItem → Bool
 is_listed_before mails a b = is_lt (listing_cmp mails a b)
 
@@ -65,9 +67,11 @@ pub record IsJoined (mails : List Mail) (found : Found) (items more : List Plain
 
 -- For the code alone.
 
+-- ids are those of so many letters
 abbrev pub AreIdsBelow : ℕ → List Id → Type 0
 AreIdsBelow bound ids = All (λ id. id.0 < bound) ids
 
+-- listed messages have ids of so many letters
 abbrev pub AreListedBelow : ℕ → List Listed → Type 0
 AreListedBelow bound listed = All (λ l. l.id.0 < bound) listed
 
@@ -76,8 +80,10 @@ abbrev pub IsFoundBelow : ℕ → Found → Type 0
 IsFoundBelow bound found =
     AreIdsBelow bound found.gone.items × AreListedBelow bound found.reflagged.items
 
+-- a table tells of each number whether its message is gone
 abbrev pub HasGone : List (Option Id) → List Id → Type 0
 HasGone table gone = HasFirsts (λ id. id.0) (λ id. id) table gone
 
+-- a table tells of each number the flags that were found
 abbrev pub HasFlags : List (Option Flags) → List Listed → Type 0
 HasFlags table listed = HasFirsts (λ l. l.id.0) (λ l. l.flags) table listed

@@ -14,6 +14,7 @@ pub record PlainItem : Type 0 where
   pub tagged : Bool
   pub shut : Bool
 
+-- a listed message as contracts see it
 abbrev pub plain_item : Item → PlainItem
 plain_item i = record {
   id = i.id;
@@ -23,6 +24,7 @@ plain_item i = record {
   shut = i.shut;
 }
 
+-- listed messages as contracts see them
 abbrev pub plain_items : List Item → List PlainItem
 plain_items items = map plain_item items
 

@@ -45,6 +45,7 @@ no_flags = record {
   trashed = false;
 }
 
+-- nothing was changed
 abbrev pub nothing : PlainPending
 nothing = record { added = no_flags; cleared = no_flags; deleted = false }
 
@@ -70,6 +71,7 @@ left_by held p = record {
 
 -- For the code alone.
 
+-- what was changed, as contracts see it
 abbrev pub plain_pending : Pending → PlainPending
 plain_pending p = record {
   added = p.delta.added;

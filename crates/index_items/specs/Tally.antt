@@ -2,6 +2,7 @@
 -- something to do.
 use Rattle.std.specs.Prelude.{◌<◌, ◌+◌, ◌^◌, ◌&&◌, ◌||◌, ◌==◌, ℕ, Bool, true, not, List, count_by}
 use Rattle.std.specs.Prelude.{if◌then◌else◌, is_some, length}
+use Rattle.mail_base.specs.Flags as flags
 use Rattle.mail_base.specs.declared.kind.Kind.{Kind}
 use Rattle.mail_base.specs.declared.kind.Kind.TheVariants.{Mbox, Maildir, Mh, Mmdf}
 use Rattle.index_items.specs.Changes.{change_of, changes_of}
@@ -11,20 +12,25 @@ use Rattle.index_items.specs.declared.tally.Unsynced.{Unsynced}
 
 -- an unread message is new or old
 abbrev pub is_new : PlainItem → Bool
-is_new i = not (shown_flags i).seen && not (shown_flags i).aged
+is_new i = flags.is_new (shown_flags i)
 
+-- an old message was met before, and not read
 abbrev pub is_old : PlainItem → Bool
-is_old i = not (shown_flags i).seen && (shown_flags i).aged
+is_old i = flags.is_old (shown_flags i)
 
+-- an unread message was not seen
 abbrev pub is_unread : PlainItem → Bool
 is_unread i = not (shown_flags i).seen
 
+-- a message is marked deleted
 abbrev pub is_deleted : PlainItem → Bool
 is_deleted i = i.pending.deleted
 
+-- a message shows the flag of what is important
 abbrev pub is_flagged : PlainItem → Bool
 is_flagged i = (shown_flags i).flagged
 
+-- a message is tagged
 abbrev pub is_tagged : PlainItem → Bool
 is_tagged i = i.tagged
 
@@ -32,6 +38,7 @@ is_tagged i = i.tagged
 abbrev pub is_changed : Kind → List PlainItem → Bool
 is_changed kind items = not (length (changes_of kind true items) == 0)
 
+-- of each kind of folder, whether a sync has something to do
 abbrev pub unsynced_of : List PlainItem → Unsynced
 unsynced_of items = record {
   mbox = is_changed Mbox items;

@@ -1,12 +1,12 @@
 //! What a sync is to do, and what it leaves of the listed messages.
 
-ghost use Rattle.std.specs.Prelude.{◌≡◌, ◌++◌, IfOk, OnOk, option_map};
+ghost use Rattle.std.specs.Prelude.{◌≡◌, ◌++◌, IfOk, List, OnOk, option_map};
 ghost use Rattle.index_items.specs.Changes as spec;
 ghost use Rattle.index_items.specs.Items.{plain_item, plain_items};
 
 use crate::by_id::ById;
 use crate::item::Item;
-use folder_core::{Change, Changed1, Changes};
+use folder_letters::{Change, Changed1, Changes};
 use mail_base::{Kind, NoMemory};
 use std::alloc::Global;
 
@@ -87,6 +87,25 @@ fn put_settled(
     Ok(())
 }
 
+// Adds what a sync leaves of messages.
+fn put_all_settled(
+    settled: &mut Vec<Item>,
+    kind: Kind,
+    table: &ById<Change>,
+    items: &[Item],
+) -> Result<(), NoMemory>
+    ensures { (changes : List spec.Changed) → spec.Tells table.now changes
+        → OnOk result (plain_items settled.new.items
+        ≡ plain_items settled.old.items ++ spec.settled kind changes (plain_items items.now)) }
+{
+    let mut left = items;
+    while let [first, rest @ ..] = left {
+        put_settled(settled, kind, *first, table.get(first.id.0 as usize))?;
+        left = rest;
+    }
+    Ok(())
+}
+
 /// What a sync with these changes leaves of the messages, whose numbers are below a bound.
 pub fn settled(
     alloc: Global,
@@ -101,10 +120,6 @@ pub fn settled(
 {
     let table = table_of(alloc, bound, changes)?;
     let mut settled = Vec::with_capacity(alloc, items.len())?;
-    let mut left = items;
-    while let [first, rest @ ..] = left {
-        put_settled(&mut settled, kind, *first, table.get(first.id.0 as usize))?;
-        left = rest;
-    }
+    put_all_settled(&mut settled, kind, &table, items)?;
     Ok(settled)
 }

@@ -1,14 +1,14 @@
 //! What a scan leaves of the listed messages.
 
 ghost use Rattle.std.specs.Prelude.{◌≡◌, ◌++◌, length, map, IfOk, OnOk};
-ghost use Rattle.folder_core.specs.Letters.{plain_letter};
-ghost use Rattle.folder_core.specs.declared.listing.Found as found;
+ghost use Rattle.folder_letters.specs.Letters.{plain_letter};
+ghost use Rattle.folder_letters.specs.declared.listing.Found as found;
 ghost use Rattle.index_items.specs.Found as spec;
 ghost use Rattle.index_items.specs.Items.{plain_item, plain_items};
 
 use crate::by_id::ById;
 use crate::item::Item;
-use folder_core::{Archive, Found, Listed};
+use folder_letters::{Archive, Found, Listed};
 use mail_base::{Flags, Id, NoMemory};
 use std::alloc::Global;
 use std::cmp::Ordering;
@@ -117,6 +117,23 @@ fn listing_order(archive: &Archive, a: &Item, b: &Item) -> Ordering
         .then(a.id.0.cmp(&b.id.0))
 }
 
+// Adds what a scan leaves of some messages.
+fn put_left(
+    alloc: Global,
+    letters: usize,
+    found: &Found,
+    items: &[Item],
+    left: &mut Vec<Item>,
+) -> Result<(), NoMemory>
+    requires { spec.IsFoundBelow letters found.now }
+    ensures { OnOk result (plain_items left.new.items
+        ≡ plain_items left.old.items ++ spec.kept_items found.now (plain_items items.now)) }
+{
+    let gone = gone_table(alloc, letters, found.gone.as_slice())?;
+    let flags = flags_table(alloc, letters, found.reflagged.as_slice())?;
+    put_all_kept(left, &gone, &flags, items)
+}
+
 // What is left of the messages, and those that came behind them.
 fn gathered(
     alloc: Global,
@@ -129,10 +146,8 @@ fn gathered(
         ≡ spec.kept_items found.now (plain_items items.now)
         ++ spec.came_items found.now.came.items) }
 {
-    let gone = gone_table(alloc, letters, found.gone.as_slice())?;
-    let flags = flags_table(alloc, letters, found.reflagged.as_slice())?;
     let mut more = Vec::with_capacity(alloc, items.len())?;
-    put_all_kept(&mut more, &gone, &flags, items)?;
+    put_left(alloc, letters, found, items, &mut more)?;
     put_came(&mut more, found.came.as_slice())?;
     Ok(more)
 }

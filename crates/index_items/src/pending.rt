@@ -15,16 +15,6 @@ pub struct Pending {
     pub deleted: bool,
 }
 
-const NO_FLAGS: Flags = Flags {
-    seen: false,
-    aged: false,
-    replied: false,
-    flagged: false,
-    passed: false,
-    draft: false,
-    trashed: false,
-};
-
 // The flags of either set.
 fn joined(a: Flags, b: Flags) -> Flags
     ensures { result ≡ spec.joined a b }
@@ -91,7 +81,7 @@ impl Pending {
         ensures { plain_pending result ≡ nothing }
     {
         Pending {
-            delta: delta_of(NO_FLAGS, NO_FLAGS),
+            delta: delta_of(Flags::NONE, Flags::NONE),
             deleted: false,
         }
     }

@@ -98,8 +98,8 @@ fn with_item(tally: Tally, item: Item) -> Tally
 {
     let flags = item.shown();
     Tally {
-        new: raised(tally.new, !flags.seen && !flags.aged),
-        old: raised(tally.old, !flags.seen && flags.aged),
+        new: raised(tally.new, flags.is_new()),
+        old: raised(tally.old, flags.is_old()),
         unread: raised(tally.unread, !flags.seen),
         deleted: raised(tally.deleted, item.pending.deleted),
         flagged: raised(tally.flagged, flags.flagged),

@@ -3,8 +3,8 @@ use Rattle.std.proofs.Common.{◌≡◌, ◌∙◌, ◌++◌, ◌∷◌, [], ◌
 use Rattle.std.proofs.Common.{map, subst, sym, slice_index_or, take}
 use Rattle.std.proofs.lemmas.List.{get_or-map, get_or-take, length-append, length-map}
 use Rattle.std.proofs.lemmas.List.{map_push, take-append-le, take_more}
-use Rattle.folder_core.specs.Letters.{Mail, plain_letter}
-use Rattle.folder_core.specs.declared.letter.Letter.{Letter}
+use Rattle.folder_letters.specs.Letters.{Mail, plain_letter}
+use Rattle.folder_letters.specs.declared.letter.Letter.{Letter}
 use Rattle.headers.specs.Header.{PlainHeader, plain_header}
 use Rattle.headers.specs.declared.header.Header.{Header}
 use Rattle.index_listed.specs.Heads.{AreHeads}

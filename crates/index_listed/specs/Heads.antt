@@ -1,7 +1,7 @@
 -- The headers of letters, which are kept.
 use Rattle.std.specs.Prelude.{◌≡◌, ◌<◌, ℕ, List, length, map, take}
 use Rattle.std.specs.List.{AllByRecursion}
-use Rattle.folder_core.specs.Letters.{Mail}
+use Rattle.folder_letters.specs.Letters.{Mail}
 use Rattle.headers.specs.Header.{PlainHeader}
 use Rattle.index_listed.specs.Listed.{header_of}
 

@@ -2,7 +2,7 @@
 use Rattle.std.specs.Prelude.{ℕ, pos, List, [], length, map}
 use Rattle.std.specs.Prelude.{drop, slice_index_or}
 use Rattle.mail_base.specs.declared.kind.Id.{Id}
-use Rattle.folder_core.specs.Letters.{Mail, plain_letter}
+use Rattle.folder_letters.specs.Letters.{Mail, plain_letter}
 use Rattle.headers.specs.Header.{PlainHeader, header, plain_header}
 use Rattle.index_listed.specs.declared.listed.Listed.{Listed}
 
@@ -16,6 +16,7 @@ pub record PlainListed : Type 0 where
 abbrev pub no_mail : Mail
 no_mail = record { order = 0; key = []; core = []; text_at = 0; received = pos 0 }
 
+-- the id that stands where there is none
 abbrev pub no_id : Id
 no_id = record { 0 = 0 }
 
@@ -27,6 +28,7 @@ mail_at mails id = slice_index_or mails id.0 no_mail
 abbrev pub text_of : Mail → List ℕ
 text_of mail = drop mail.text_at mail.core
 
+-- what the header of a letter says
 abbrev pub header_of : Mail → PlainHeader
 header_of mail = header (text_of mail)
 
@@ -60,6 +62,7 @@ size_of l = length (text_of l.mail)
 
 -- For the code alone.
 
+-- a listed message as contracts see it
 abbrev pub plain_listed : Listed → PlainListed
 plain_listed l = record {
   id = l.id;

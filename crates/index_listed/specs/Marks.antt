@@ -6,6 +6,7 @@ use Rattle.index_listed.specs.declared.mark.Mark.{Mark}
 abbrev pub no_mark : Mark
 no_mark = record { satisfies = false; is_shut = false; is_new = false; is_old = false }
 
+-- the mark of the message at a place
 abbrev pub mark_at : List Mark → ℕ → Mark
 mark_at marks p = slice_index_or marks p no_mark
 

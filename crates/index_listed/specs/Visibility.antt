@@ -5,6 +5,7 @@ use Rattle.std.specs.List.{filter, range_with_len}
 use Rattle.index_listed.specs.Entries.{at, some_below}
 use Rattle.index_listed.specs.declared.entry.Entry.{Entry}
 
+-- the message at a place satisfies the limit
 abbrev pub satisfies : List Entry → ℕ → Bool
 satisfies entries p = (at entries p).satisfies
 

@@ -1,13 +1,13 @@
 //! The headers of letters, which are kept.
 
 ghost use Rattle.std.specs.Prelude.{◌≡◌, length, map, take, IfOk, OnOk};
-ghost use Rattle.folder_core.specs.Letters.{plain_letter};
+ghost use Rattle.folder_letters.specs.Letters.{plain_letter};
 ghost use Rattle.headers.specs.Header.{plain_header};
 ghost use Rattle.index_listed.specs.Heads.{AreHeads};
 ghost use Rattle.index_listed.specs.Listed.{header_of};
 
 use crate::listed::text_of;
-use folder_core::Letter;
+use folder_letters::Letter;
 use headers::{Header, read_brief_header};
 use mail_base::NoMemory;
 use std::alloc::Global;

@@ -9,9 +9,14 @@ use std::alloc::Global;
 use std::marker::Model;
 
 /// Texts that are known, which stay where they are.
-#[derive(Drop)]
 pub struct Known<'a> {
     texts: IndexSet<&'a [u8]>,
+}
+
+impl<'a> Drop for Known<'a> {
+    fn drop(self) {
+        let Known { texts: _ } = self;
+    }
 }
 
 impl<'a> Model for Known<'a> {

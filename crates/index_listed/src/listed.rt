@@ -1,13 +1,13 @@
 //! The listed messages with their letters and headers.
 
 ghost use Rattle.std.specs.Prelude.{◌≡◌, ◌<◌, length, map, IfOk};
-ghost use Rattle.folder_core.specs.Letters.{plain_letter};
+ghost use Rattle.folder_letters.specs.Letters.{plain_letter};
 ghost use Rattle.headers.specs.Header.{plain_header};
 ghost use Rattle.index_listed.specs.Heads.{AreHeads, AreWithin};
 ghost use Rattle.index_listed.specs.Listed as spec;
 ghost use Rattle.index_listed.specs.Places.{numbers};
 
-use folder_core::Letter;
+use folder_letters::Letter;
 use headers::Header;
 use mail_base::{Id, NoMemory};
 use std::alloc::Global;

@@ -11,9 +11,14 @@ use std::alloc::Global;
 use std::marker::Model;
 
 /// Where each of some ids stands; contracts see them as their numbers.
-#[derive(Drop)]
 pub struct Places {
     numbers: IndexSet<u32>,
+}
+
+impl Drop for Places {
+    fn drop(self) {
+        let Places { numbers: _ } = self;
+    }
 }
 
 impl Model for Places {

@@ -17,7 +17,6 @@ use std::alloc::Global;
 use std::marker::Model;
 
 /// The messages in the order of the index, and what of them is seen.
-#[derive(Drop)]
 pub struct Sight {
     order: Ids,
     places: Places,
@@ -28,6 +27,21 @@ pub struct Sight {
     // Of each thread, by where its root stands, whether a message of it is new, or old and unread.
     new_threads: Vec<bool>,
     old_threads: Vec<bool>,
+}
+
+impl Drop for Sight {
+    fn drop(self) {
+        let Sight {
+            order: _,
+            places: _,
+            tree: _,
+            visible: _,
+            visible_places: _,
+            hiding: _,
+            new_threads: _,
+            old_threads: _,
+        } = self;
+    }
 }
 
 impl Model for Sight {

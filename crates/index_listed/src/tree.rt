@@ -15,13 +15,22 @@ use std::marker::Model;
 use threads::Link;
 
 /// Messages in the order of the index, and how the visible ones hang below each other.
-#[derive(Drop)]
 pub struct Tree {
     entries: Vec<Entry>,
     // The nearest visible ancestor of each message.
     nearest: Vec<Option<usize>>,
     // The last visible message that hangs below each one.
     last: Vec<usize>,
+}
+
+impl Drop for Tree {
+    fn drop(self) {
+        let Tree {
+            entries: _,
+            nearest: _,
+            last: _,
+        } = self;
+    }
 }
 
 impl Model for Tree {

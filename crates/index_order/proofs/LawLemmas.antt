@@ -9,7 +9,7 @@ use Rattle.std.specs.Option.{option_or}
 use Rattle.std.specs.Ordering.{is_lt, nat_cmp, ordering_reverse, ordering_then}
 use Rattle.std.specs.declared.cmp.Ordering.{Ordering}
 use Rattle.std.specs.declared.cmp.Ordering.TheVariants.{Less, Equal, Greater}
-use Rattle.threads.specs.Order.{in_order_by, put_by}
+use Rattle.mail_base.specs.Ordered.{in_order_by, put_by}
 use Rattle.index_order.specs.Keys.{at, key_cmp}
 use Rattle.index_order.specs.Laws.{GreatestIsGreatest}
 use Rattle.index_order.specs.Order.{is_before, last_where, leads_to, sorted}

@@ -10,7 +10,7 @@ use Rattle.std.specs.Cmp.{IsTotalOrder}
 use Rattle.std.specs.List.{range_with_len}
 use Rattle.std.specs.List.Sorted.{IsPermutation, IsSortedBy}
 use Rattle.std.specs.Ordering.{is_lt, nat_cmp}
-use Rattle.threads.proofs.SortLemmas.{NeverFalls, in_order_permutation, in_order_same, sorted_falls}
+use Rattle.mail_base.proofs.OrderedLemmas.{NeverFalls, in_order_permutation, in_order_same, sorted_falls}
 use Rattle.index_order.specs.Inner.{ArePlaced, placed_places, plain_placed}
 use Rattle.index_order.specs.Keys.{PlacedKeys, PlainKeys, at, key_cmp, no_keys}
 use Rattle.index_order.specs.Order.{id_at, is_before, sort_cmp, sorted, turned}

@@ -16,8 +16,9 @@ use Rattle.std.proofs.lemmas.List.Quantifiers.{position-Some}
 use Rattle.mail_base.specs.declared.kind.Id.{Id}
 use Rattle.threads.specs.Forest.{Ends}
 use Rattle.threads.specs.Links.{target}
-use Rattle.threads.specs.Order.{IsStrictOrder, by_id, children, in_order_by, is_child, is_root}
-use Rattle.threads.specs.Order.{put_by, roots, thread_order, tree_of}
+use Rattle.threads.specs.Order.{IsStrictOrder, by_id, children, is_child, is_root}
+use Rattle.mail_base.specs.Ordered.{in_order_by, put_by}
+use Rattle.threads.specs.Order.{roots, tree_of}
 use Rattle.threads.specs.Order as order
 use Rattle.threads.specs.Subjects.{parents}
 use Rattle.threads.specs.Threads.{PlainThreads, root_of}

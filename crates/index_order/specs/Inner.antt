@@ -19,6 +19,7 @@ use Rattle.index_order.specs.declared.options.SortOptions.{SortOptions}
 abbrev pub plain_placed : Placed → PlacedKeys
 plain_placed p = record { place = p.place; keys = p.keys.now }
 
+-- the places of these
 abbrev pub placed_places : List Placed → List ℕ
 placed_places placed = map (λ p. p.place) placed
 
@@ -105,6 +106,7 @@ abbrev pub parent_place : List ℕ → PlainThreads → Id → Option ℕ
 parent_place numbers threads id =
     option_and_then (λ p. place_in numbers p.id) (parent threads id)
 
+-- the numbers of the ids
 abbrev pub numbers : List PlainKeys → List ℕ
 numbers keys = map (λ k. k.id.0) keys
 

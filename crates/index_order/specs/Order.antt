@@ -9,7 +9,8 @@ use Rattle.std.specs.declared.cmp.Ordering.{Ordering}
 use Rattle.mail_base.specs.declared.kind.Id.{Id}
 use Rattle.threads.specs.Forest.{IsForest}
 use Rattle.threads.specs.Links.{target}
-use Rattle.threads.specs.Order.{children, in_order_by, roots, tree_of}
+use Rattle.threads.specs.Order.{children, roots, tree_of}
+use Rattle.mail_base.specs.Ordered.{in_order_by}
 use Rattle.threads.specs.Subjects.{parents}
 use Rattle.threads.specs.Threads.{PlainThreads}
 use Rattle.threads.specs.declared.step.Step.{Step}
@@ -27,6 +28,7 @@ abbrev pub sort_cmp : Bool → Sort → PlacedKeys → PlacedKeys → Ordering
 sort_cmp reverse sort a b =
     ordering_then (turned reverse (key_cmp sort a b)) (nat_cmp a.place b.place)
 
+-- the message at one place stands before that at another, by a sort
 abbrev pub is_before : Bool → Sort → List PlainKeys → ℕ → ℕ → Bool
 is_before reverse sort keys a b = is_lt (sort_cmp reverse sort (at keys a) (at keys b))
 
@@ -65,6 +67,7 @@ thread_cmp reverse options keys parent a b = ordering_then
     (at keys (key_place options keys parent a)) (at keys (key_place options keys parent b)))))
     (nat_cmp a b)
 
+-- the same among siblings or roots of threads
 abbrev pub is_thread_before : Bool → SortOptions → List PlainKeys → (ℕ → Option ℕ) → ℕ → ℕ → Bool
 is_thread_before reverse options keys parent a b =
     is_lt (thread_cmp reverse options keys parent a b)
@@ -75,6 +78,7 @@ in_threads options keys parents = flat_map (tree_of
     (children (is_thread_before false options keys (target parents)) parents) (length parents))
     (roots (is_thread_before options.reverse options keys (target parents)) parents)
 
+-- messages stand in threads
 abbrev pub is_threads : Sort → Bool
 is_threads Threads = true
 is_threads _ = false

@@ -11,9 +11,9 @@ use Rattle.std.specs.Prelude.{if◌then◌else◌}
 use Rattle.mail_base.specs.declared.flags.Flags.{Flags}
 use Rattle.mail_base.specs.declared.kind.Id.{Id}
 use Rattle.mail_base.specs.declared.kind.Kind.{Kind}
-use Rattle.folder_core.specs.Letters.{Mail}
-use Rattle.folder_core.specs.declared.change.Changed1.{Changed1}
-use Rattle.folder_core.specs.declared.listing.Found.{Found}
+use Rattle.folder_letters.specs.Letters.{Mail}
+use Rattle.folder_letters.specs.declared.change.Changed1.{Changed1}
+use Rattle.folder_letters.specs.declared.listing.Found.{Found}
 use Rattle.index_items.specs.Changes.{Alters, AreBelow, Changed, Discards, PlainChange, change_for}
 use Rattle.index_items.specs.Changes.{change_of, changed_item, changes_of, plain_changed}
 use Rattle.index_items.specs.Changes.{plain_changes, settled, settled_item}

@@ -4,9 +4,9 @@ use Rattle.std.proofs.Common.{take}
 use Rattle.std.proofs.lemmas.List.{length-map, length-take, take-map}
 use Rattle.std.proofs.lemmas.List.Elements.{All-head, All-tail}
 use Rattle.std.specs.Prelude.{OnErr, Result, Ok, Err}
-use Rattle.folder_core.specs.Letters.{Mail}
-use Rattle.folder_core.specs.declared.listing.Found.{Found}
-use Rattle.folder_core.specs.declared.listing.Listed.{Listed}
+use Rattle.folder_letters.specs.Letters.{Mail}
+use Rattle.folder_letters.specs.declared.listing.Found.{Found}
+use Rattle.folder_letters.specs.declared.listing.Listed.{Listed}
 use Rattle.headers.specs.Header.{PlainHeader, plain_header}
 use Rattle.headers.specs.declared.header.Header.{Header}
 use Rattle.index_items.specs.Found.{AreListedBelow, IsJoined, came_items}

@@ -1,6 +1,6 @@
 -- What a view answers is of its messages and of what they are judged by.
 use Rattle.std.proofs.Common.{◌≡◌, ◌∙◌, List, Option, ap, length, option_map, refl, subst, sym}
-use Rattle.folder_core.specs.Letters.{Mail}
+use Rattle.folder_letters.specs.Letters.{Mail}
 use Rattle.patterns_match.specs.declared.pattern.Pattern.{Pattern}
 use Rattle.index_items.specs.Items.{numbers}
 use Rattle.index_listed.specs.Cursor.{moved}
@@ -9,7 +9,8 @@ use Rattle.index_listed.specs.Listed.{PlainListed}
 use Rattle.index_listed.specs.Seen.{PlainSight, sight, visible_ids}
 use Rattle.index_listed.proofs.CursorLemmas.{stands_moved}
 use Rattle.index_view.specs.Answers.{PlainAnswers, picked}
-use Rattle.index_view.specs.Limit.{PlainLimit, all_within, plain_limit}
+use Rattle.index_view.specs.Limit.{all_within}
+use Rattle.patterns_match.specs.Pattern.{PlainPattern, plain_pattern}
 use Rattle.index_view.specs.Listing.{all_listed}
 use Rattle.index_view.specs.Marks.{marks_of}
 use Rattle.index_view.specs.Tables.{table}
@@ -24,7 +25,7 @@ rows_all mails v of = ap (λ (a : PlainAnswers). length a.rows) of.answered
     ∙ rows_long (all_listed mails v.items) (facts_of v)
 
 -- the messages as patterns see them are those that the view answers of
-pub picked_is : (mails : List Mail) (pattern : PlainLimit) (v : PlainView) → IsOf mails v
+pub picked_is : (mails : List Mail) (pattern : PlainPattern) (v : PlainView) → IsOf mails v
     → (ls : List PlainListed) → ls ≡ all_listed mails v.items
     → picked v.people pattern (table ls v.answers.rows v.answers.links) v.answers
     ≡ picked_of mails pattern v
@@ -42,13 +43,13 @@ limited v limit s = record v {
 -- all but what is seen is answered as before
 pub limited_turned : (mails : List Mail) (v : PlainView) (limit : Option Pattern)
     (ls : List PlainListed) (s : PlainSight) → IsOf mails v → ls ≡ all_listed mails v.items
-    → s ≡ sight (marks_of v.answers.rows (all_within v.people (option_map plain_limit limit)
+    → s ≡ sight (marks_of v.answers.rows (all_within v.people (option_map plain_pattern limit)
     (table ls v.answers.rows v.answers.links))) v.answers.sight.order v.answers.stances
     → Turned mails v (limited v limit s)
-    (record (facts_of v) { limit = option_map plain_limit limit })
+    (record (facts_of v) { limit = option_map plain_pattern limit })
 limited_turned mails v limit ls s of listed seen =
     let is = of.answered in
-    let pattern = option_map plain_limit limit in
+    let pattern = option_map plain_pattern limit in
     let seen_is = seen ∙ (λ i. sight (marks_of (is i).rows (all_within v.people pattern
     (table (listed i) (is i).rows (is i).links))) (is i).sight.order (is i).stances) in record {
       is_of = record {
@@ -74,17 +75,17 @@ limited_turned mails v limit ls s of listed seen =
 pub limit_set : (mails : List Mail) (old v new : PlainView) (given limit : Option Pattern)
     (ls : List PlainListed) (s : PlainSight) → IsOf mails old → v ≡ old → limit ≡ given
     → ls ≡ all_listed mails v.items
-    → s ≡ sight (marks_of v.answers.rows (all_within v.people (option_map plain_limit limit)
+    → s ≡ sight (marks_of v.answers.rows (all_within v.people (option_map plain_pattern limit)
     (table ls v.answers.rows v.answers.links))) v.answers.sight.order v.answers.stances
     → new ≡ limited v limit s
-    → Turned mails old new (record (facts_of old) { limit = option_map plain_limit given })
+    → Turned mails old new (record (facts_of old) { limit = option_map plain_pattern given })
 limit_set mails old v new given limit ls s of same limits listed seen is =
     subst (λ (n : PlainView). Turned mails old n
-    (record (facts_of old) { limit = option_map plain_limit given })) (sym is)
+    (record (facts_of old) { limit = option_map plain_pattern given })) (sym is)
     (subst (λ (l : Option Pattern). Turned mails old (limited v limit s)
-    (record (facts_of old) { limit = option_map plain_limit l })) limits
+    (record (facts_of old) { limit = option_map plain_pattern l })) limits
     (subst (λ (o : PlainView). Turned mails o (limited v limit s)
-    (record (facts_of o) { limit = option_map plain_limit limit })) same
+    (record (facts_of o) { limit = option_map plain_pattern limit })) same
     (limited_turned mails v limit ls s (subst (IsOf mails) (sym same) of) listed seen)))
 
 -- what is worked out from scratch for what stands there is of it

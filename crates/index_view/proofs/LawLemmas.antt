@@ -2,18 +2,18 @@
 use Rattle.std.proofs.Common.{◌≡◌, ◌∙◌, ◌+◌, ◌<◌, ◌≤◌, [], ◌∷◌, ℕ, List, ap, arith, false, length}
 use Rattle.std.proofs.Common.{map, nat_eq, subst, sym}
 use Rattle.std.proofs.lemmas.Bool.{ne_eqb}
-use Rattle.std.proofs.lemmas.List.{get_or-map, length-append, length-map}
+use Rattle.std.proofs.lemmas.List.{get_or-map, length-map}
 use Rattle.std.proofs.lemmas.List.Elements.{All-from_recursion}
 use Rattle.std.proofs.lemmas.Simd.{map-map}
 use Rattle.std.specs.List.{All, AllByRecursion, IsDistinct}
 use Rattle.mail_base.specs.declared.kind.Id.{Id}
-use Rattle.folder_core.specs.Known.{KnownFolder}
-use Rattle.folder_core.specs.Letters.{Mail}
-use Rattle.folder_core.specs.Scanned.{ListsNew, ids_from}
-use Rattle.folder_core.specs.declared.listing.Found.{Found}
-use Rattle.folder_core.specs.declared.listing.Listed.{Listed}
+use Rattle.folder_letters.specs.Letters.{Mail}
+use Rattle.folder_letters.specs.Listings.{ids_from}
+use Rattle.folder_letters.specs.declared.listing.Found.{Found}
+use Rattle.folder_letters.specs.declared.listing.Listed.{Listed}
 use Rattle.index_items.specs.Found.{came_items}
 use Rattle.index_items.specs.Items.{PlainItem, listed}
+use Rattle.index_view.specs.Laws.{AllCame}
 use Rattle.index_view.specs.View.{AreApart, MayTake}
 
 -- the numbers that go up by one, as many as there are messages
@@ -66,16 +66,13 @@ came_apart n came is = subst (IsDistinct nat_eq)
 none_there : {A : Type 0} (P : A → Type 0) (xs : List A) → xs ≡ [] → All P xs
 none_there P xs none = subst (All P) (sym none) (All-from_recursion P [] tt)
 
-pub may_take : (found : Found) (old new : List Mail) (known more : KnownFolder)
-    → ListsNew found old new known more → MayTake new [] found
-may_take found old new known more lists =
-    let came = found.came.items in
-    let long = ap length lists.archived ∙ length-append old lists.added in
-    let many = lists.each in record {
+pub may_take : (found : Found) (mails : List Mail) → AllCame found mails → MayTake mails [] found
+may_take found mails all =
+    let came = found.came.items in record {
       below = (
-        none_there (λ (id : Id). id.0 < length new) _ lists.none_gone,
-        none_there (λ (l : Listed). l.id.0 < length new) _ lists.none_reflagged,
+        none_there (λ (id : Id). id.0 < length mails) _ all.none_gone,
+        none_there (λ (l : Listed). l.id.0 < length mails) _ all.none_reflagged,
       );
-      came_below = came_below (length old) (length new) came lists.ids (omega arith);
-      apart = came_apart (length old) came lists.ids;
+      came_below = came_below all.first (length mails) came all.ids all.within;
+      apart = came_apart all.first came all.ids;
     }

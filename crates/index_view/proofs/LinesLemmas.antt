@@ -8,8 +8,8 @@ use Rattle.std.proofs.lemmas.List.Elements.{All-from_recursion}
 use Rattle.std.proofs.lemmas.List.Quantifiers.{position-Some}
 use Rattle.std.specs.List.{list_any, position_or_len}
 use Rattle.std.specs.Prelude.{is_some, position}
-use Rattle.folder_core.specs.Letters.{Mail, plain_letter}
-use Rattle.folder_core.specs.declared.letter.Letter.{Letter}
+use Rattle.folder_letters.specs.Letters.{Mail, plain_letter}
+use Rattle.folder_letters.specs.declared.letter.Letter.{Letter}
 use Rattle.headers.specs.Header.{PlainHeader}
 use Rattle.mail_base.specs.declared.kind.Id.{Id}
 use Rattle.patterns_match.specs.declared.row.Row.{Row}

@@ -15,7 +15,7 @@ use Rattle.std.specs.Prelude.{if◌then◌else◌, position, unwrap_or}
 use Rattle.std.specs.List.{IsDistinct, filter, list_all, list_any, range_with_len}
 use Rattle.std.specs.Option.{option_map_or}
 use Rattle.mail_base.specs.declared.kind.Id.{Id}
-use Rattle.folder_core.specs.Letters.{Mail}
+use Rattle.folder_letters.specs.Letters.{Mail}
 use Rattle.people.specs.People.{PlainPeople}
 use Rattle.patterns_match.specs.Listings.{Message}
 use Rattle.patterns_match.specs.declared.row.Row.{Row}
@@ -42,7 +42,8 @@ use Rattle.index_order.specs.Order.{is_threads}
 use Rattle.index_view.specs.Answers.{Facts, PlainAnswers, answers, is_open, links_of, messages_of}
 use Rattle.index_view.specs.Answers.{ordered, place_of, rows_of, scored, sight_of, stances_of}
 use Rattle.index_view.specs.Answers.{threads_of, within_of}
-use Rattle.index_view.specs.Limit.{PlainLimit, is_within}
+use Rattle.index_view.specs.Limit.{is_within}
+use Rattle.patterns_match.specs.Pattern.{PlainPattern}
 use Rattle.index_view.specs.Listing.{all_listed}
 use Rattle.index_view.specs.Marks.{mark_of, marks_of}
 use Rattle.index_view.specs.Ordering.{with_number}
@@ -59,7 +60,7 @@ use Rattle.index_view.proofs.ViewLemmas.{listed_ids}
 
 -- A limit tells the same of a message where that is the same, and others differ at most in flags,
 -- marks of deletion and tags.
-abbrev pub IsOwn : Option PlainLimit → Type 0
+abbrev pub IsOwn : Option PlainPattern → Type 0
 IsOwn limit = (people : PlainPeople) → (ms : List Message) → (ns : List Message)
     → map bare ms ≡ map bare ns → (p : ℕ) → slice_get ms p ≡ slice_get ns p
     → is_within people limit ms p ≡ is_within people limit ns p

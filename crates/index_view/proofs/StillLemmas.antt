@@ -8,7 +8,7 @@ use Rattle.std.proofs.lemmas.Simd.{map-map}
 use Rattle.std.specs.List.{range_with_len}
 use Rattle.mail_base.specs.declared.flags.Flags.{Flags}
 use Rattle.mail_base.specs.declared.kind.Id.{Id}
-use Rattle.folder_core.specs.Letters.{Mail}
+use Rattle.folder_letters.specs.Letters.{Mail}
 use Rattle.people.specs.People.{PlainPeople}
 use Rattle.patterns_match.specs.Listings.{Message}
 use Rattle.patterns_match.specs.Scores.{PlainEntry, score}
@@ -36,7 +36,8 @@ use Rattle.index_order.specs.Options.{sort_options}
 use Rattle.index_order.specs.Order.{is_threads, order}
 use Rattle.index_view.specs.Answers.{Facts, links_of, messages_of, ordered, rows_of, scored}
 use Rattle.index_view.specs.Answers.{sight_of, stances_of, threads_of, within_of}
-use Rattle.index_view.specs.Limit.{PlainLimit, all_within}
+use Rattle.index_view.specs.Limit.{all_within}
+use Rattle.patterns_match.specs.Pattern.{PlainPattern}
 use Rattle.index_view.specs.Listing.{all_listed}
 use Rattle.index_view.specs.Marks.{mark_of, marks_of}
 use Rattle.index_view.specs.Ordering.{key_at, key_of, numbered, with_number}
@@ -70,7 +71,7 @@ abbrev pub bare : Message → Message
 bare m = record m { row = bare_row m.row }
 
 -- a limit tells the same of messages that differ in these alone
-abbrev pub IsBlind : Option PlainLimit → Type 0
+abbrev pub IsBlind : Option PlainPattern → Type 0
 IsBlind limit = (people : PlainPeople) → (ms : List Message) → (ns : List Message)
     → map bare ms ≡ map bare ns → all_within people limit ms ≡ all_within people limit ns
 

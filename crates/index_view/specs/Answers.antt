@@ -25,7 +25,8 @@ use Rattle.index_order.specs.Options.{sort_options}
 use Rattle.index_order.specs.Order.{is_threads, order}
 use Rattle.index_order.specs.declared.view_options.ViewOptions.{ViewOptions}
 use Rattle.index_rows.specs.Ties.{PlainTies, ties_of}
-use Rattle.index_view.specs.Limit.{PlainLimit, all_within, passes, plain_limit}
+use Rattle.index_view.specs.Limit.{all_within, passes}
+use Rattle.patterns_match.specs.Pattern.{PlainPattern, plain_pattern}
 use Rattle.index_view.specs.Marks.{marks_of}
 use Rattle.index_view.specs.Ordering.{keys, numbered}
 use Rattle.index_view.specs.Tables.{first_rows, row_at, scored_rows, table}
@@ -39,7 +40,7 @@ pub record Facts : Type 0 where
   pub items : List PlainItem
   pub people : PlainPeople
   pub scores : List PlainEntry
-  pub limit : Option PlainLimit
+  pub limit : Option PlainPattern
 
 -- What is answered: each message's parent, links, row and ties in listing order, how the messages
 -- stand in order, and what is seen.
@@ -53,9 +54,11 @@ pub record PlainAnswers : Type 0 where
 
 -- From here on the listed messages stand there with their letters.
 
+-- the listed messages in threads
 abbrev pub threads_of : List PlainListed → Facts → PlainThreads
 threads_of ls f = threads f.options.threads ls
 
+-- what each listed message follows
 abbrev pub links_of : List PlainListed → Facts → List Links
 links_of ls f = all_links (threads_of ls f) ls
 
@@ -65,6 +68,7 @@ abbrev pub scored_by : PlainPeople → List PlainEntry → List PlainListed → 
 scored_by people entries ls items links = scored_rows people entries
     (table ls (first_rows ls items links) links) (first_rows ls items links)
 
+-- the rows of the listed messages with their scores, before they have numbers
 abbrev pub scored : List PlainListed → Facts → List Row
 scored ls f = scored_by f.people f.scores ls f.items (links_of ls f)
 
@@ -72,6 +76,7 @@ scored ls f = scored_by f.people f.scores ls f.items (links_of ls f)
 abbrev pub ordered : List PlainListed → Facts → List Id
 ordered ls f = order (sort_options f.options) (keys ls (scored ls f)) (threads_of ls f)
 
+-- the rows of the listed messages, with their numbers in the order
 abbrev pub rows_of : List PlainListed → Facts → List Row
 rows_of ls f = numbered (ordered ls f) (scored ls f)
 
@@ -79,12 +84,15 @@ rows_of ls f = numbered (ordered ls f) (scored ls f)
 abbrev pub messages_of : List PlainListed → Facts → List Message
 messages_of ls f = table ls (rows_of ls f) (links_of ls f)
 
+-- what each message is to its reader
 abbrev pub ties : List PlainListed → Facts → List PlainTies
 ties ls f = map (λ l. ties_of f.people l.header) ls
 
+-- the parent of each listed message
 abbrev pub parents_of : List PlainListed → Facts → List (Option Parent)
 parents_of ls f = parents_in (threads_of ls f) ls
 
+-- how the messages stand in the order
 abbrev pub stances_of : List PlainListed → Facts → List Stance
 stances_of ls f = stances (is_threads f.options.sort) (threads_of ls f) (ids ls) (ordered ls f)
 
@@ -92,10 +100,12 @@ stances_of ls f = stances (is_threads f.options.sort) (threads_of ls f) (ids ls)
 abbrev pub within_of : List PlainListed → Facts → List Bool
 within_of ls f = all_within f.people f.limit (messages_of ls f)
 
+-- what of the index is seen
 abbrev pub sight_of : List PlainListed → Facts → PlainSight
 sight_of ls f =
     sight (marks_of (rows_of ls f) (within_of ls f)) (ordered ls f) (stances_of ls f)
 
+-- what the index answers, worked out from scratch
 abbrev pub answers : List PlainListed → Facts → PlainAnswers
 answers ls f = record {
   parents = parents_of ls f;
@@ -106,6 +116,7 @@ answers ls f = record {
   sight = sight_of ls f;
 }
 
+-- what an index without messages answers
 abbrev pub no_answers : PlainAnswers
 no_answers = record {
   parents = [];
@@ -138,12 +149,12 @@ thread_of a id =
     option_map (λ p. (row_at a.rows (links_at a.links p).root).id) (place_of a id)
 
 -- the message with an id satisfies a pattern, of messages as patterns see them
-abbrev pub id_passes : PlainPeople → PlainLimit → List Message → PlainAnswers → Id → Bool
+abbrev pub id_passes : PlainPeople → PlainPattern → List Message → PlainAnswers → Id → Bool
 id_passes people pattern messages a id =
     option_map_or (passes people pattern messages) (place_of a id) false
 
 -- the ids that are seen and satisfy a pattern, in order
-abbrev pub picked : PlainPeople → PlainLimit → List Message → PlainAnswers → List Id
+abbrev pub picked : PlainPeople → PlainPattern → List Message → PlainAnswers → List Id
 picked people pattern messages a =
     filter (id_passes people pattern messages a) (visible_ids a.sight)
 
@@ -156,7 +167,7 @@ facts options items tables = record {
   items = plain_items items;
   people = tables.people;
   scores = held_entries tables.scores.entries.items;
-  limit = option_map plain_limit tables.limit;
+  limit = option_map plain_pattern tables.limit;
 }
 
 -- messages with their numbers, their ids in order, and how they stand there

@@ -5,7 +5,7 @@ use Rattle.std.specs.Prelude.{Option, Some, None, option_and_then, option_map, u
 use Rattle.std.specs.Prelude.{if◌then◌else◌}
 use Rattle.mail_base.specs.declared.kind.Id.{Id}
 use Rattle.expando.specs.Formats.{PlainPiece}
-use Rattle.folder_core.specs.Letters.{Mail}
+use Rattle.folder_letters.specs.Letters.{Mail}
 use Rattle.headers.specs.Header.{PlainHeader}
 use Rattle.patterns_match.specs.declared.row.Row.{Row}
 use Rattle.index_listed.specs.Listed.{header_of, mail_at, no_mail, text_of}
@@ -77,6 +77,7 @@ entry_with header raw tree v style id place = entry_of (row_at v.answers.rows pl
     (length v.answers.rows) (hidden_by v.answers.sight id)
     (slice_index_or v.answers.ties place no_ties) header raw tree style
 
+-- what the row of a message shows
 abbrev pub entry : List Mail → PlainView → PlainStyle → Id → ℕ → PlainEntry
 entry mails v style id place = entry_with (header_of (mail_at mails id))
     (text_of (mail_at mails id)) (tree_line v.answers.sight id) v style id place
@@ -111,8 +112,10 @@ lines mails v style rows cols = map (marked_line mails v style cols) (page rows 
 
 -- For the code alone.
 
+-- the header of the letter of an id
 abbrev pub head_at : List PlainHeader → Id → PlainHeader
 head_at heads id = slice_index_or heads id.0 (header_of no_mail)
 
+-- how rows are made, as contracts see it
 abbrev pub plain_style : Style → PlainStyle
 plain_style s = record { format = s.format.now; to_chars = s.to_chars.now; offset = s.offset }

@@ -1,6 +1,6 @@
 -- The listed messages with their letters.
 use Rattle.std.specs.Prelude.{List}
-use Rattle.folder_core.specs.Letters.{Mail}
+use Rattle.folder_letters.specs.Letters.{Mail}
 use Rattle.index_items.specs.Items.{PlainItem, ids_of}
 use Rattle.index_listed.specs.Listed.{PlainListed, all_listed as with_letters}
 

@@ -1,23 +1,18 @@
 -- What decides how the listed messages are seen.
-use Rattle.std.specs.Prelude.{◌&&◌, ℕ, Bool, true, false, not, List, length, map, slice_index_or}
-use Rattle.std.specs.Bool.{beq}
+use Rattle.std.specs.Prelude.{ℕ, Bool, false, List, length, map, slice_index_or}
 use Rattle.std.specs.List.{range_with_len}
-use Rattle.mail_base.specs.declared.flags.Flags.{Flags}
+use Rattle.mail_base.specs.Flags as flags
 use Rattle.patterns_match.specs.declared.row.Row.{Row}
 use Rattle.index_listed.specs.declared.mark.Mark.{Mark}
 use Rattle.index_view.specs.Tables.{row_at}
-
--- flags of an unread message that is old, or is not
-abbrev pub is_unread : Bool → Flags → Bool
-is_unread old f = not f.seen && beq f.aged old
 
 -- the mark of the message at a place, by the rows and by which messages satisfy the limit
 abbrev pub mark_of : List Row → List Bool → ℕ → Mark
 mark_of rows within p = record {
   satisfies = slice_index_or within p false;
   is_shut = (row_at rows p).collapsed;
-  is_new = is_unread false (row_at rows p).flags;
-  is_old = is_unread true (row_at rows p).flags;
+  is_new = flags.is_new (row_at rows p).flags;
+  is_old = flags.is_old (row_at rows p).flags;
 }
 
 -- the marks of the messages

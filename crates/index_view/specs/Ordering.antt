@@ -13,6 +13,7 @@ use Rattle.index_view.specs.Tables.{row_at}
 abbrev pub key_of : PlainListed → ℕ → PlainKeys
 key_of l score = keys_of l.id l.mail.received score (size_of l) l.header
 
+-- what the message at a place is sorted by
 abbrev pub key_at : List PlainListed → List Row → ℕ → PlainKeys
 key_at ls rows p = key_of (at ls p) (row_at rows p).score
 

@@ -17,9 +17,11 @@ use Rattle.index_view.specs.declared.asked.Asked.{Asked}
 abbrev pub no_item : PlainItem
 no_item = item_of no_id no_flags
 
+-- the listed message at a place
 abbrev pub item_at : List PlainItem → ℕ → PlainItem
 item_at items p = slice_index_or items p no_item
 
+-- the row that stands where there is none
 abbrev pub no_row : Row
 no_row = record {
   id = no_id;
@@ -33,6 +35,7 @@ no_row = record {
   size = 0;
 }
 
+-- the row at a place
 abbrev pub row_at : List Row → ℕ → Row
 row_at rows p = slice_index_or rows p no_row
 
@@ -54,6 +57,7 @@ first_row l i collapsed = record {
 abbrev pub in_shut : List PlainItem → List Links → ℕ → Bool
 in_shut items links p = (item_at items (links_at links p).root).shut
 
+-- the row of the message at a place before it has a score and a number
 abbrev pub first_row_at : List PlainListed → List PlainItem → List Links → ℕ → Row
 first_row_at ls items links p = first_row (at ls p) (item_at items p) (in_shut items links p)
 
@@ -72,6 +76,7 @@ message l row links = record {
   duplicate = links.duplicate;
 }
 
+-- the message at a place as patterns see it
 abbrev pub message_at : List PlainListed → List Row → List Links → ℕ → Message
 message_at ls rows links p = message (at ls p) (row_at rows p) (links_at links p)
 

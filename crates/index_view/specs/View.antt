@@ -5,8 +5,8 @@ use Rattle.std.specs.Prelude.{if◌then◌else◌}
 use Rattle.std.specs.List.{IsDistinct, list_any}
 use Rattle.std.specs.Option.{option_or}
 use Rattle.mail_base.specs.declared.kind.Id.{Id}
-use Rattle.folder_core.specs.Letters.{Mail}
-use Rattle.folder_core.specs.declared.listing.Found.{Found}
+use Rattle.folder_letters.specs.Letters.{Mail}
+use Rattle.folder_letters.specs.declared.listing.Found.{Found}
 use Rattle.headers.specs.Header.{PlainHeader}
 use Rattle.patterns_match.specs.Listings.{Message}
 use Rattle.patterns_match.specs.ScoreEntries.{held_entries}
@@ -20,7 +20,7 @@ use Rattle.index_listed.specs.Heads.{AreHeads, AreWithin}
 use Rattle.index_listed.specs.Seen.{visible_ids}
 use Rattle.index_order.specs.declared.view_options.ViewOptions.{ViewOptions}
 use Rattle.index_view.specs.Answers.{Facts, PlainAnswers, answers, messages_of, no_answers, picked}
-use Rattle.index_view.specs.Limit.{PlainLimit, plain_limit}
+use Rattle.patterns_match.specs.Pattern.{PlainPattern, plain_pattern}
 use Rattle.index_view.specs.Listing.{all_listed}
 
 -- What a view was given, the headers of the letters that it knows, what it answers, the cursor, and
@@ -43,7 +43,7 @@ facts_of v = record {
   items = v.items;
   people = v.people;
   scores = held_entries v.scores;
-  limit = option_map plain_limit v.limit;
+  limit = option_map plain_pattern v.limit;
 }
 
 -- the ids that are seen, in order
@@ -132,7 +132,7 @@ first_view options people scores = record {
 }
 
 -- the ids that are seen and satisfy a pattern, in order
-abbrev pub picked_of : List Mail → PlainLimit → PlainView → List Id
+abbrev pub picked_of : List Mail → PlainPattern → PlainView → List Id
 picked_of mails pattern v = picked v.people pattern (messages_over mails (facts_of v)) v.answers
 
 -- a view whose cursor went to a message, where that is seen

@@ -1,6 +1,6 @@
 //! What the index answers, worked out from scratch.
 
-ghost use Rattle.std.specs.Prelude.{◌≡◌, ◌<◌, length, map, nat_eq, option_map, IfOk};
+ghost use Rattle.std.specs.Prelude.{◌≡◌, ◌<◌, length, map, nat_eq, option_map, true, IfOk};
 ghost use Rattle.std.specs.List.{IsDistinct};
 ghost use Rattle.index_items.specs.Items.{plain_items};
 ghost use Rattle.index_listed.specs.Listed.{plain_listed};
@@ -9,13 +9,18 @@ ghost use Rattle.index_listed.specs.Seen.{sight};
 ghost use Rattle.index_listed.specs.Sight.{AreFirst};
 ghost use Rattle.index_listed.specs.Threaded.{AreThreaded};
 ghost use Rattle.index_listed.specs.Threading as threading;
+ghost use Rattle.index_order.specs.Options.{sort_options};
+ghost use Rattle.index_order.specs.Order as ordering;
 ghost use Rattle.index_rows.specs.Ties.{plain_ties, ties_of};
 ghost use Rattle.index_view.specs.Answers as spec;
-ghost use Rattle.index_view.specs.Limit.{all_within, plain_limit};
+ghost use Rattle.index_view.specs.Limit.{all_within};
+ghost use Rattle.patterns_match.specs.Pattern.{plain_pattern};
 ghost use Rattle.index_view.specs.Lines.{shut_at as hidden_at};
 ghost use Rattle.index_view.specs.Marks.{marks_of};
+ghost use Rattle.index_view.specs.Ordering.{keys};
 ghost use Rattle.index_view.specs.Tables.{table};
 ghost use Rattle.patterns_match.specs.ScoreEntries.{held_entries};
+ghost use Rattle.threads.specs.Order.{ParentsFirst};
 
 use crate::asked::{Messages, messages_of};
 use crate::limiting::all_within;
@@ -103,6 +108,30 @@ fn scored(
     )
 }
 
+// The ids of the messages in the order of the index.
+fn order_of(
+    alloc: Global,
+    options: ViewOptions,
+    listed: &[Listed<'_>],
+    scored: &[Row],
+    threaded: &Threaded,
+) -> Result<Ids, NoMemory>
+    requires rows { length scored.now ≡ length listed.now }
+    requires apart { threading.AreApart (map plain_listed listed.now) }
+    requires threaded { AreThreaded options.threads (map plain_listed listed.now)
+        threaded.now }
+    ensures order { IfOk result (λ ids. ids.items ≡ ordering.order
+        (sort_options options) (keys (map plain_listed listed.now) scored.now)
+        threaded.now.threads) }
+    ensures apart { IfOk result (λ ids. IsDistinct nat_eq (numbers ids.items)) }
+    ensures first { ordering.is_threads options.sort ≡ true
+        → IfOk result (λ ids. ParentsFirst threaded.now.threads ids.items) }
+{
+    let keys = keys(alloc, listed, scored)?;
+    let order = order(alloc, &keys, &threaded.threads, options.sorting())?;
+    Ok(order)
+}
+
 fn in_order(
     alloc: Global,
     options: ViewOptions,
@@ -120,8 +149,7 @@ fn in_order(
     ensures same { tables.new ≡ tables.old }
 {
     let scored = scored(alloc, tables, items, listed, &threaded.links)?;
-    let keys = keys(alloc, listed, &scored)?;
-    let order = order(alloc, &keys, &threaded.threads, options.sorting())?;
+    let order = order_of(alloc, options, listed, &scored, threaded)?;
     let Threaded {
         threads,
         places,
@@ -174,7 +202,7 @@ fn sight_of(
     requires stances { length stances.now ≡ length order.items }
     requires first { AreFirst stances.now }
     ensures value { IfOk result (λ s. s ≡ sight (marks_of rows.now
-        (all_within tables.old.people (option_map plain_limit tables.old.limit)
+        (all_within tables.old.people (option_map plain_pattern tables.old.limit)
         (table (map plain_listed listed.now) rows.now links.now))) order.items stances.now) }
     ensures same { tables.new ≡ tables.old }
 {
@@ -206,7 +234,8 @@ impl Answers {
     ghost use Rattle.index_listed.specs.Threading as threading;
     ghost use Rattle.index_rows.specs.Ties.{plain_ties};
     ghost use Rattle.index_view.specs.Answers as spec;
-    ghost use Rattle.index_view.specs.Limit.{all_within, plain_limit};
+    ghost use Rattle.index_view.specs.Limit.{all_within};
+    ghost use Rattle.patterns_match.specs.Pattern.{plain_pattern};
     ghost use Rattle.index_view.specs.Lines.{hidden_by, no_ties};
     ghost use Rattle.index_view.specs.Marks.{marks_of};
     ghost use Rattle.index_view.specs.Tables.{seen, table};
@@ -240,6 +269,7 @@ impl Answers {
             (spec.facts options items.now tables.old)) }
         ensures same { tables.new ≡ tables.old }
     {
+        let ties = all_ties(alloc, &mut tables.people, listed)?;
         let threaded = in_threads(alloc, options.threads, listed)?;
         let ranked = in_order(alloc, options, tables, items, listed, &threaded)?;
         let Threaded {
@@ -253,14 +283,15 @@ impl Answers {
             order,
             stances,
         } = ranked;
+        let sight = sight_of(alloc, tables, listed, &links, &rows, order, &stances)?;
         Ok(Answers {
             places,
             parents,
-            ties: all_ties(alloc, &mut tables.people, listed)?,
-            sight: sight_of(alloc, tables, listed, &links, &rows, order, &stances)?,
             links,
             rows,
+            ties,
             stances,
+            sight,
         })
     }
 
@@ -273,7 +304,7 @@ impl Answers {
     ) -> Result<Sight, NoMemory>
         requires { length self.now.rows ≡ length listed.now }
         ensures value { IfOk result (λ s. s ≡ sight (marks_of self.now.rows
-            (all_within tables.old.people (option_map plain_limit tables.old.limit)
+            (all_within tables.old.people (option_map plain_pattern tables.old.limit)
             (table (map plain_listed listed.now) self.now.rows self.now.links)))
             self.now.sight.order self.now.stances) }
         ensures same { tables.new ≡ tables.old }
@@ -373,7 +404,7 @@ impl Answers {
     ) -> Result<bool, NoMemory>
         requires { length messages.now.asked.items ≡ length self.now.rows }
         ensures value { IfOk result (λ passed. passed ≡ spec.id_passes people.old
-            (plain_limit pattern.old) (map seen messages.now.asked.items) self.now id) }
+            (plain_pattern pattern.old) (map seen messages.now.asked.items) self.now id) }
         ensures same { (pattern.new ≡ pattern.old) × (people.new ≡ people.old) }
     {
         match self.place(id) {
@@ -392,7 +423,7 @@ impl Answers {
     ) -> Result<Ids, NoMemory>
         requires { length self.now.rows ≡ length listed.now }
         ensures value { IfOk result (λ ids. ids.items ≡ spec.picked people.old
-            (plain_limit pattern.old)
+            (plain_pattern pattern.old)
             (table (map plain_listed listed.now) self.now.rows self.now.links) self.now) }
         ensures same { (pattern.new ≡ pattern.old) × (people.new ≡ people.old) }
     {

@@ -1,7 +1,7 @@
 //! What a view answers.
 
 use crate::view::{View, all_listed};
-use folder_core::{Archive, Changes};
+use folder_letters::{Archive, Changes};
 use index_items::{Tally, changes};
 use index_order::ViewOptions;
 use mail_base::{Id, Ids, Kind, NoMemory};
@@ -13,13 +13,13 @@ impl View {
     ghost use Rattle.std.specs.Prelude.{◌≡◌, [], None, List, is_some, length, map, true, IfOk};
     ghost use Rattle.std.specs.Prelude.{IfSome, nat_eq, option_map};
     ghost use Rattle.std.specs.List.{IsDistinct};
-    ghost use Rattle.folder_core.specs.Letters.{Mail, plain_letter};
+    ghost use Rattle.folder_letters.specs.Letters.{Mail, plain_letter};
     ghost use Rattle.index_items.specs.Changes.{AreBelow, changes_of, plain_changes};
     ghost use Rattle.index_items.specs.Tally.{tally_of};
     ghost use Rattle.index_listed.specs.Cursor.{is_seen};
     ghost use Rattle.index_listed.specs.Places.{numbers};
     ghost use Rattle.index_view.specs.Answers as answers;
-    ghost use Rattle.index_view.specs.Limit.{plain_limit};
+    ghost use Rattle.patterns_match.specs.Pattern.{plain_pattern};
     ghost use Rattle.index_view.specs.View as spec;
 
     /// Moves the cursor to a message, and answers whether it is seen; where it is not, the cursor
@@ -133,7 +133,7 @@ impl View {
     ) -> Result<Ids, NoMemory>
         requires { spec.IsOf (map plain_letter archive.now.items) self.old }
         ensures value { IfOk result (λ ids. ids.items
-            ≡ spec.picked_of (map plain_letter archive.now.items) (plain_limit pattern.old)
+            ≡ spec.picked_of (map plain_letter archive.now.items) (plain_pattern pattern.old)
             self.old) }
         ensures same { (self.new ≡ self.old) × (pattern.new ≡ pattern.old) }
     {

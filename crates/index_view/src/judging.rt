@@ -1,7 +1,7 @@
 //! How a view's tables of people, aliases and scores change.
 
 use crate::view::{View, answers_over};
-use folder_core::Archive;
+use folder_letters::Archive;
 use index_items::keep;
 use mail_base::{Bytes, NoMemory};
 use patterns_match::{Pattern, ScoreError, Scores};
@@ -10,7 +10,7 @@ use people::{Expr, PeopleTable};
 impl View {
     ghost use Rattle.std.specs.Prelude.{◌≡◌, ◌++◌, ◌∷◌, [], List, length, map, option_map, OnErr};
     ghost use Rattle.std.specs.Prelude.{OnOk};
-    ghost use Rattle.folder_core.specs.Letters.{Mail, plain_letter};
+    ghost use Rattle.folder_letters.specs.Letters.{Mail, plain_letter};
     ghost use Rattle.index_items.specs.Items.{numbers};
     ghost use Rattle.index_items.specs.Kept.{kept};
     ghost use Rattle.index_listed.specs.Heads.{AreHeads, AreWithin};

@@ -3,6 +3,7 @@
 ghost use Rattle.std.specs.Prelude.{◌≡◌, ◌<◌, length, map, option_map, IfOk};
 ghost use Rattle.index_view.specs.Limit as spec;
 ghost use Rattle.index_view.specs.Tables.{seen};
+ghost use Rattle.patterns_match.specs.Pattern.{plain_pattern};
 
 use crate::asked::Messages;
 use mail_base::NoMemory;
@@ -20,7 +21,7 @@ fn is_within(
 ) -> Result<bool, NoMemory>
     requires { place < length messages.now.asked.items }
     ensures value { IfOk result (λ within. within ≡ spec.is_within people.old
-        (option_map spec.plain_limit limit.old) (map seen messages.now.asked.items) place) }
+        (option_map plain_pattern limit.old) (map seen messages.now.asked.items) place) }
     ensures same { (limit.new ≡ limit.old) × (people.new ≡ people.old) }
 {
     match limit {
@@ -37,7 +38,7 @@ pub fn all_within(
     messages: &Messages<'_>,
 ) -> Result<Vec<bool>, NoMemory>
     ensures value { IfOk result (λ within. within.items ≡ spec.all_within people.old
-        (option_map spec.plain_limit limit.old) (map seen messages.now.asked.items)) }
+        (option_map plain_pattern limit.old) (map seen messages.now.asked.items)) }
     ensures same { (limit.new ≡ limit.old) × (people.new ≡ people.old) }
 {
     let mut within = Vec::with_capacity(alloc, messages.asked.len())?;

@@ -2,7 +2,7 @@
 
 use crate::view::View;
 use expando::Format;
-use folder_core::Archive;
+use folder_letters::Archive;
 use index_listed::{cursor_mark, put_blanks, text_of};
 use index_rows::{Entry, index_row};
 use mail_base::{Id, Line, Lines, NoMemory};
@@ -20,7 +20,7 @@ pub struct Style<'a> {
 impl View {
     ghost use Rattle.std.specs.Prelude.{◌≡◌, ◌≤◌, ◌<◌, ◌++◌, is_some, length, map, option_map};
     ghost use Rattle.std.specs.Prelude.{IfOk, OnOk};
-    ghost use Rattle.folder_core.specs.Letters.{plain_letter};
+    ghost use Rattle.folder_letters.specs.Letters.{plain_letter};
     ghost use Rattle.index_rows.specs.Entry.{plain_entry};
     ghost use Rattle.index_view.specs.Lines as spec;
     ghost use Rattle.index_view.specs.View.{IsOf, is_listed};

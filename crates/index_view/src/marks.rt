@@ -4,16 +4,9 @@ ghost use Rattle.std.specs.Prelude.{◌≡◌, ◌<◌, length, IfOk};
 ghost use Rattle.index_view.specs.Marks as spec;
 
 use index_listed::Mark;
-use mail_base::{Flags, NoMemory};
+use mail_base::NoMemory;
 use patterns_match::Row;
 use std::alloc::Global;
-
-// Whether flags are those of an unread message that is old, or is not.
-fn is_unread(old: bool, flags: Flags) -> bool
-    ensures { result ≡ spec.is_unread old flags }
-{
-    !flags.seen && flags.aged == old
-}
 
 fn mark_of(rows: &[Row], within: &[bool], place: usize) -> Mark
     requires { place < length rows.now }
@@ -23,8 +16,8 @@ fn mark_of(rows: &[Row], within: &[bool], place: usize) -> Mark
     Mark {
         satisfies: within.get(place).copied().unwrap_or(false),
         is_shut: row.collapsed,
-        is_new: is_unread(false, row.flags),
-        is_old: is_unread(true, row.flags),
+        is_new: row.flags.is_new(),
+        is_old: row.flags.is_old(),
     }
 }
 

@@ -1,7 +1,7 @@
 //! A view of a folder's listed messages.
 
 ghost use Rattle.std.specs.Prelude.{◌≡◌, length, map, IfOk};
-ghost use Rattle.folder_core.specs.Letters.{plain_letter};
+ghost use Rattle.folder_letters.specs.Letters.{plain_letter};
 ghost use Rattle.headers.specs.Header.{plain_header};
 ghost use Rattle.index_items.specs.Items.{numbers, plain_items};
 ghost use Rattle.index_listed.specs.Heads.{AreHeads, AreWithin};
@@ -13,7 +13,7 @@ ghost use Rattle.index_view.specs.View as spec;
 use crate::answers::Answers;
 use crate::shutting::all_shut;
 use crate::tables::Tables;
-use folder_core::{Archive, Changes, Found, Letter};
+use folder_letters::{Archive, Changes, Found, Letter};
 use headers::Header;
 use index_items::{Act, Alteration, Item, Items, altered, ids_of, joined, settled};
 use index_listed::{Listed, all_listed as with_letters, moved, moved_by_shutting, read_heads};
@@ -28,7 +28,6 @@ use std::marker::Model;
 /// and in order, what of them is seen under a limit and shut threads, and where the cursor stands.
 /// Each call that changes something works all out from scratch beside what stands; one that is
 /// refused leaves all as before.
-#[derive(Drop)]
 pub struct View {
     pub(crate) alloc: Global,
     pub(crate) options: ViewOptions,
@@ -59,6 +58,21 @@ impl Model for View {
       cursor = v.cursor;
       aliases = v.aliases.aliases;
     } };
+}
+
+impl Drop for View {
+    fn drop(self) {
+        let View {
+            alloc: _,
+            options: _,
+            tables: _,
+            aliases: _,
+            items: _,
+            heads: _,
+            answers: _,
+            cursor: _,
+        } = self;
+    }
 }
 
 /// The messages with the letters of their ids.
@@ -100,13 +114,13 @@ pub fn answers_over(
 
 impl View {
     ghost use Rattle.std.specs.Prelude.{◌≡◌, List, length, map, option_map, IfOk, OnErr, OnOk};
-    ghost use Rattle.folder_core.specs.Letters.{Mail, plain_letter};
+    ghost use Rattle.folder_letters.specs.Letters.{Mail, plain_letter};
     ghost use Rattle.index_items.specs.Acts.{acted_all};
     ghost use Rattle.index_items.specs.Alteration as it;
     ghost use Rattle.index_items.specs.Changes.{AreBelow, plain_changes, settled as left_by};
     ghost use Rattle.index_items.specs.Items.{numbers, plain_items};
     ghost use Rattle.index_listed.specs.Heads.{AreHeads, AreWithin};
-    ghost use Rattle.index_view.specs.Limit.{plain_limit};
+    ghost use Rattle.patterns_match.specs.Pattern.{plain_pattern};
     ghost use Rattle.index_view.specs.Shutting.{all_shut as all_threads_shut};
     ghost use Rattle.index_view.specs.View as spec;
 
@@ -221,7 +235,7 @@ impl View {
     pub fn set_limit(&mut self, archive: &Archive, limit: Option<Pattern>) -> Result<(), NoMemory>
         requires { spec.IsOf (map plain_letter archive.now.items) self.old }
         ensures ok { OnOk result (spec.Turned (map plain_letter archive.now.items) self.old self.new
-            (record (spec.facts_of self.old) { limit = option_map plain_limit limit })) }
+            (record (spec.facts_of self.old) { limit = option_map plain_pattern limit })) }
         ensures err { OnErr result (self.new ≡ self.old) }
     {
         let letters = archive.as_slice();

@@ -17,6 +17,7 @@ pub data PlainAction : Type 0 where
   Run : Function → PlainAction
   Replace : List Key → PlainAction
 
+-- what keys do, without the room of a text
 abbrev pub plain_action : Action → PlainAction
 plain_action (action.Run function) = Run function
 plain_action (action.Replace text) = Replace text.items
@@ -26,6 +27,7 @@ pub record Binding : Type 0 where
   pub keys : List Key
   pub action : PlainAction
 
+-- a sequence that is bound to this
 abbrev pub binding : List Key → PlainAction → Binding
 binding keys action = record { keys = keys; action = action }
 
@@ -55,6 +57,7 @@ pub data Found : Type 0 where
   Begun : Found
   Unbound : Found
 
+-- what keys are, by what they are bound to and whether a sequence begins with them
 abbrev pub found_by : Option PlainAction → Bool → Found
 found_by (Some action) begun = Bound action
 found_by None true = Begun
@@ -64,6 +67,7 @@ found_by None false = Unbound
 abbrev pub found : List Binding → List Key → Found
 found bindings keys = found_by (action_of bindings keys) (is_begun bindings keys)
 
+-- what was found, as contracts see it
 abbrev pub plain_found : FoundKeys → Found
 plain_found (found_keys.Bound action) = Bound (plain_action action.now)
 plain_found found_keys.Begun = Begun
@@ -71,6 +75,7 @@ plain_found found_keys.Unbound = Unbound
 
 -- For the code alone.
 
+-- an entry of the map of bindings
 abbrev pub plain_binding : Vec Key Global × Action → Binding
 plain_binding e = binding e.0.items (plain_action e.1)
 

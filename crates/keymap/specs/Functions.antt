@@ -33,9 +33,11 @@ use Rattle.keymap.specs.declared.function.Function.TheVariants.{Bottom, ToggleQu
 abbrev pub MenuKeys : Type 0
 MenuKeys = Option (List ℕ)
 
+-- the default keys that a menu has
 abbrev pub keys : String → MenuKeys
 keys words = Some (codes words)
 
+-- the menu lacks the function
 abbrev pub lacks : MenuKeys
 lacks = None
 
@@ -46,6 +48,7 @@ pub record Line : Type 0 where
   pub pager : MenuKeys
   pub attach : MenuKeys
 
+-- a line of a name and such keys
 abbrev pub line : String → MenuKeys → MenuKeys → MenuKeys → Line
 line name index pager attach =
     record { name = codes name; index = index; pager = pager; attach = attach }
@@ -115,6 +118,7 @@ pub record TableRow : Type 0 where
   pub pager : MenuKeys
   pub attach : MenuKeys
 
+-- the row of a function and a line
 abbrev pub row : Function → Line → TableRow
 row function l = record {
   name = l.name;
@@ -124,6 +128,7 @@ row function l = record {
   attach = l.attach;
 }
 
+-- the row of a function
 abbrev pub row_of : Function → TableRow
 row_of function = row function (line_of function)
 
@@ -140,6 +145,7 @@ functions =
     RecallMessage ∷ EnterCommand ∷ ToggleWrite ∷ SyncMailbox ∷ Quit ∷ Exit ∷ Noop ∷ NextLine ∷
     PreviousLine ∷ Top ∷ Bottom ∷ ToggleQuoted ∷ []
 
+-- the rows of all functions, in order
 abbrev pub rows : List TableRow
 rows = map row_of functions
 
@@ -208,6 +214,7 @@ row_named name = find (λ r. bytes_eq r.name name) rows
 abbrev pub function_named : List ℕ → Option Function
 function_named name = option_map (λ r. r.function) (row_named name)
 
+-- a row of the table in the code
 abbrev pub plain_row : Row → TableRow
 plain_row r = row r.1 (record {
   name = r.0.now;

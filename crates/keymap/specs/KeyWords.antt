@@ -17,6 +17,7 @@ pub record NamedKey : Type 0 where
   pub name : List ℕ
   pub key : Key
 
+-- a name of a key
 abbrev pub named : List ℕ → Key → NamedKey
 named name key = record { name = name; key = key }
 
@@ -44,6 +45,7 @@ key_names =
     named (codes "<Space>") (Char 32) ∷
     named (codes "<BackSpace>") (Char 127) ∷ []
 
+-- a line of the table of names in the code
 abbrev pub plain_name : KeyName → NamedKey
 plain_name n = named n.0.now n.1
 

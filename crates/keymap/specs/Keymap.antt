@@ -23,6 +23,7 @@ pub record IsSequence (keys : List Key) : Type 0 where
   pub some : 1 ≤ length keys
   pub few : length keys ≤ 8
 
+-- the bindings of a menu
 abbrev pub bindings_of : PlainKeymap → Menu → List Binding
 bindings_of map Index = map.index
 bindings_of map Pager = map.pager
@@ -55,6 +56,7 @@ found_in map menu keys = or_generic menu (found (bindings_of map menu) keys)
 abbrev pub one_word : List ℕ → Piece (List ℕ)
 one_word text = record { value = first_word text; more = length (first_word text) }
 
+-- the bindings with a word of keys bound to a function
 abbrev pub bound_word : Function → List Binding → List ℕ → List Binding
 bound_word function bindings word = bound bindings (word_keys false word) (Run function)
 
@@ -64,6 +66,7 @@ bound_keys function bindings None = bindings
 bound_keys function bindings (Some text) = fold (bound_word function) bindings
     (pieces one_word text)
 
+-- the bindings with the default keys of a function in each menu
 abbrev pub with_row : PlainKeymap → TableRow → PlainKeymap
 with_row map r = record map {
   index = bound_keys r.function map.index r.index;
@@ -71,6 +74,7 @@ with_row map r = record map {
   attach = bound_keys r.function map.attach r.attach;
 }
 
+-- nothing is bound
 abbrev pub no_bindings : PlainKeymap
 no_bindings = record { index = []; pager = []; attach = []; generic = []; begun = [] }
 

@@ -32,5 +32,6 @@ one_char text = record {
   more = (decoded text).size - 1;
 }
 
+-- a key that was read, as contracts see it
 abbrev pub plain_piece : KeyPiece → Piece Key
 plain_piece p = record { value = p.key; more = p.more }

@@ -103,11 +103,13 @@ pub record Presses (press : Press) (menu : Menu) (map map' : PlainKeymap)
 
 -- For the code alone.
 
+-- what keys came to, behind a walk over a queue
 abbrev pub plain_reached : ReachedKeys → Walk → PlainQueue → Reached
 plain_reached (reached_keys.Answer press) walk queue = Answered press walk.begun.items
     (waiting_on walk queue)
 plain_reached (reached_keys.Text text) walk queue = Replaced text.now.items (waiting_on walk queue)
 
+-- an answer behind a walk over a queue
 abbrev pub pressed_on : Press → Walk → PlainQueue → Pressed
 pressed_on press walk queue = record {
   press = press;
@@ -116,6 +118,7 @@ pressed_on press walk queue = record {
   replaced = walk.ahead.replaced;
 }
 
+-- what ended a sequence, as contracts see it
 abbrev pub plain_answer : ReachedKeys → Ended
 plain_answer (reached_keys.Answer press) = Answer press
 plain_answer (reached_keys.Text text) = Text text.now.items

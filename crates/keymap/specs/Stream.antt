@@ -16,6 +16,7 @@ pub record Sent : Type 0 where
   pub text : List ℕ
   pub key : Key
 
+-- the bytes of a key
 abbrev pub sent : List ℕ → Key → Sent
 sent text key = record { text = text; key = key }
 
@@ -37,6 +38,7 @@ forms =
     sent (codes "\u{1b}OR") F3 ∷
     sent (codes "\u{1b}OS") F4 ∷ []
 
+-- a line of the table of forms in the code
 abbrev pub plain_form : Form → Sent
 plain_form f = sent f.0.now f.1
 

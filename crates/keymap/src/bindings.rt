@@ -30,7 +30,6 @@ pub enum Found<'a> {
 
 /// Bindings, which contracts see as a list, each sequence once. Beside what is bound stands each
 /// beginning of a bound sequence, so that a look-up takes no longer where there are more bindings.
-#[derive(Drop)]
 pub struct Bindings {
     actions: IndexMap<Vec<Key>, Action>,
     fronts: IndexSet<Vec<Key>>,
@@ -47,6 +46,15 @@ impl Model for Bindings {
 
     ghost invariant = { λ b. (keys : List Key) → is_among b.fronts.keys keys
         ≡ is_begun (map plain_binding b.actions.entries) keys };
+}
+
+impl Drop for Bindings {
+    fn drop(self) {
+        let Bindings {
+            actions: _,
+            fronts: _,
+        } = self;
+    }
 }
 
 impl Bindings {

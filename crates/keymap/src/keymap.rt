@@ -17,7 +17,6 @@ use std::alloc::Global;
 use std::marker::Model;
 
 /// The bindings of all menus, with the keys of a begun sequence.
-#[derive(Drop)]
 pub struct Keymap {
     pub(crate) alloc: Global,
     index: Bindings,
@@ -39,6 +38,19 @@ impl Model for Keymap {
       generic = k.generic;
       begun = k.begun.items;
     } };
+}
+
+impl Drop for Keymap {
+    fn drop(self) {
+        let Keymap {
+            alloc: _,
+            index: _,
+            pager: _,
+            attach: _,
+            generic: _,
+            begun: _,
+        } = self;
+    }
 }
 
 impl Keymap {

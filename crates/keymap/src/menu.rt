@@ -15,7 +15,7 @@ pub enum Menu {
 }
 
 impl Menu {
-    /// Whether the menu has the function; any can be bound in `Generic`.
+    /// Whether the menu has the function; `Generic` has those of all menus but the pager.
     pub fn has(self, function: Function) -> bool
         ensures { result ≡ spec.has self function }
     {
@@ -24,7 +24,7 @@ impl Menu {
             Menu::Index => index.is_some(),
             Menu::Pager => pager.is_some(),
             Menu::Attach => attach.is_some(),
-            Menu::Generic => true,
+            Menu::Generic => index.is_some() || attach.is_some(),
         }
     }
 }

@@ -5,6 +5,7 @@ use Rattle.std.specs.Str.{bytes_eq}
 
 -- the next step, where the one before gave a value
 infixl 10 ◌>>=◌
+-- the second reading behind the first, where both read something
 abbrev pub ◌>>=◌ : {A B : Type 0} → Option A → (A → Option B) → Option B
 o >>= f = option_and_then f o
 

@@ -33,7 +33,8 @@ fn digits(text: &[u8]) -> Option<&str>
     Some(digits)
 }
 
-fn are_digits(text: &[u8]) -> bool
+/// Whether a text has no byte but decimal digits.
+pub(crate) fn are_digits(text: &[u8]) -> bool
     ensures { result ≡ all_ascii_digits text.now }
 {
     let mut left = text;

@@ -1,6 +1,6 @@
 //! Time zones as offsets in digits (RFC 5322, section 3.3).
 
-ghost use Rattle.std.specs.Prelude.{◌≡◌, ◌<◌, Some, IfSome};
+ghost use Rattle.std.specs.Prelude.{◌≡◌, ◌<◌, ◌≤◌, ◌+◌, ◌*◌, ◌≤ℤ◌, neg_ℤ, pos, Some, IfSome};
 ghost use Rattle.mail_base.specs.Zone as spec;
 
 /// The number that two decimal digits write.
@@ -33,10 +33,20 @@ fn offset_at(sign: u8, hours: u8, minutes: u8) -> Option<i32>
     if hours > 23 || minutes > 59 {
         return None;
     }
-    let seconds = i32::from(hours) * 3600 + i32::from(minutes) * 60;
+    let seconds = seconds_of(hours, minutes);
     match sign {
         b'+' => Some(seconds),
         b'-' => Some(-seconds),
         _ => None,
     }
+}
+
+fn seconds_of(hours: u8, minutes: u8) -> i32
+    requires hours { hours ≤ 23 }
+    requires minutes { minutes ≤ 59 }
+    ensures value { result ≡ pos (hours * 3600 + minutes * 60) }
+    ensures low { neg_ℤ (pos 86_399) ≤ℤ result }
+    ensures high { result ≤ℤ pos 86_399 }
+{
+    i32::from(hours) * 3600 + i32::from(minutes) * 60
 }

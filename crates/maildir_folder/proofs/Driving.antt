@@ -23,7 +23,7 @@ use Rattle.folder_core.specs.Maildir.{maildir_messages, maildir_reads, message_a
 use Rattle.folder_core.specs.Maildir.{messages_behind}
 use Rattle.folder_core.specs.MaildirNames.{begins_dot, split_name}
 use Rattle.folder_core.specs.Message.{Message, has_key}
-use Rattle.folder_core.specs.Ordered.{in_order_by}
+use Rattle.mail_base.specs.Ordered.{in_order_by}
 use Rattle.folder_core.proofs.NamesIn.{file_held, holds_name}
 use Rattle.folder_core.proofs.SeenLemmas.{alone_foreign, goes_then, longer_later, own_later}
 use Rattle.folder_core.proofs.SeenLemmas.{saw_later}
@@ -33,9 +33,9 @@ use Rattle.maildir_folder.specs.Files.{CurSeen, FolderSeen, ListsFiles, NamesSee
 use Rattle.maildir_folder.specs.Walk.{IsWalked, WalkSeen}
 use Rattle.maildir_folder.specs.Scan.{MessagesSeen}
 use Rattle.folder_core.proofs.FirstScanLemmas.{FolderWalked}
-use Rattle.folder_core.proofs.OrderedLemmas.{in_order_held}
+use Rattle.mail_base.proofs.OrderedLemmas.{in_order_held}
 use Rattle.folder_core.specs.ListedSoFar.{Store}
-use Rattle.folder_core.specs.Ordered.{IsIn}
+use Rattle.mail_base.specs.Ordered.{IsIn}
 
 true_false : ◌≡◌ {A = Bool} true false → ⊥
 true_false e = cc
@@ -53,27 +53,25 @@ in_right : (file : MaildirFile) (files more : List MaildirFile) → IsIn file mo
 in_right file [] more held = held
 in_right file (other ∷ files) more held = inr (in_right file files more held)
 
-in_files_in : (in_cur : Bool) (name : List ℕ) (names : List (List ℕ)) → begins_dot name ≡ false
+in_files_in : (in_cur : Bool) (name : List ℕ) (names : List (List ℕ)) → is_shown name ≡ true
     → holds_name name names ≡ true → IsIn {A = MaildirFile}
     (record { in_cur = in_cur; name = name }) (files_in in_cur names)
 in_files_in in_cur name [] shown held = absurd (true_false (sym held))
 in_files_in in_cur name (other ∷ names) shown held =
-    by_name (bytes_eq other name) (not (begins_dot other)) refl refl held
+    by_name (bytes_eq other name) (is_shown other) refl refl held
     (λ rest. in_files_in in_cur name names shown rest)
   where
-    by_name : (t k : Bool) → bytes_eq other name ≡ t → not (begins_dot other) ≡ k
+    by_name : (t k : Bool) → bytes_eq other name ≡ t → is_shown other ≡ k
         → (t || holds_name name names) ≡ true
         → (holds_name name names ≡ true → IsIn {A = MaildirFile}
         (record { in_cur = in_cur; name = name }) (files_in in_cur names))
         → IsIn {A = MaildirFile} (record { in_cur = in_cur; name = name })
         (map (λ n. record { in_cur = in_cur; name = n })
-        (if k then other ∷ filter (λ n. not (begins_dot n)) names
-        else filter (λ n. not (begins_dot n)) names))
+        (if k then other ∷ filter is_shown names else filter is_shown names))
     by_name true true same kept held again =
         inl (ap (λ (n : List ℕ). record { in_cur = in_cur; name = n }) (bytes_same other name same))
     by_name true false same kept held again =
-        absurd (true_false (ap not (sym shown) ∙ ap (λ (n : List ℕ). not (begins_dot n))
-        (sym (bytes_same other name same)) ∙ kept))
+        absurd (true_false (sym shown ∙ ap is_shown (sym (bytes_same other name same)) ∙ kept))
     by_name false true same kept held again = inr (again held)
     by_name false false same kept held again = again held
 
@@ -83,10 +81,6 @@ some_mapped : (file : MaildirFile) (bytes : Option (List ℕ))
 some_mapped file None some = some
 some_mapped file (Some bytes) some = refl
 
-not_true : (b : Bool) → not b ≡ true → b ≡ false
-not_true true is = absurd (true_false (sym is))
-not_true false is = refl
-
 -- a file that is there when its directory is listed is listed
 there_listed : (tree : List TreeNode) (path : List ℕ) (in_cur : Bool) (name : List ℕ)
     (names : List (List ℕ))
@@ -95,7 +89,7 @@ there_listed : (tree : List TreeNode) (path : List ℕ) (in_cur : Bool) (name : 
     → IsIn {A = MaildirFile} (record { in_cur = in_cur; name = name }) (files_in in_cur names)
 there_listed tree path in_cur name names told shown there =
     let parts = and_parts (is_name name) (not (begins_dot name)) shown in
-    in_files_in in_cur name names (not_true (begins_dot name) parts.1)
+    in_files_in in_cur name names shown
     (ap (holds_name name) told ∙ file_held tree (directory in_cur path) name parts.0
     (some_mapped (record { in_cur = in_cur; name = name })
     (file_at tree (path_in (directory in_cur path) name)) there))

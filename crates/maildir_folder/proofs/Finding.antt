@@ -1,7 +1,7 @@
 -- What looks at the directories of a folder tell.
 use Rattle.std.proofs.Common.{◌≡◌, ◌≤◌, ◌&&◌, ℕ, Bool, true, false, not, List, [], ◌∷◌, Option}
 use Rattle.std.proofs.Common.{Some, None, Ok, Err, length, map, if◌then◌else◌, refl, sym, ◌∙◌, ap}
-use Rattle.std.proofs.Common.{subst, arith}
+use Rattle.std.proofs.Common.{subst, arith, is_some, is_none}
 use Rattle.std.specs.Prelude.{IfSome, option_and_then}
 use Rattle.std.specs.Str.{bytes_eq, is_utf8}
 use Rattle.std.proofs.lemmas.Bool.{and_parts}
@@ -15,21 +15,27 @@ use Rattle.disk_model.specs.Seen.{Seen}
 use Rattle.disk_model.specs.State.{tree_at}
 use Rattle.disk_model.specs.Tree.{TreeNode, are_distinct, are_placed, folder_of, is_folder_node}
 use Rattle.disk_model.specs.Tree.{is_placed, is_root, is_tree, node_at}
+use Rattle.disk_model.proofs.Folders.{folder_stays}
 use Rattle.disk_model.proofs.LawsOfTrees.{each_mark_has_a_tree}
+use Rattle.disk_model.proofs.Looking.{looked_then}
 use Rattle.disk_model.proofs.Trees.{bytes_same}
 use Rattle.folder_core.specs.Costs.{RaisesAtMost}
 use Rattle.folder_core.specs.Directory.{file_at, is_folder_at, node_file}
+use Rattle.folder_core.specs.FirstLook.{found_first}
 use Rattle.folder_core.specs.Looked.{IsContents, SawAt}
-use Rattle.folder_core.specs.Maildir.{directory}
+use Rattle.folder_core.specs.Maildir.{directory, is_maildir}
+use Rattle.folder_core.proofs.CostsLemmas.{raises_then}
+use Rattle.folder_core.proofs.FirstLookLemmas.{folder_stands, stood_later, tells_there}
 use Rattle.folder_core.specs.declared.error.ScanError.{ScanError}
 use Rattle.folder_core.specs.declared.error.ScanError.TheVariants.{Missing, NotMailbox, TooMany}
 use Rattle.folder_core.specs.declared.error.ScanError.TheVariants.{TooLarge, Unfinished}
 use Rattle.folder_core.specs.declared.error.ScanError.TheVariants.{ArchiveFull, Fault, NoMemory}
 use Rattle.folder_core.specs.declared.looks.Contents.{Contents}
-use Rattle.folder_core.specs.declared.looks.Contents.TheVariants.{Nothing}
+use Rattle.folder_core.specs.declared.looks.Contents.TheVariants.{File, Nothing}
 use Rattle.folder_core.proofs.SeenLemmas.{goes_as, goes_then, longer_later, only_then, rose_later}
 use Rattle.folder_core.proofs.SeenLemmas.{saw_earlier, saw_later}
-use Rattle.maildir_folder.specs.Files.{CurSeen, Finds, FolderSeen, NamesSeen, NewSeen, WasRefused}
+use Rattle.maildir_folder.specs.Files.{CurSeen, Finds, FindsNames, FolderSeen, IsListError}
+use Rattle.maildir_folder.specs.Files.{IsNamesError, NamesSeen, NewSeen, StaysFolder, WasRefused}
 use Rattle.maildir_folder.specs.Files.{plain_names}
 
 true_false : ◌≡◌ {A = Bool} true false → ⊥
@@ -78,6 +84,7 @@ refused_from path (NotMailbox place) old mid new low was = (
     mark = was.1.mark;
     from = omega (arith, was.1.from, low);
     to = was.1.to;
+    there = was.1.there;
     other = was.1.other;
   },
 )
@@ -88,19 +95,55 @@ refused_from path ArchiveFull old mid new low was = absurd was.saw
 refused_from path Fault old mid new low was = tt
 refused_from path NoMemory old mid new low was = tt
 
+-- a directory that a look has met stays there
+pub folder_later : (path : List ℕ) (old mid new : Past) → HasLooked old mid → HasLooked mid new
+    → FolderSeen path old mid → StaysFolder path mid new
+folder_later path old mid new first next seen mark low high =
+    let folder = saw_later {Tells = λ tree. is_folder_at tree path ≡ true} old mid new seen next in
+    folder_stays old new mark folder.mark path (looked_then old mid new first next)
+    (omega (arith, low, longer_later old mid first)) folder.from
+    ∙ folder.tells
+
+pub folder_seen : (path : List ℕ) (a b c : Option Past) → LooksOnly a b → LooksOnly b c
+    → GoesOn (FolderSeen path) a b → GoesOn (FolderSeen path) a c
+folder_seen path a b c first next seen =
+    goes_then {Q = HasLooked} a b c (λ p q r x y s looked.
+    saw_later {Tells = λ tree. is_folder_at tree path ≡ true} p q r s y) first next seen next
+
 -- a refusal behind other looks
+names_refused : (path : List ℕ) (why : ScanError) (p q r : Past) → HasLooked p q → HasLooked q r
+    → FolderSeen path p q → (StaysFolder path q r → WasRefused path why q r)
+    → WasRefused path why p r
+names_refused path why p q r first next seen was =
+    refused_from path why p q r (longer_later p q first)
+    (was (folder_later path p q r first next seen))
+
+names_error : (why : ScanError) → IsNamesError why → IsListError why
+names_error Missing is = absurd is
+names_error (NotMailbox place) is = is
+names_error (TooMany count) is = is
+names_error (TooLarge bytes) is = is
+names_error Unfinished is = is
+names_error ArchiveFull is = is
+names_error Fault is = is
+names_error NoMemory is = is
+
 pub refused_later : {A B : Type 0} {Sees : A → Option Past → Option Past → Type 0}
     {Gives : B → Option Past → Option Past → Type 0} (path : List ℕ) (why : ScanError)
-    (a b c : Seen) → OnlyLooks a b
-    → Finds path (Err why) Sees b c → Finds path (Err why) Gives a c
-refused_later path why a b c before found = record {
+    (a b c : Seen) → OnlyLooks a b → GoesOn (FolderSeen path) a.told b.told
+    → GoesOn (λ p q. found_first path p q ≡ Some true) a.told b.told
+    → RaisesAtMost a.bytes_read b.bytes_read 0
+    → FindsNames path (Err why) Sees b c → Finds path (Err why) Gives a c
+refused_later {A} {B} path why a b c before folder there reads found = record {
   saw = tt;
-  refused = goes_then {P = HasLooked} a.told b.told c.told (λ p q r x y looked was.
-      refused_from path why p q r (longer_later p q x) was) before.looks found.only.looks
-      before.looks found.refused;
-  errors = found.errors;
+  refused = goes_then a.told b.told c.told (λ p q r x y seen was.
+      names_refused path why p q r x y seen was) before.looks found.only.looks folder found.refused;
+  errors = names_error why found.errors;
+  first = tells_there {A = B} (Err why) path a.told c.told
+      (λ e. let missing : why ≡ Missing = cc in subst IsNamesError missing found.errors)
+      (stood_later path a.told b.told c.told before.looks found.only.looks there);
   only = only_then a b c before found.only;
-  reads = tt;
+  reads = raises_then a.bytes_read b.bytes_read c.bytes_read 0 0 reads found.reads;
   cause = λ is. rose_later a.faults b.faults c.faults before.faults
       (found.cause (let e : why ≡ Fault = cc in ap Err e));
 }
@@ -108,22 +151,39 @@ refused_later path why a b c before found = record {
 -- memory ran out behind looks
 pub no_memory : {A : Type 0} {Sees : A → Option Past → Option Past → Type 0} (path : List ℕ)
     (a b : Seen)
-    → OnlyLooks a b → Finds path (Err NoMemory) Sees a b
-no_memory path a b before = record {
+    → OnlyLooks a b → GoesOn (λ p q. found_first path p q ≡ Some true) a.told b.told
+    → RaisesAtMost a.bytes_read b.bytes_read 0 → Finds path (Err NoMemory) Sees a b
+no_memory {A} path a b before there reads = record {
   saw = tt;
   refused = goes_as a.told b.told (λ p q x. tt) before.looks;
   errors = tt;
+  first = tells_there {A = A} (Err NoMemory) path a.told b.told (λ e. (cc)) there;
   only = before;
-  reads = tt;
+  reads = reads;
   cause = λ is. absurd (cc);
 }
 
 -- what was found
 pub was_found : {A : Type 0} {Sees : A → Option Past → Option Past → Type 0} (path : List ℕ)
     (given : A) (a b : Seen)
-    → OnlyLooks a b → RaisesAtMost a.bytes_read b.bytes_read 0 → Sees given a.told b.told
+    → OnlyLooks a b → GoesOn (λ p q. found_first path p q ≡ Some true) a.told b.told
+    → RaisesAtMost a.bytes_read b.bytes_read 0 → Sees given a.told b.told
     → Finds path (Ok given) Sees a b
-was_found path given a b only reads saw = record {
+was_found path given a b only there reads saw = record {
+  saw = saw;
+  refused = tt;
+  errors = tt;
+  first = tells_there (Ok given) path a.told b.told (λ e. (cc)) there;
+  only = only;
+  reads = reads;
+  cause = λ is. absurd (cc);
+}
+
+pub names_found : {A : Type 0} {Sees : A → Option Past → Option Past → Type 0} (path : List ℕ)
+    (given : A) (a b : Seen)
+    → OnlyLooks a b → RaisesAtMost a.bytes_read b.bytes_read 0 → Sees given a.told b.told
+    → FindsNames path (Ok given) Sees a b
+names_found path given a b only reads saw = record {
   saw = saw;
   refused = tt;
   errors = tt;
@@ -132,7 +192,74 @@ was_found path given a b only reads saw = record {
   cause = λ is. absurd (cc);
 }
 
+-- a directory of the folder was none, so that the folder is no Maildir
+pub names_none : {A : Type 0} {Sees : A → Option Past → Option Past → Type 0} (path dir : List ℕ)
+    (contents : Contents) (a b : Seen) → OnlyLooks a b
+    → RaisesAtMost a.bytes_read b.bytes_read 0
+    → ((tree : List TreeNode) → IsContents contents tree dir → is_maildir tree path ≡ false)
+    → GoesOn (SawAt (ListDir dir) (λ tree. IsContents contents tree dir)) a.told b.told
+    → FindsNames path (Err (NotMailbox 0)) Sees a b
+names_none path dir contents a b only reads none saw = record {
+  saw = tt;
+  refused = goes_as a.told b.told (λ p q s stays. (
+    refl,
+    record {
+      mark = s.mark;
+      from = s.from;
+      to = s.to;
+      there = folder_stands (node_at (tree_at q s.mark) path) (stays s.mark s.from s.to);
+      other = none (tree_at q s.mark) s.tells;
+    },
+  )) saw;
+  errors = tt;
+  only = only;
+  reads = reads;
+  cause = λ is. absurd (cc);
+}
+
 -- The directories.
+
+no_cur : (tree : List TreeNode) (path : List ℕ) → is_folder_at tree (directory true path) ≡ false
+    → is_maildir tree path ≡ false
+no_cur tree path none =
+    ap (λ (t : Bool). is_folder_at tree path && t && is_none (file_at tree (directory false path)))
+    none ∙ by_folder (is_folder_at tree path)
+  where
+    by_folder : (t : Bool)
+        → (t && false && is_none (file_at tree (directory false path))) ≡ false
+    by_folder true = refl
+    by_folder false = refl
+
+file_no_folder : (node : Option TreeNode) → is_some (option_and_then node_file node) ≡ true
+    → is_folder_node node ≡ false
+file_no_folder None is = refl
+file_no_folder (Some node) is = by_bytes node.bytes is
+  where
+    by_bytes : (bytes : Option (List ℕ)) → is_some bytes ≡ true → is_none bytes ≡ false
+    by_bytes None is = sym is
+    by_bytes (Some bytes) is = refl
+
+pub cur_missing : (path : List ℕ) (tree : List TreeNode)
+    → IsContents Nothing tree (directory true path) → is_maildir tree path ≡ false
+cur_missing path tree none = no_cur tree path (ap is_folder_node none)
+
+pub cur_file : (path : List ℕ) (tree : List TreeNode)
+    → IsContents File tree (directory true path) → is_maildir tree path ≡ false
+cur_file path tree file =
+    no_cur tree path (file_no_folder (node_at tree (directory true path)) file)
+
+pub new_file : (path : List ℕ) (tree : List TreeNode)
+    → IsContents File tree (directory false path) → is_maildir tree path ≡ false
+new_file path tree file =
+    by_bytes (file_at tree (directory false path)) (is_folder_at tree path)
+    (is_folder_at tree (directory true path)) file
+  where
+    by_bytes : (bytes : Option (List ℕ)) (a b : Bool) → is_some bytes ≡ true
+        → (a && b && is_none bytes) ≡ false
+    by_bytes None a b is = absurd (true_false (sym is))
+    by_bytes (Some bytes) true true is = refl
+    by_bytes (Some bytes) true false is = refl
+    by_bytes (Some bytes) false b is = refl
 
 pub new_missing : (path : List ℕ) (names : Held (Held ℕ)) (marks : ℕ) (a b : Option Past)
     → names.items ≡ []

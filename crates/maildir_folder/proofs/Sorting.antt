@@ -14,10 +14,10 @@ use Rattle.std.specs.declared.cmp.Ordering.{Ordering}
 use Rattle.std.specs.declared.cmp.Ordering.TheVariants.{Less, Equal, Greater}
 use Rattle.folder_core.specs.Maildir.{MaildirFile, base_of, comes_before, file_cmp}
 use Rattle.folder_core.specs.MaildirNames.{order_of}
-use Rattle.folder_core.specs.Ordered.{in_order_by}
-use Rattle.folder_core.proofs.OrderedLemmas.{NeverFalls, in_order_permutation, in_order_same}
-use Rattle.folder_core.proofs.OrderedLemmas.{sorted_falls, text_same}
-use Rattle.folder_core.proofs.OrderedLemmas.{then_equal}
+use Rattle.mail_base.specs.Ordered.{in_order_by}
+use Rattle.mail_base.proofs.OrderedLemmas.{NeverFalls, in_order_permutation, in_order_same}
+use Rattle.mail_base.proofs.OrderedLemmas.{sorted_falls, text_same}
+use Rattle.mail_base.proofs.OrderedLemmas.{then_equal}
 use Rattle.maildir_folder.specs.declared.candidates.Candidate.{Candidate}
 use Rattle.maildir_folder.specs.Candidates.{IsCandidate, Rises, base_cmp, plain_file}
 

@@ -5,7 +5,7 @@ use Rattle.disk_model.specs.Judge.{GoesOn}
 use Rattle.disk_model.specs.declared.answers.FileRead.{FileRead}
 use Rattle.folder_core.specs.Limits.{most_bytes, told_sum}
 use Rattle.folder_core.specs.ListedSoFar.{Store, store_message}
-use Rattle.folder_core.specs.Looked.{FileSeen, IsContent, IsPast, SawAt}
+use Rattle.folder_core.specs.Looked.{FileSeen, IsContent, FitsLimit, SawAt}
 use Rattle.folder_core.specs.Maildir.{MaildirFile, maildir_format, maildir_letter, message_of}
 use Rattle.folder_core.specs.Maildir.{path_of}
 use Rattle.folder_core.specs.declared.looks.Content.{Content}
@@ -50,7 +50,7 @@ pub took_long : (path : List ℕ) (file : MaildirFile) (at : List ℕ) (limit : 
     (size : ℕ)
     (store new_store : Store) (a b : Option Past)
     → at ≡ path_of path file → limit ≡ most_bytes - store.bytes → content ≡ TooLong size
-    → IsPast limit content
+    → FitsLimit limit content
     → new_store ≡ record store { count = store.count + 1; bytes = told_sum (store.bytes + size) }
     → GoesOn (SawAt (ReadAll at limit) (λ tree. IsContent limit content tree at)) a b
     → Takes path file true store new_store a b

@@ -21,17 +21,17 @@ use Rattle.disk_model.proofs.Marks.{tree_at-longer}
 use Rattle.disk_model.proofs.Trees.{bytes_same}
 use Rattle.folder_core.specs.Directory.{file_at}
 use Rattle.folder_core.specs.Maildir.{AllStood, MaildirFile, StaysThere, Stood, base_of, is_taken}
-use Rattle.folder_core.specs.Maildir.{maildir_format}
+use Rattle.folder_core.specs.Maildir.{is_shown, maildir_format}
 use Rattle.folder_core.specs.Maildir.{message_at, message_of, messages_behind, path_of}
 use Rattle.folder_core.specs.Maildir.{with_message}
-use Rattle.folder_core.specs.MaildirNames.{begins_dot, order_of}
+use Rattle.folder_core.specs.MaildirNames.{order_of}
 use Rattle.folder_core.specs.Message.{Message, are_in_order, has_key, stands_before}
 use Rattle.folder_core.specs.ListedSoFar.{Holds, IsEmpty, Store}
 use Rattle.folder_core.specs.Looked.{IsTreeOfAll}
-use Rattle.folder_core.specs.Ordered.{IsIn}
+use Rattle.mail_base.specs.Ordered.{IsIn}
 use Rattle.folder_core.proofs.ListedSoFarLemmas.{holds_first, holds_found, messages_with}
 use Rattle.folder_core.proofs.MessageLemmas.{key_last, key_more, order_more}
-use Rattle.folder_core.proofs.OrderedLemmas.{text_same, then_equal}
+use Rattle.mail_base.proofs.OrderedLemmas.{text_same, then_equal}
 use Rattle.folder_core.proofs.SeenLemmas.{goes_as, goes_then, longer_later, tree_before}
 use Rattle.maildir_folder.specs.Candidates.{NotBefore, Rises, base_cmp}
 use Rattle.maildir_folder.specs.Walk.{IsWalked, NextSeen, TakesNext}
@@ -267,7 +267,7 @@ so_far_next : (path : List ℕ) (files left : List MaildirFile) (file : MaildirF
     (last : Option (List ℕ))
     (messages : List Message) (found : Option (List ℕ)) (old mid new : Past) → HasLooked old mid
     → HasLooked mid new
-    → NotBefore last (base_of file) → begins_dot file.name ≡ false
+    → NotBefore last (base_of file) → is_shown file.name ≡ true
     → SoFar path files (file ∷ left) last messages old mid
     → NextSeen (is_taken last (base_of file)) path file found mid new
     → SoFar path files left (last_by file found last)
@@ -354,7 +354,7 @@ walking_first path files first (Some past) empty =
 pub walking_next : (path : List ℕ) (files all left : List MaildirFile) (file : MaildirFile)
     (last : Option (List ℕ))
     (first store new_store : Store) (taken : Bool) (a b c : Option Past)
-    → all ≡ file ∷ left → Rises last all → begins_dot file.name ≡ false → LooksOnly a b
+    → all ≡ file ∷ left → Rises last all → is_shown file.name ≡ true → LooksOnly a b
     → LooksOnly b c
     → Walking path files all last first store a b
     → (t : TakesNext path last file taken store new_store b c)

@@ -6,21 +6,21 @@ use Rattle.std.specs.Ordering.{is_lt, nat_cmp, ordering_then}
 use Rattle.std.specs.declared.cmp.Ordering.{Ordering}
 use Rattle.std.specs.Str.{IsUtf8}
 use Rattle.std.specs.List.{All}
-use Rattle.folder_core.specs.Maildir.{MaildirFile, base_of, comes_before, files_in}
-use Rattle.folder_core.specs.MaildirNames.{begins_dot, order_of}
-use Rattle.folder_core.specs.Ordered.{in_order_by}
+use Rattle.folder_core.specs.Maildir.{MaildirFile, base_of, comes_before, files_in, is_shown}
+use Rattle.folder_core.specs.MaildirNames.{order_of}
+use Rattle.mail_base.specs.Ordered.{in_order_by}
 use Rattle.maildir_folder.specs.declared.candidates.Candidate.{Candidate}
 
 -- a candidate by its directory and its name
 abbrev pub plain_file : Candidate → MaildirFile
 plain_file c = record { in_cur = not c.is_new; name = c.name.items }
 
--- order and base are those of the name, which is text and does not begin with a dot
+-- order and base are those of the name, which is text that a message may have as its name
 pub record IsCandidate (c : Candidate) : Type 0 where
   pub order : c.order ≡ order_of (base_of (plain_file c))
   pub base : c.base.items ≡ base_of (plain_file c)
   pub text : IsUtf8 c.name.items
-  pub shown : begins_dot c.name.items ≡ false
+  pub shown : is_shown c.name.items ≡ true
 
 -- bases by their orders, and by their bytes where these are the same
 abbrev pub base_cmp : List ℕ → List ℕ → Ordering

@@ -1,5 +1,6 @@
 -- What looks at a folder's directories have found.
-use Rattle.std.specs.Prelude.{◌≡◌, ℕ, true, false, List, Option, None, Result, IfErr, IfOk, IsErrOf}
+use Rattle.std.specs.Prelude.{◌≡◌, ◌≤◌, ℕ, true, false, List, Option, None, Result}
+use Rattle.std.specs.Prelude.{IfErr, IfOk, IsErrOf}
 use Rattle.std.specs.Prelude.{length, map}
 use Rattle.mail_base.specs.Faults.{Rose}
 use Rattle.mail_base.specs.Series.{Held}
@@ -8,8 +9,10 @@ use Rattle.disk_model.specs.Judge.{GoesOn}
 use Rattle.disk_model.specs.Looking.{OnlyLooks}
 use Rattle.disk_model.specs.Names.{names_in}
 use Rattle.disk_model.specs.Seen.{Seen}
+use Rattle.disk_model.specs.State.{tree_at}
 use Rattle.folder_core.specs.Costs.{RaisesAtMost}
 use Rattle.folder_core.specs.Directory.{DirectoryRefused, file_at, is_folder_at}
+use Rattle.folder_core.specs.FirstLook.{TellsMissing}
 use Rattle.folder_core.specs.Looked.{SawAt}
 use Rattle.folder_core.specs.Maildir.{directory, is_maildir}
 use Rattle.folder_core.specs.declared.error.ScanError.{ScanError}
@@ -55,6 +58,7 @@ WasRefused path why old new =
     DirectoryRefused is_maildir (λ messages. ⊥) 0 path why (length old.journal) (length new.journal)
     new
 
+-- why the files of a folder were not listed
 abbrev pub IsListError : ScanError → Type 0
 IsListError Missing = Unit {0}
 IsListError (NotMailbox place) = Unit {0}
@@ -65,14 +69,40 @@ IsListError ArchiveFull = ⊥
 IsListError Fault = Unit {0}
 IsListError NoMemory = Unit {0}
 
--- What was found was seen, and no byte was read; a refusal has its cause.
+-- What was found was seen, and no byte was read; a refusal has its cause, Missing that of the first
+-- look.
 pub record Finds {A : Type 0} (path : List ℕ) (result : Result A ScanError)
     (Sees : A → Option Past → Option Past → Type 0) (old new : Seen) : Type 0 where
   pub saw : IfOk result (λ given. Sees given old.told new.told)
   pub refused : IfErr result (λ why. GoesOn (WasRefused path why) old.told new.told)
   pub errors : IfErr result IsListError
+  pub first : GoesOn (TellsMissing result path) old.told new.told
   pub only : OnlyLooks old new
-  pub reads : IfOk result (λ given. RaisesAtMost old.bytes_read new.bytes_read 0)
+  pub reads : RaisesAtMost old.bytes_read new.bytes_read 0
+  pub cause : IsErrOf result Fault → Rose old.faults new.faults
+
+-- a directory stood at the path all along
+abbrev pub StaysFolder : List ℕ → Past → Past → Type 0
+StaysFolder path old new = (mark : ℕ) → length old.journal ≤ mark → mark ≤ length new.journal
+    → is_folder_at (tree_at new mark) path ≡ true
+
+-- an error of a look at a directory in the folder
+abbrev pub IsNamesError : ScanError → Type 0
+IsNamesError (NotMailbox place) = Unit {0}
+IsNamesError Fault = Unit {0}
+IsNamesError NoMemory = Unit {0}
+IsNamesError why = ⊥
+
+-- What was found in a directory of the folder was seen, and no byte was read; a refusal has its
+-- cause, where the folder is there all along.
+pub record FindsNames {A : Type 0} (path : List ℕ) (result : Result A ScanError)
+    (Sees : A → Option Past → Option Past → Type 0) (old new : Seen) : Type 0 where
+  pub saw : IfOk result (λ given. Sees given old.told new.told)
+  pub refused : IfErr result
+      (λ why. GoesOn (λ p q. StaysFolder path p q → WasRefused path why p q) old.told new.told)
+  pub errors : IfErr result IsNamesError
+  pub only : OnlyLooks old new
+  pub reads : RaisesAtMost old.bytes_read new.bytes_read 0
   pub cause : IsErrOf result Fault → Rose old.faults new.faults
 
 -- a list of names as plain lists

@@ -22,6 +22,7 @@ pub record PlainName : Type 0 where
   pub flags : Flags
   pub others : List ℕ
 
+-- the name of a file as contracts see it
 abbrev pub plain_name : MaildirName → PlainName
 plain_name n = record { base = n.base.items; flags = n.flags; others = n.others.items }
 
@@ -29,6 +30,7 @@ plain_name n = record { base = n.base.items; flags = n.flags; others = n.others.
 abbrev pub is_other : ℕ → Bool
 is_other letter = not (has_letter (codes "DFPRST") letter)
 
+-- a name that was cut at its mark
 abbrev pub parts_read : Bool → List ℕ × List ℕ → PlainName
 parts_read in_cur parts =
     record { base = parts.0; flags = flags_of in_cur parts.1; others = filter is_other parts.1 }
@@ -38,6 +40,7 @@ abbrev pub name_read : Bool → List ℕ → Option PlainName
 name_read in_cur name =
     if begins_dot name then None else Some (parts_read in_cur (split_name name))
 
+-- a letter, where its flag is set
 abbrev pub letter_if : Bool → ℕ → List ℕ
 letter_if is_set letter = if is_set then letter ∷ [] else []
 
@@ -69,9 +72,11 @@ is_whole_name base = nat_lt 0 (length base) && is_none (last_letters base)
 abbrev pub is_new : Flags → Bool
 is_new flags = not flags.seen && not flags.aged
 
+-- there are no letters
 abbrev pub no_letters : List ℕ → Bool
 no_letters letters = length letters == 0
 
+-- the name of a base with flags and letters
 abbrev pub name_with : List ℕ → Flags → List ℕ → List ℕ
 name_with base flags letters =
     if is_new flags && no_letters letters && is_whole_name base then base

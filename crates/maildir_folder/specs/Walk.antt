@@ -1,24 +1,17 @@
 -- What a walk over the files of a folder has found.
-use Rattle.std.specs.Prelude.{◌≡◌, ◌≤◌, ◌-◌, ℕ, Bool, true, false, List, Option, None, is_some}
+use Rattle.std.specs.Prelude.{◌≡◌, ℕ, Bool, true, false, List, Option, None, is_some}
 use Rattle.std.specs.Prelude.{length}
 use Rattle.std.specs.Prelude.{option_map}
 use Rattle.disk_model.specs.Journal.{Past, ReadAll}
 use Rattle.disk_model.specs.Judge.{GoesOn}
 use Rattle.disk_model.specs.Tree.{TreeNode}
-use Rattle.folder_core.specs.Costs.{RaisesAtMost}
 use Rattle.folder_core.specs.Directory.{file_at}
-use Rattle.folder_core.specs.Limits.{most_bytes}
 use Rattle.folder_core.specs.ListedSoFar.{Holds, Store, store_found}
 use Rattle.folder_core.specs.Looked.{IsTreeOfAll, SawAt}
 use Rattle.folder_core.specs.Maildir.{AllStood, MaildirFile, StaysThere, base_of, is_taken}
 use Rattle.folder_core.specs.Maildir.{maildir_format, message_of, messages_behind, path_of}
 use Rattle.folder_core.specs.Message.{Message, are_in_order, has_key}
-use Rattle.folder_core.specs.Ordered.{IsIn}
-
--- as long as so many bytes may be listed, no more were read than these are beyond those before
-abbrev pub ReadsFound : ℕ → ℕ → Option ℕ → Option ℕ → Type 0
-ReadsFound bytes new_bytes old new =
-    new_bytes ≤ most_bytes → (bytes ≤ new_bytes) × RaisesAtMost old new (new_bytes - bytes)
+use Rattle.mail_base.specs.Ordered.{IsIn}
 
 -- a file was met with these bytes, or was not met
 abbrev pub SawFile : List ℕ → MaildirFile → Option (List ℕ) → Past → Past → Type 0
@@ -40,6 +33,7 @@ abbrev pub NextSeen : Bool → List ℕ → MaildirFile → Option (List ℕ) �
 NextSeen true path file found old new = found ≡ None
 NextSeen false path file found old new = SawFile path file found old new
 
+-- a file of the walk is taken, or left out for the one before it
 pub record TakesNext (path : List ℕ) (last : Option (List ℕ)) (file : MaildirFile) (taken : Bool)
     (store new_store : Store) (old new : Option Past) : Type 0 where
   pub found : Option (List ℕ)
@@ -60,6 +54,7 @@ pub record WalkSeen (path : List ℕ) (files : List MaildirFile) (messages : Lis
   pub still : (tree : List TreeNode) → IsTreeOfAll tree old new
       → messages ≡ messages_behind tree path None files
 
+-- files were walked over, and what they hold was found
 pub record IsWalked (path : List ℕ) (files : List MaildirFile) (first store : Store)
     (old new : Option Past)
     : Type 0 where

@@ -1,11 +1,10 @@
 //! The files that may be messages, in the order of their messages.
 
-ghost use Rattle.std.specs.Prelude.{◌≡◌, ◌++◌, ◌∷◌, [], IfOk, OnOk, false, map, not};
+ghost use Rattle.std.specs.Prelude.{◌≡◌, ◌++◌, ◌∷◌, [], IfOk, OnOk, map, not, true};
 ghost use Rattle.std.specs.List.{All};
 ghost use Rattle.std.specs.Str.{IsUtf8};
 ghost use Rattle.disk_model.specs.Answers.{AreText};
-ghost use Rattle.folder_core.specs.Maildir.{files_in};
-ghost use Rattle.folder_core.specs.MaildirNames.{begins_dot as begins_dot_lem};
+ghost use Rattle.folder_core.specs.Maildir.{files_in, is_shown as is_shown_lem};
 ghost use Rattle.maildir_folder.specs.Candidates as spec;
 
 use crate::base_order::order_of;
@@ -24,10 +23,10 @@ pub struct Candidate {
     pub name: Vec<u8>,
 }
 
-// A name that does not begin with a dot.
+// The candidate of a name that a message may have.
 fn candidate_of(alloc: Global, in_cur: bool, name: &[u8]) -> Result<Candidate, NoMemory>
     requires text { IsUtf8 name.now }
-    requires shown { begins_dot_lem name.now ≡ false }
+    requires shown { is_shown_lem name.now ≡ true }
     ensures each { IfOk result spec.IsCandidate }
     ensures file { IfOk result (λ c. spec.plain_file c
         ≡ record { in_cur = in_cur; name = name.now }) }
@@ -41,16 +40,17 @@ fn candidate_of(alloc: Global, in_cur: bool, name: &[u8]) -> Result<Candidate, N
     })
 }
 
-fn begins_dot(name: &[u8]) -> bool
-    ensures { result ≡ begins_dot_lem name.now }
+// Whether a message may have the name.
+fn is_shown(name: &[u8]) -> bool
+    ensures { result ≡ is_shown_lem name.now }
 {
     match name {
-        [first, ..] => *first == b'.',
-        [] => false,
+        [b'.', ..] | [] => false,
+        _ => !name.contains(&b'/'),
     }
 }
 
-// Adds a name that does not begin with a dot.
+// Adds a name that a message may have.
 fn add_name(
     alloc: Global,
     in_cur: bool,
@@ -63,13 +63,13 @@ fn add_name(
     ensures files { OnOk result (map spec.plain_file files.new.items
         ≡ map spec.plain_file files.old.items ++ files_in in_cur (name.now ∷ [])) }
 {
-    if !begins_dot(name) {
+    if is_shown(name) {
         files.push(candidate_of(alloc, in_cur, name)?)?;
     }
     Ok(())
 }
 
-// Adds the names that do not begin with a dot.
+// Adds those of the names that a message may have.
 fn add_names(
     alloc: Global,
     in_cur: bool,
@@ -91,7 +91,7 @@ fn add_names(
     Ok(())
 }
 
-/// The files with names in `cur` and in `new` that do not begin with a dot, in the order of their
+/// The files with names in `cur` and in `new` that a message may have, in the order of their
 /// messages.
 pub fn candidates(alloc: Global, cur: &[Bytes], new: &[Bytes]) -> Result<Vec<Candidate>, NoMemory>
     requires cur { AreText cur.now }

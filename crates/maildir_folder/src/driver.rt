@@ -4,7 +4,7 @@ ghost use Rattle.std.specs.Prelude.{◌≡◌, IfOk, length, map, take};
 ghost use Rattle.mail_base.specs.declared.kind.Kind.TheVariants.{Maildir};
 ghost use Rattle.folder_core.specs.Costs.{RaisesAtMost, cores_together, letters_behind};
 ghost use Rattle.folder_core.specs.FirstScan.{ListsFolder, ScansFolder};
-ghost use Rattle.folder_core.specs.Letters.{plain_letter};
+ghost use Rattle.folder_letters.specs.Letters.{plain_letter};
 ghost use Rattle.folder_core.specs.Maildir.{maildir_format};
 ghost use Rattle.folder_core.specs.Scanned.{Scans};
 ghost use Rattle.maildir_folder.specs.Scan as spec;
@@ -12,8 +12,8 @@ ghost use Rattle.maildir_folder.specs.Scan as spec;
 use crate::files::list_files;
 use crate::walk::take_all;
 use disk_model::{Device, Disk};
-use folder_core::{Archive, Driver, Found, Known, ListedSoFar, Listing, ScanError};
-use mail_base::{Kind, NoMemory, Stamps};
+use folder_core::{Archive, Driver, Found, Known, ListedSoFar, Listing, ScanError, first_found};
+use mail_base::{Kind, Stamps};
 use std::alloc::Global;
 
 /// Reads folders of a file a message (maildir(5)).
@@ -77,17 +77,8 @@ fn list_known(
         (seen disk.old) (seen disk.new) }
     ensures front { take (length archive.old.items) archive.new.items ≡ archive.old.items }
 {
-    let Ok(path) = str::from_utf8(known.path().as_slice()) else {
-        unreachable!()
-    };
-    let came = match list_folder(alloc, disk, path, archive) {
-        Ok(came) => came,
-        Err(why) => return Err(why),
-    };
-    match Found::first(alloc, known, came, Stamps::new(alloc)) {
-        Ok(found) => Ok(found),
-        Err(NoMemory) => Err(ScanError::NoMemory),
-    }
+    let came = list_folder(alloc, disk, known.path(), archive)?;
+    Ok(first_found(alloc, known, came, Stamps::new(alloc))?)
 }
 
 /// Adds the letters of a Maildir to an archive, and answers their listing. After a refusal letters
@@ -106,10 +97,7 @@ fn list_folder(
         (map plain_letter archive.old.items) (map plain_letter archive.new.items)))) }
     ensures front { take (length archive.old.items) archive.new.items ≡ archive.old.items }
 {
-    let files = match list_files(alloc, disk, path) {
-        Ok(files) => files,
-        Err(why) => return Err(why),
-    };
+    let files = list_files(alloc, disk, path)?;
     let mut so_far = ListedSoFar::new(alloc, archive.len());
     match take_all(alloc, disk, path, files.as_slice(), &mut so_far, archive) {
         Ok(()) => {}

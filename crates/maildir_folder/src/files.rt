@@ -17,58 +17,49 @@ fn find_folder(disk: &mut dyn Disk, path: &str) -> Result<(), ScanError>
         (λ given old new. GoesOn (spec.FolderSeen path.now) old new)
         (seen disk.old) (seen disk.new) }
 {
-    match look_at(disk, path) {
-        Ok(Some(stat)) => {
+    match look_at(disk, path)? {
+        Some(stat) => {
             if stat.folder {
                 Ok(())
             } else {
                 Err(ScanError::NotMailbox(0))
             }
         }
-        Ok(None) => Err(ScanError::Missing),
-        Err(why) => Err(why),
+        None => Err(ScanError::Missing),
     }
 }
 
 // The names in `new`, none where no directory is called so.
 fn new_names(alloc: Global, disk: &mut dyn Disk, path: &str) -> Result<Names, ScanError>
-    ensures found { spec.Finds path.now result
+    ensures found { spec.FindsNames path.now result
         (λ names old new. GoesOn (spec.NewSeen path.now (spec.plain_names names)) old new)
         (seen disk.old) (seen disk.new) }
     ensures text { IfOk result (λ names. AreText names.items) }
 {
-    let dir = match path_in(alloc, path, "new") {
-        Ok(dir) => dir,
-        Err(NoMemory) => return Err(ScanError::NoMemory),
-    };
-    match contents_of(alloc, disk, dir.as_str()) {
-        Ok(Contents::Names(names)) => Ok(names),
-        Ok(Contents::Nothing) => {
+    let dir = path_in(alloc, path, "new")?;
+    match contents_of(alloc, disk, dir.as_str())? {
+        Contents::Names(names) => Ok(names),
+        Contents::Nothing => {
             // That the past is lawful tells that nothing stands in a directory that is not there.
             let _ = disk.mark();
             Ok(Names::new(alloc))
         }
-        Ok(Contents::File) => Err(ScanError::NotMailbox(0)),
-        Err(why) => Err(why),
+        Contents::File => Err(ScanError::NotMailbox(0)),
     }
 }
 
 // The names in `cur`.
 fn cur_names(alloc: Global, disk: &mut dyn Disk, path: &str) -> Result<Names, ScanError>
-    ensures found { spec.Finds path.now result
+    ensures found { spec.FindsNames path.now result
         (λ names old new. GoesOn (spec.CurSeen path.now (spec.plain_names names)) old new)
         (seen disk.old) (seen disk.new) }
     ensures text { IfOk result (λ names. AreText names.items) }
 {
-    let dir = match path_in(alloc, path, "cur") {
-        Ok(dir) => dir,
-        Err(NoMemory) => return Err(ScanError::NoMemory),
-    };
-    match contents_of(alloc, disk, dir.as_str()) {
-        Ok(Contents::Names(names)) => Ok(names),
-        Ok(Contents::Nothing) => Err(ScanError::NotMailbox(0)),
-        Ok(Contents::File) => Err(ScanError::NotMailbox(0)),
-        Err(why) => Err(why),
+    let dir = path_in(alloc, path, "cur")?;
+    match contents_of(alloc, disk, dir.as_str())? {
+        Contents::Names(names) => Ok(names),
+        Contents::Nothing => Err(ScanError::NotMailbox(0)),
+        Contents::File => Err(ScanError::NotMailbox(0)),
     }
 }
 
@@ -82,10 +73,7 @@ pub fn list_files(
         (λ files old new. spec.ListsFiles path.now files.items old new)
         (seen disk.old) (seen disk.new) }
 {
-    match find_folder(disk, path) {
-        Ok(()) => {}
-        Err(why) => return Err(why),
-    }
+    find_folder(disk, path)?;
     let new = match new_names(alloc, disk, path) {
         Ok(names) => names,
         Err(why) => return Err(why),

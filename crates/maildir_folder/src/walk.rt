@@ -5,9 +5,11 @@ ghost use Rattle.std.specs.Prelude.{ℕ, ◌≡◌, ◌+◌, ◌<◌, ◌^◌, N
 ghost use Rattle.std.specs.Prelude.{option_map, take as take_lem};
 ghost use Rattle.std.specs.List.{All};
 ghost use Rattle.std.specs.String.{string_bytes};
-ghost use Rattle.folder_core.specs.Letters.{plain_letter};
-ghost use Rattle.folder_core.specs.ListedSoFar.{IsEmpty, store_message, store_of};
-ghost use Rattle.folder_core.specs.Looked.{OnlyMeets};
+ghost use Rattle.folder_letters.specs.Letters.{plain_letter};
+ghost use Rattle.disk_model.specs.Journal.{ReadAll};
+ghost use Rattle.folder_core.specs.Costs.{RaisesAtMost};
+ghost use Rattle.folder_core.specs.ListedSoFar.{IsEmpty, LooksWithin, store_message, store_of};
+ghost use Rattle.folder_core.specs.Looked.{FitsLimit, IsContent, Looked, content_read};
 ghost use Rattle.folder_core.specs.Maildir.{is_taken as is_taken_lem, maildir_format};
 ghost use Rattle.folder_core.specs.Maildir.{maildir_letter};
 ghost use Rattle.folder_core.specs.Maildir.{message_of, path_of};
@@ -44,6 +46,29 @@ fn add(
     so_far.add(flags_in(file), letter_of(alloc, file, raw)?, archive)
 }
 
+// The content of a file, of at most so many bytes.
+fn content_at(
+    alloc: Global,
+    disk: &mut dyn Disk,
+    path: &str,
+    file: &Candidate,
+    limit: u64,
+) -> Result<Content, ScanError>
+    requires { IsCandidate file.now }
+    ensures looked { Looked result (ReadAll (path_of path.now (plain_file file.now)) limit)
+        (λ content tree. IsContent limit content tree (path_of path.now (plain_file file.now)))
+        (seen disk.old) (seen disk.new) }
+    ensures reads { RaisesAtMost (seen disk.old).bytes_read (seen disk.new).bytes_read
+        (content_read result) }
+    ensures fits { IfOk result (FitsLimit limit) }
+{
+    let at = match file_path(alloc, path, file) {
+        Ok(at) => at,
+        Err(NoMemory) => return Err(ScanError::NoMemory),
+    };
+    content_of(alloc, disk, at.as_str(), limit)
+}
+
 // Looks for a file, and adds its message where it is there; tells whether it is.
 fn take(
     alloc: Global,
@@ -58,22 +83,20 @@ fn take(
     ensures taken { IfOk result (λ taken. spec.Takes path.now (plain_file file.now) taken
         (store_of so_far.old archive.old.items) (store_of so_far.new archive.new.items)
         (seen disk.old).told (seen disk.new).told) }
-    ensures reads { IfOk result (λ taken. spec.ReadsFound so_far.old.bytes so_far.new.bytes
-        (seen disk.old).bytes_read (seen disk.new).bytes_read) }
-    ensures meets { OnlyMeets result (seen disk.old) (seen disk.new) }
+    ensures walks { LooksWithin result so_far.old.bytes so_far.new.bytes (seen disk.old)
+        (seen disk.new) }
     ensures front { take_lem (length archive.old.items) archive.new.items ≡ archive.old.items }
 {
-    let at = file_path(alloc, path, file)?;
-    match content_of(alloc, disk, at.as_str(), so_far.limit())? {
+    match content_at(alloc, disk, path, file, so_far.limit())? {
         Content::NoFile => Ok(false),
         Content::TooLong(size) => {
             so_far.count_one(size);
             Ok(true)
         }
-        Content::Whole(read) => {
-            add(alloc, file, read.bytes, so_far, archive)?;
-            Ok(true)
-        }
+        Content::Whole(read) => match add(alloc, file, read.bytes, so_far, archive) {
+            Ok(()) => Ok(true),
+            Err(NoMemory) => Err(ScanError::NoMemory),
+        },
     }
 }
 
@@ -93,9 +116,8 @@ fn take_next(
         (option_map (λ r. r.now) last.entry) (plain_file file.now) taken
         (store_of so_far.old archive.old.items) (store_of so_far.new archive.new.items)
         (seen disk.old).told (seen disk.new).told) }
-    ensures reads { IfOk result (λ taken. spec.ReadsFound so_far.old.bytes so_far.new.bytes
-        (seen disk.old).bytes_read (seen disk.new).bytes_read) }
-    ensures meets { OnlyMeets result (seen disk.old) (seen disk.new) }
+    ensures walks { LooksWithin result so_far.old.bytes so_far.new.bytes (seen disk.old)
+        (seen disk.new) }
     ensures front { take_lem (length archive.old.items) archive.new.items ≡ archive.old.items }
 {
     if is_taken(last, &file.base) {
@@ -119,9 +141,8 @@ pub fn take_all(
     ensures walked { OnOk result (spec.IsWalked path.now (map plain_file files.now)
         (store_of so_far.old archive.old.items) (store_of so_far.new archive.new.items)
         (seen disk.old).told (seen disk.new).told) }
-    ensures reads { OnOk result (spec.ReadsFound so_far.old.bytes so_far.new.bytes
-        (seen disk.old).bytes_read (seen disk.new).bytes_read) }
-    ensures meets { OnlyMeets result (seen disk.old) (seen disk.new) }
+    ensures walks { LooksWithin result so_far.old.bytes so_far.new.bytes (seen disk.old)
+        (seen disk.new) }
     ensures front { take_lem (length archive.old.items) archive.new.items ≡ archive.old.items }
 {
     let mut last: Option<&[u8]> = None;

@@ -1,6 +1,7 @@
 -- What a scan has seen, by what its read has seen.
 use Rattle.std.proofs.Common.{◌≡◌, ◌+◌, ◌++◌, ◌<◌, ◌≤◌, ℕ, Bool, true, false, List, [], ◌∷◌, Option}
-use Rattle.std.proofs.Common.{Some, None, Ok, Err, length, map, nat_lt, if◌then◌else◌, refl, sym}
+use Rattle.std.proofs.Common.{Some, None, Result, Ok, Err, length, map, nat_lt}
+use Rattle.std.proofs.Common.{if◌then◌else◌, refl, sym}
 use Rattle.std.proofs.Common.{◌∙◌, ap, subst, arith}
 use Rattle.std.proofs.lemmas.Bool.{ltb-false, ltb-true}
 use Rattle.mail_base.specs.declared.kind.Kind.TheVariants.{Mbox}
@@ -14,17 +15,20 @@ use Rattle.folder_core.specs.declared.error.ScanError.{ScanError}
 use Rattle.folder_core.specs.declared.error.ScanError.TheVariants.{Missing, NotMailbox, TooMany}
 use Rattle.folder_core.specs.declared.error.ScanError.TheVariants.{TooLarge, Unfinished}
 use Rattle.folder_core.specs.declared.error.ScanError.TheVariants.{ArchiveFull, Fault, NoMemory}
-use Rattle.folder_core.specs.declared.listing.Found.{Found}
+use Rattle.folder_letters.specs.declared.listing.Found.{Found}
 use Rattle.folder_core.specs.Known.{KnownFolder}
-use Rattle.folder_core.specs.Letters.{Mail}
+use Rattle.folder_letters.specs.Letters.{Mail}
 use Rattle.folder_core.specs.Directory.{AloneBetween}
 use Rattle.folder_core.specs.Limits.{count_refusal, most_letters, most_messages}
 use Rattle.folder_core.specs.Mbox.{begins_mailbox, bytes_refusal, mbox_format, mbox_letter}
 use Rattle.folder_core.specs.Mbox.{mbox_message, mbox_refusal, mbox_refused, messages_of}
 use Rattle.folder_core.specs.Mbox.{raw_messages, status}
 use Rattle.folder_core.specs.Reads.{letters_from as message_letters, listed_from as message_listing}
-use Rattle.folder_core.specs.Scanned.{ListsNew, Saw, ids_from}
-use Rattle.folder_core.specs.declared.listing.Listed.{Listed}
+use Rattle.folder_core.specs.Scanned.{ListsNew, Saw}
+use Rattle.folder_letters.specs.Listings.{ids_from}
+use Rattle.folder_letters.specs.declared.listing.Listed.{Listed}
+use Rattle.folder_core.specs.FirstLook.{TellsMissing}
+use Rattle.folder_core.proofs.FirstLookLemmas.{told_there}
 use Rattle.folder_core.proofs.SeenLemmas.{alone_foreign, goes_as}
 use Rattle.mbox_folder.specs.FileSeen.{FileSeen, IsRead}
 use Rattle.mbox_folder.specs.ListedFile.{IsListedFile, IsStatedCause, IsUnlisted, ListsFile}
@@ -184,6 +188,35 @@ saw_unlisted why file archive new_archive known new_known old new same told seen
     subst (λ (k : KnownFolder). GoesOn (Saw Mbox archive new_archive k (Err why)) old new)
     (sym same)
     (saw_known why file archive new_archive known old new told seen)
+
+-- What the first look has found.
+
+-- a file that was read stood at the path
+pub file_first : {A : Type 0} (result : Result A ScanError) (file : FileRead) (name path : List ℕ)
+    (old new : Option Past) → name ≡ path → (result ≡ Err Missing → ⊥)
+    → GoesOn (TellsMissing (Ok file) name) old new → GoesOn (TellsMissing result path) old new
+file_first result file name path old new at other first =
+    subst (λ (l : List ℕ). GoesOn (TellsMissing result l) old new) at
+    (goes_as old new (λ p q t. told_there result name p q other (t.there refl)) first)
+
+-- a file that was read is not missing
+pub no_missing : (why : ScanError) (bytes : List ℕ) (letters : ℕ) → why ≡ Missing
+    → IsUnlisted bytes letters why → ⊥
+no_missing why bytes letters missing told =
+    begun (begins_mailbox bytes)
+    (subst (λ (e : ScanError). IsUnlisted bytes letters e) missing told)
+  where
+    begun : (t : Bool) → (if t then count_refusal letters (length (raw_messages bytes))
+        else Some (NotMailbox 0)) ≡ Some Missing → ⊥
+    begun false is = cc
+    begun true is = by_count (nat_lt most_messages (length (raw_messages bytes)))
+        (nat_lt most_letters (letters + length (raw_messages bytes))) is
+      where
+        by_count : (p q : Bool) → (if p then Some (TooMany (length (raw_messages bytes)))
+            else (if q then Some ArchiveFull else None)) ≡ Some Missing → ⊥
+        by_count true q is = cc
+        by_count false true is = cc
+        by_count false false is = cc
 
 -- A file is refused for want of ids only where they may run out.
 full_count : (letters count : ℕ) → count_refusal letters count ≡ Some ArchiveFull

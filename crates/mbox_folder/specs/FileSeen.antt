@@ -1,9 +1,15 @@
 -- What one whole read of a mailbox has seen.
-use Rattle.std.specs.Prelude.{◌≡◌, ◌≤◌, ℕ, List, [], ◌∷◌, Option, Some, Result, Ok, Err, length}
+use Rattle.std.specs.Prelude.{◌≡◌, ◌≤◌, ℕ, List, [], ◌∷◌, Option, Some, Result, Ok, Err, IsErrOf}
+use Rattle.std.specs.Prelude.{length}
+use Rattle.mail_base.specs.Faults.{Rose}
+use Rattle.disk_model.specs.Looking.{OnlyLooks}
+use Rattle.disk_model.specs.Seen.{Seen}
 use Rattle.disk_model.specs.Tree.{TreeNode, node_at}
 use Rattle.disk_model.specs.Journal.{Past, NoForeign}
 use Rattle.disk_model.specs.State.{tree_at, tree_after}
 use Rattle.disk_model.specs.declared.answers.FileRead.{FileRead}
+use Rattle.folder_core.specs.Costs.{RaisesAtMost}
+use Rattle.folder_core.specs.Limits.{most_bytes}
 use Rattle.folder_core.specs.declared.error.ScanError.{ScanError}
 use Rattle.folder_core.specs.declared.error.ScanError.TheVariants.{Missing, NotMailbox, TooMany}
 use Rattle.folder_core.specs.declared.error.ScanError.TheVariants.{TooLarge, Unfinished}
@@ -34,6 +40,12 @@ pub record FileSeen (result : Result FileRead ScanError) (path : List ℕ) (old 
     pub to : mark ≤ length new.journal
     pub is : IsRead result (node_at (tree_at new mark) path)
     pub alone : NoForeign old new → tree_at new mark ≡ tree_after new
+
+-- a read changes nothing, a fault was counted, and no more bytes are read than a folder may have
+pub record MeetsFile (result : Result FileRead ScanError) (old new : Seen) : Type 0 where
+  pub only : OnlyLooks old new
+  pub cause : IsErrOf result Fault → Rose old.faults new.faults
+  pub within : RaisesAtMost old.bytes_read new.bytes_read most_bytes
 
 -- an error that a read of the file may have
 abbrev pub IsFileError : ScanError → Type 0

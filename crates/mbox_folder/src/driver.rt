@@ -2,7 +2,7 @@
 
 ghost use Rattle.std.specs.Prelude.{◌≡◌, length, map, take, IfOk, IfErr, OnErr};
 ghost use Rattle.mail_base.specs.declared.kind.Kind.TheVariants.{Mbox};
-ghost use Rattle.folder_core.specs.Letters.{plain_letter};
+ghost use Rattle.folder_letters.specs.Letters.{plain_letter};
 ghost use Rattle.folder_core.specs.Scanned.{Scans};
 ghost use Rattle.mbox_folder.specs.ListedFile.{IsUnlisted, ListsFile};
 
@@ -51,10 +51,7 @@ fn scan_file(
     ensures { Scans Mbox archive.old.items archive.new.items known.old known.new result
         (seen disk.old) (seen disk.new) }
 {
-    let file = match read_file(alloc, disk, known.path()) {
-        Ok(file) => file,
-        Err(why) => return Err(why),
-    };
+    let file = read_file(alloc, disk, known.path())?;
     let letters = archive.len();
     match list_known(alloc, file, known, archive) {
         Ok(found) => Ok(found),
@@ -79,10 +76,7 @@ fn list_known(
         (length (map plain_letter archive.old.items))) }
     ensures front { take (length archive.old.items) archive.new.items ≡ archive.old.items }
 {
-    let came = match list_file(alloc, file.bytes.as_slice(), archive) {
-        Ok(came) => came,
-        Err(why) => return Err(why),
-    };
+    let came = list_file(alloc, file.bytes.as_slice(), archive)?;
     let mut stamps = Stamps::new(alloc);
     if stamps.push(file.stat.stamp).is_err() {
         return Err(ScanError::NoMemory);

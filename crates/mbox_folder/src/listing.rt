@@ -1,25 +1,21 @@
 //! The letters of a mailbox, and their listing.
 
 ghost use Rattle.std.specs.Prelude.{◌≡◌, ◌≤◌, ◌+◌, ◌++◌, ◌^◌, ◌<◌, length, map, take, IfOk, IfErr};
-ghost use Rattle.folder_core.specs.Letters.{plain_letter};
+ghost use Rattle.folder_letters.specs.Letters.{plain_letter};
 ghost use Rattle.folder_core.specs.Limits.{count_refusal as count_refusal_lem, most_letters};
 ghost use Rattle.folder_core.specs.Mbox.{mbox_letter, raw_messages, received as received_lem};
 ghost use Rattle.folder_core.specs.Mbox.{core as spec_core, regions as regions_lem};
-ghost use Rattle.folder_core.specs.Moments.{IsClockMoment};
+ghost use Rattle.folder_letters.specs.Moments.{IsClockMoment};
 ghost use Rattle.mbox_folder.specs.ListedFile.{IsListedFile, IsUnlisted, letters_from, listed_from};
 
 use crate::message_core::read_message;
 use crate::postmark::read_postmark;
 use crate::regions::{CutError, cut_regions};
-use folder_core::{Archive, Letter, Listed, Listing, Region, ScanError};
+use folder_core::{
+    Archive, Letter, Listed, Listing, MOST_LETTERS, MOST_MESSAGES, Region, ScanError,
+};
 use mail_base::{Bytes, Id, NoMemory, first_line};
 use std::alloc::Global;
-
-/// The most messages that are listed.
-const MOST_MESSAGES: usize = 65_535;
-
-/// The most letters of an archive.
-const MOST_LETTERS: usize = 4_294_967_295;
 
 /// Adds the letters of a file to an archive, and answers their listing. After a refusal letters may
 /// stand behind those that were there.

@@ -1,5 +1,6 @@
 -- What a scan of an MH folder has seen, by its names, its sequences and its walk.
-use Rattle.std.proofs.Common.{◌≡◌, ◌≤◌, ℕ, Bool, true, List, [], Option, Some, None, Err, length}
+use Rattle.std.proofs.Common.{◌≡◌, ◌≤◌, ◌+◌, ℕ, Bool, true, List, [], Option, Some}
+use Rattle.std.proofs.Common.{None, Err, length}
 use Rattle.std.proofs.Common.{is_some}
 use Rattle.std.proofs.Common.{if◌then◌else◌, refl, sym, ◌∙◌, ap, subst, arith}
 use Rattle.std.specs.Prelude.{option_and_then}
@@ -11,20 +12,24 @@ use Rattle.disk_model.specs.Names.{names_in}
 use Rattle.disk_model.specs.Seen.{Seen}
 use Rattle.disk_model.specs.State.{tree_at}
 use Rattle.disk_model.specs.Tree.{TreeNode}
-use Rattle.disk_model.proofs.Looking.{looked_then}
-use Rattle.disk_model.proofs.Marks.{tree_at-looked}
+use Rattle.disk_model.proofs.Looking.{looked_longer, looked_then, looks_same, looks_then}
+use Rattle.disk_model.proofs.Marks.{tree_at-longer, tree_at-looked}
+use Rattle.folder_core.specs.Costs.{RaisesAtMost}
 use Rattle.folder_core.specs.Directory.{file_at, is_folder_at, path_in}
 use Rattle.folder_core.specs.FirstScan.{ListsFolder}
-use Rattle.folder_core.specs.Letters.{Mail}
-use Rattle.folder_core.specs.Limits.{list_refusal, sum_refusal}
+use Rattle.folder_letters.specs.Letters.{Mail}
+use Rattle.folder_core.specs.Limits.{list_refusal, most_bytes, sum_refusal}
 use Rattle.folder_core.specs.ListedSoFar.{Holds}
 use Rattle.folder_core.specs.Looked.{SawAt}
 use Rattle.folder_core.specs.Message.{Message}
+use Rattle.folder_core.specs.Mh.{HeldSequences, ReadsBeside}
 use Rattle.folder_core.specs.Mh.{message_at, message_of, mh_format, mh_messages, mh_reads}
 use Rattle.folder_core.specs.Mh.{numbers_of, sequences_at, sequences_path}
 use Rattle.folder_core.specs.declared.error.ScanError.{ScanError}
 use Rattle.folder_core.specs.declared.error.ScanError.TheVariants.{ArchiveFull, Fault}
-use Rattle.folder_core.specs.declared.listing.Listed.{Listed}
+use Rattle.folder_letters.specs.declared.listing.Listed.{Listed}
+use Rattle.folder_core.proofs.CostsLemmas.{raises_more, raises_same, raises_then}
+use Rattle.folder_core.proofs.FirstLookLemmas.{first_as}
 use Rattle.folder_core.proofs.FirstScanLemmas.{FolderWalked}
 use Rattle.folder_core.proofs.ListedSoFarLemmas.{held_refusal}
 use Rattle.folder_core.proofs.KindsLemmas.{number_is_name}
@@ -38,6 +43,7 @@ use Rattle.mh_folder.specs.Scan.{MessagesSeen, StampedSeen}
 use Rattle.mh_folder.specs.Walk.{IsWalked, Kept, WalkSeen}
 use Rattle.mh_folder.specs.declared.marks.Marks.{Marks}
 use Rattle.mh_folder.specs.declared.numbered_name.NumberedName.{NumberedName}
+use Rattle.mh_folder.proofs.FolderLemmas.{sequences_unread}
 use Rattle.mh_folder.proofs.NumberedNameLemmas.{numbers_held}
 use Rattle.mh_folder.proofs.WalkLemmas.{stood_as}
 
@@ -198,14 +204,60 @@ refused_walked path first kept a d w = record {
   saw = goes_as a d (λ p q saw. record { stamps = w.stamps; saw = saw }) w.saw;
 }
 
+-- What was read of the folder.
+
+-- the sequences, and then the files
+pub folder_reads : (path : List ℕ) (a b c d : Seen) → LooksOnly a.told b.told
+    → LooksOnly b.told c.told → LooksOnly c.told d.told
+    → RaisesAtMost a.bytes_read b.bytes_read 0 → ReadsBeside path 0 b c
+    → RaisesAtMost c.bytes_read d.bytes_read most_bytes → ReadsBeside path most_bytes a d
+folder_reads path a b c d one two three names sequences files = record {
+  sequences = sequences.sequences;
+  held = goes_then {P = HasLooked} {Q = HeldSequences path sequences.sequences} a.told b.told d.told
+      (λ p q s x y looked held. record {
+        mark = held.mark;
+        from = omega (arith, held.from, longer_later p q x);
+        to = held.to;
+        held = held.held;
+      }) one (looks_then b.told c.told d.told two three) one
+      (goes_then {Q = HasLooked} b.told c.told d.told (λ p q s x y held looked. record {
+        mark = held.mark;
+        from = held.from;
+        to = omega (arith, held.to, longer_later q s y);
+        held = subst (λ (t : List TreeNode). sequences.sequences ≤ length (sequences_at t path))
+            (sym (tree_at-longer q s held.mark (looked_longer q s y) held.to)) held.held;
+      }) two three sequences.held three);
+  reads = raises_more a.bytes_read d.bytes_read (0 + (sequences.sequences + 0) + most_bytes)
+      (sequences.sequences + most_bytes) (omega arith)
+      (raises_then a.bytes_read c.bytes_read d.bytes_read (0 + (sequences.sequences + 0)) most_bytes
+      (raises_then a.bytes_read b.bytes_read c.bytes_read 0 (sequences.sequences + 0) names
+      sequences.reads) files);
+}
+
+-- the walk was not begun
+pub folder_unwalked : (path : List ℕ) (a b c : Seen) → LooksOnly a.told b.told
+    → LooksOnly b.told c.told → RaisesAtMost a.bytes_read b.bytes_read 0 → ReadsBeside path 0 b c
+    → ReadsBeside path most_bytes a c
+folder_unwalked path a b c one two names sequences =
+    folder_reads path a b c c one two (looks_same c.told) names sequences
+    (raises_more c.bytes_read c.bytes_read 0 most_bytes (omega arith) (raises_same c.bytes_read))
+
+sequences_unread_most : (path : List ℕ) (a b : Seen) → LooksOnly a.told b.told
+    → RaisesAtMost a.bytes_read b.bytes_read 0 → ReadsBeside path most_bytes a b
+sequences_unread_most path a b looks reads =
+    folder_unwalked path a b b looks (looks_same b.told) reads
+    (sequences_unread path b b (looks_same b.told) (raises_same b.bytes_read))
+
 -- a refusal before the walk
 pub never_listed : {A B : Type 0} {Sees : A → Option Past → Option Past → Type 0} (path : List ℕ)
     (archive new_archive : List Mail) (why : ScanError) (came_of : B → List Listed)
     (Gives : B → List Message → Past → Past → Type 0) (a b : Seen) → Finds path (Err why) Sees a b
     → ListsFolder {A = B} mh_format path archive new_archive (Err why) came_of Gives a b
-never_listed path archive new_archive why came_of Gives a b found = record {
+never_listed {A} {B} path archive new_archive why came_of Gives a b found = record {
   ok = tt;
   refused = found.refused (length archive);
+  first = first_as A B why path a.told b.told found.first;
+  within = sequences_unread_most path a b found.only.looks found.reads;
   full = λ e. absurd (found.never_full (let full : why ≡ ArchiveFull = cc in ap Err full));
   only = found.only;
   cause = λ e. found.cause (let fault : why ≡ Fault = cc in ap Err fault);

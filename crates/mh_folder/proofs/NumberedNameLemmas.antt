@@ -16,11 +16,11 @@ use Rattle.std.specs.declared.cmp.Ordering.TheVariants.{Less, Equal, Greater}
 use Rattle.std.proofs.lemmas.Slice.Eq.{bytes_eq-Decides}
 use Rattle.disk_model.proofs.Trees.{bytes_same}
 use Rattle.folder_core.specs.Mh.{comes_before, is_number, name_cmp, number_at, numbers_of}
-use Rattle.folder_core.specs.Ordered.{IsIn, in_order_by}
+use Rattle.mail_base.specs.Ordered.{IsIn, in_order_by}
 use Rattle.folder_core.proofs.NamesIn.{holds_name}
-use Rattle.folder_core.proofs.OrderedLemmas.{NeverFalls, in_order_held, in_order_permutation}
-use Rattle.folder_core.proofs.OrderedLemmas.{in_order_same, sorted_falls}
-use Rattle.folder_core.proofs.OrderedLemmas.{text_same, then_equal}
+use Rattle.mail_base.proofs.OrderedLemmas.{NeverFalls, in_order_held, in_order_permutation}
+use Rattle.mail_base.proofs.OrderedLemmas.{in_order_same, sorted_falls}
+use Rattle.mail_base.proofs.OrderedLemmas.{text_same, then_equal}
 use Rattle.mh_folder.specs.NumberedName.{AreInOrder, IsNumbered, Rises, plain_name, plain_names}
 use Rattle.mh_folder.specs.declared.numbered_name.NumberedName.{NumberedName}
 

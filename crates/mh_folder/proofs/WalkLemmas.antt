@@ -20,17 +20,17 @@ use Rattle.disk_model.specs.declared.answers.FileRead.{FileRead}
 use Rattle.disk_model.proofs.Looking.{looked_longer}
 use Rattle.disk_model.proofs.Marks.{tree_at-longer}
 use Rattle.folder_core.specs.Directory.{file_at, path_in}
-use Rattle.folder_core.specs.Letters.{Mail}
+use Rattle.folder_letters.specs.Letters.{Mail}
 use Rattle.folder_core.specs.Limits.{list_refusal, most_bytes, sum_refusal, told_sum}
 use Rattle.folder_core.specs.ListedSoFar.{Holds, store_with}
-use Rattle.folder_core.specs.Looked.{FileSeen, IsContent, IsPast, IsTreeOfAll, SawAt}
+use Rattle.folder_core.specs.Looked.{FileSeen, IsContent, FitsLimit, IsTreeOfAll, SawAt}
 use Rattle.folder_core.specs.Message.{Message, are_in_order, has_key, stands_before}
 use Rattle.folder_core.specs.Mh.{AllStood, StaysThere, Stood, is_number, message_at, message_of}
 use Rattle.folder_core.specs.Mh.{mh_format}
 use Rattle.folder_core.specs.Mh.{number_at, stamp_there}
 use Rattle.folder_core.specs.MhNumbers.{number_of}
 use Rattle.folder_core.specs.MhSequences.{mh_flags}
-use Rattle.folder_core.specs.Ordered.{IsIn}
+use Rattle.mail_base.specs.Ordered.{IsIn}
 use Rattle.folder_core.specs.declared.looks.Content.{Content}
 use Rattle.folder_core.specs.declared.looks.Content.TheVariants.{NoFile, TooLong, Whole}
 use Rattle.folder_core.proofs.ListedSoFarLemmas.{fewer_none, held_refusal, holds_first, holds_found}
@@ -479,7 +479,7 @@ long_kept sequences name (b ∷ raw) stamp size limit kept new_kept left past sa
 pub took_long : (path sequences name at : List ℕ) (limit : ℕ) (content : Content) (size : ℕ)
     (kept new_kept : Kept) (a b : Option Past)
     → at ≡ path_in path name → limit ≡ most_bytes - kept.store.bytes → content ≡ TooLong size
-    → IsPast limit content
+    → FitsLimit limit content
     → new_kept.store ≡ record kept.store
     { count = kept.store.count + 1; bytes = told_sum (kept.store.bytes + size) }
     → GoesOn (SawAt (ReadAll at limit) (λ tree. IsContent limit content tree at)) a b

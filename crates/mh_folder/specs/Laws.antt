@@ -12,6 +12,7 @@ use Rattle.mh_folder.specs.Sequences.{holds, put, sequences_of, without_number}
 abbrev pub is_upright : Range → Bool
 is_upright r = nat_le r.first r.last
 
+-- no range of a line is upside down
 abbrev pub has_upright : PlainLine → Bool
 has_upright (Named name ranges) = list_all is_upright ranges
 has_upright (Kept text) = true

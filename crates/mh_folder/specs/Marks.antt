@@ -6,6 +6,7 @@ use Rattle.mh_folder.specs.declared.marks.Marks.{Marks}
 use Rattle.mh_folder.specs.declared.members.Members.{Members}
 use Rattle.mh_folder.specs.Ranges.{any_holds}
 
+-- a number is one of the members
 abbrev pub has_member : Members → ℕ → Bool
 has_member members n = any_holds n members.ranges.items
 

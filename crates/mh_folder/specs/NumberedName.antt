@@ -11,9 +11,11 @@ pub record IsNumbered (n : NumberedName) : Type 0 where
   pub number_is : number_of n.name.items ≡ Some n.number
   pub text : IsUtf8 n.name.items
 
+-- a numbered name as contracts see it
 abbrev pub plain_name : NumberedName → List ℕ
 plain_name n = n.name.items
 
+-- numbered names as contracts see them
 abbrev pub plain_names : List NumberedName → List (List ℕ)
 plain_names files = map plain_name files
 

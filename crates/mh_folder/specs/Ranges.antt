@@ -9,6 +9,7 @@ use Rattle.mail_base.specs.Places.{split_once}
 use Rattle.mh_folder.specs.declared.range.Range.{Range}
 use Rattle.folder_core.specs.MhNumbers.{number_of}
 
+-- the range of one number
 abbrev pub one : ℕ → Range
 one n = record { first = n; last = n }
 
@@ -17,6 +18,7 @@ abbrev pub between : ℕ → ℕ → Option Range
 between first last =
     if nat_le first last then Some (record { first = first; last = last }) else None
 
+-- the range that a word writes, if it is one
 abbrev pub range_by : List ℕ → Option (List ℕ × List ℕ) → Option Range
 range_by word None = number_of word >>= λ n. Some (one n)
 range_by word (Some parts) =
@@ -26,9 +28,11 @@ range_by word (Some parts) =
 abbrev pub range_of : List ℕ → Option Range
 range_of word = range_by word (split_once (byte "-") word)
 
+-- a range holds a number
 abbrev pub holds : ℕ → Range → Bool
 holds n r = nat_le r.first n && nat_le n r.last
 
+-- one of the ranges holds a number
 abbrev pub any_holds : ℕ → List Range → Bool
 any_holds n ranges = list_any (holds n) ranges
 
@@ -41,6 +45,7 @@ begins_by n (Some r) = nat_le r.first n
 abbrev pub is_before : Range → Range → Bool
 is_before r s = nat_lt (r.last + 1) s.first
 
+-- the range of both and what is between them
 abbrev pub joined : Range → Range → Range
 joined r s = record { first = min r.first s.first; last = max r.last s.last }
 
@@ -59,6 +64,7 @@ parts n r =
     ++ (if nat_lt n r.last then record r { first = n + 1 } ∷ [] else [])
     else r ∷ []
 
+-- ranges without a number
 abbrev pub without : ℕ → List Range → List Range
 without n ranges = flat_map (parts n) ranges
 

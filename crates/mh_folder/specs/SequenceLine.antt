@@ -17,10 +17,12 @@ pub data PlainLine : Type 0 where
   Named : List ℕ → List Range → PlainLine
   Kept : List ℕ → PlainLine
 
+-- a line as contracts see it
 abbrev pub plain_line : SequenceLine → PlainLine
 plain_line (line.Named name ranges) = Named name.items ranges.items
 plain_line (line.Kept text) = Kept text.items
 
+-- a name has a blank
 abbrev pub has_blank : List ℕ → Bool
 has_blank name = list_any is_blank name
 
@@ -45,6 +47,7 @@ ranges_from ranges word (b ∷ rest) =
     if is_blank b then with_word ranges word >>= (λ more. ranges_from more [] rest)
     else ranges_from ranges (word ++ b ∷ []) rest
 
+-- the sequence of a line that is cut at its colon, if it is one
 abbrev pub named_by : List ℕ × List ℕ → Option PlainLine
 named_by parts =
     if is_name parts.0
@@ -55,16 +58,20 @@ named_by parts =
 abbrev pub named_line : List ℕ → Option PlainLine
 named_line text = split_once (byte ":") text >>= named_by
 
+-- a line of the file: a sequence, or one that is kept as it is
 abbrev pub line_of : List ℕ → PlainLine
 line_of text = unwrap_or (named_line text) (Kept text)
 
+-- a sequence without members
 abbrev pub empty_line : List ℕ → PlainLine
 empty_line name = Named name []
 
+-- a line is the sequence of a name
 abbrev pub has_name : List ℕ → PlainLine → Bool
 has_name name (Named own ranges) = bytes_eq own name
 has_name name (Kept text) = false
 
+-- a line is the sequence of a name and holds a number
 abbrev pub line_holds : List ℕ → ℕ → PlainLine → Bool
 line_holds name n (Named own ranges) = bytes_eq own name && any_holds n ranges
 line_holds name n (Kept text) = false
@@ -73,18 +80,22 @@ line_holds name n (Kept text) = false
 abbrev pub ranges_if : Bool → List Range → List Range
 ranges_if is_named ranges = if is_named then ranges else []
 
+-- the ranges of a line, if it is the sequence of a name
 abbrev pub ranges_named : List ℕ → PlainLine → List Range
 ranges_named name (Named own ranges) = ranges_if (bytes_eq own name) ranges
 ranges_named name (Kept text) = []
 
+-- a sequence with one more number
 abbrev pub with_number : ℕ → PlainLine → PlainLine
 with_number n (Named name ranges) = Named name (with_range (one n) ranges)
 with_number n (Kept text) = Kept text
 
+-- a sequence without a number
 abbrev pub without_number : ℕ → PlainLine → PlainLine
 without_number n (Named name ranges) = Named name (without n ranges)
 without_number n (Kept text) = Kept text
 
+-- ranges as they are written
 abbrev pub ranges_text : List Range → List ℕ
 ranges_text ranges = flat_map text_of ranges
 

@@ -8,6 +8,7 @@ use Rattle.mh_folder.specs.SequenceLine.{PlainLine, empty_line, has_name, line_h
 use Rattle.mh_folder.specs.SequenceLine.{line_text, plain_line, ranges_named}
 use Rattle.mh_folder.specs.SequenceLine.{with_number as line_with, without_number as line_without}
 
+-- lines as contracts see them
 abbrev pub plain_lines : List SequenceLine → List PlainLine
 plain_lines lines = map plain_line lines
 
@@ -22,6 +23,7 @@ lines_from so_far [] = last_line so_far
 lines_from so_far (b ∷ rest) =
     if b == 10 then line_of so_far ∷ lines_from [] rest else lines_from (so_far ++ b ∷ []) rest
 
+-- one of the lines is the sequence of a name
 abbrev pub any_has_name : List ℕ → List PlainLine → Bool
 any_has_name name lines = list_any (has_name name) lines
 
@@ -49,6 +51,7 @@ with_member name n [] = line_with n (empty_line name) ∷ []
 with_member name n (line ∷ lines) =
     if has_name name line then line_with n line ∷ lines else line ∷ with_member name n lines
 
+-- a line without a member, if it is the sequence of a name
 abbrev pub line_without_member : List ℕ → ℕ → PlainLine → PlainLine
 line_without_member name n line = if has_name name line then line_without n line else line
 
@@ -65,5 +68,6 @@ put name n false lines = if holds name n lines then without_member name n lines 
 abbrev pub without_number : ℕ → List PlainLine → List PlainLine
 without_number n lines = map (line_without n) lines
 
+-- lines as they are written
 abbrev pub file_of : List PlainLine → List ℕ
 file_of lines = flat_map line_text lines

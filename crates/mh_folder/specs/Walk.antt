@@ -1,5 +1,5 @@
 -- What a walk over the numbered files of a folder has found and kept.
-use Rattle.std.specs.Prelude.{◌≡◌, ◌≤◌, ◌++◌, ℕ, pos, true, List, [], ◌∷◌, Option, Some, None}
+use Rattle.std.specs.Prelude.{◌≡◌, ◌≤◌, ◌+◌, ◌++◌, ℕ, pos, true, List, [], ◌∷◌, Option, Some, None}
 use Rattle.std.specs.Prelude.{length}
 use Rattle.std.specs.List.{filter_map}
 use Rattle.disk_model.specs.Journal.{Past}
@@ -7,15 +7,16 @@ use Rattle.disk_model.specs.Judge.{GoesOn}
 use Rattle.disk_model.specs.State.{tree_at}
 use Rattle.disk_model.specs.Tree.{TreeNode, node_at}
 use Rattle.folder_core.specs.Directory.{path_in}
-use Rattle.folder_core.specs.Letters.{Mail}
-use Rattle.folder_core.specs.Limits.{list_refusal, sum_refusal}
+use Rattle.folder_letters.specs.Letters.{Mail}
+use Rattle.folder_core.specs.Limits.{list_refusal, sum_refusal, told_sum}
 use Rattle.folder_core.specs.ListedSoFar.{Holds, IsEmpty, Store, store_found, store_of}
 use Rattle.folder_core.specs.Looked.{IsTreeOfAll}
 use Rattle.folder_core.specs.Message.{Message, are_in_order, has_key}
 use Rattle.folder_core.specs.Mh.{AllStood, StaysThere, message_at, message_of, mh_format}
 use Rattle.folder_core.specs.Mh.{stamp_there}
-use Rattle.folder_core.specs.Ordered.{IsIn}
-use Rattle.folder_core.specs.declared.letter.Letter.{Letter}
+use Rattle.mail_base.specs.Ordered.{IsIn}
+use Rattle.folder_letters.specs.declared.letter.Letter.{Letter}
+use Rattle.folder_core.specs.declared.listed_so_far.ListedSoFar.{ListedSoFar}
 use Rattle.mh_folder.specs.declared.walk.Walk.{Walk}
 
 -- what is counted and stored, and the stamps of the files that were read
@@ -23,6 +24,7 @@ pub record Kept : Type 0 where
   pub store : Store
   pub stamps : List ℕ
 
+-- what was found so far and with which stamps
 abbrev pub kept_of : Walk → List Letter → Kept
 kept_of walk archive = record { store = store_of walk.so_far archive; stamps = walk.stamps.items }
 
@@ -40,6 +42,11 @@ mail_of number name raw =
 abbrev pub stamps_with : Option Message → ℕ → List ℕ → List ℕ
 stamps_with None stamp stamps = stamps
 stamps_with (Some message) stamp stamps = stamps ++ stamp ∷ []
+
+-- the count rises by one at most, and the bytes by those of a file
+pub record CountsOne (size : ℕ) (old new : ListedSoFar) : Type 0 where
+  pub count : new.count ≤ old.count + 1
+  pub bytes : told_sum new.bytes ≡ told_sum (old.bytes + size)
 
 -- a message is kept, where there is one; its stamp where all found so far may be listed
 pub record Keeps (found : Option Message) (stamp : ℕ) (kept new_kept : Kept) : Type 0 where

@@ -3,7 +3,7 @@
 ghost use Rattle.std.specs.Prelude.{◌≡◌, length, map, take};
 ghost use Rattle.mail_base.specs.declared.kind.Kind.TheVariants.{Mh};
 ghost use Rattle.folder_core.specs.FirstScan.{ListsFolder, ScansFolder};
-ghost use Rattle.folder_core.specs.Letters.{plain_letter};
+ghost use Rattle.folder_letters.specs.Letters.{plain_letter};
 ghost use Rattle.folder_core.specs.Mh.{mh_format};
 ghost use Rattle.folder_core.specs.Scanned.{Scans};
 ghost use Rattle.mh_folder.specs.Scan as spec;
@@ -11,8 +11,8 @@ ghost use Rattle.mh_folder.specs.Scan as spec;
 use crate::folder::{list_numbers, read_marks};
 use crate::walk::Walk;
 use disk_model::{Device, Disk};
-use folder_core::{Archive, Driver, Found, Known, Listing, ScanError};
-use mail_base::{Kind, NoMemory, Stamps};
+use folder_core::{Archive, Driver, Found, Known, Listing, ScanError, first_found};
+use mail_base::{Kind, Stamps};
 use std::alloc::Global;
 
 /// Reads folders of a numbered file a message (mh-mail(5)).
@@ -76,17 +76,8 @@ fn list_known(
         (seen disk.old) (seen disk.new) }
     ensures front { take (length archive.old.items) archive.new.items ≡ archive.old.items }
 {
-    let Ok(path) = str::from_utf8(known.path().as_slice()) else {
-        unreachable!()
-    };
-    let (came, stamps) = match list_folder(alloc, disk, path, archive) {
-        Ok(listed) => listed,
-        Err(why) => return Err(why),
-    };
-    match Found::first(alloc, known, came, stamps) {
-        Ok(found) => Ok(found),
-        Err(NoMemory) => Err(ScanError::NoMemory),
-    }
+    let (came, stamps) = list_folder(alloc, disk, known.path(), archive)?;
+    Ok(first_found(alloc, known, came, stamps)?)
 }
 
 /// Adds the letters of an MH folder to an archive, and answers their listing and the stamps of
@@ -102,10 +93,7 @@ fn list_folder(
         (λ listed. spec.StampedSeen path.now listed.1.items) (seen disk.old) (seen disk.new) }
     ensures front { take (length archive.old.items) archive.new.items ≡ archive.old.items }
 {
-    let files = match list_numbers(alloc, disk, path) {
-        Ok(files) => files,
-        Err(why) => return Err(why),
-    };
+    let files = list_numbers(alloc, disk, path)?;
     let marks = match read_marks(alloc, disk, path) {
         Ok(marks) => marks,
         Err(why) => return Err(why),

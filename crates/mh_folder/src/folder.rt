@@ -4,6 +4,7 @@
 ghost use Rattle.std.specs.Prelude.{IfOk, map};
 ghost use Rattle.disk_model.specs.Judge.{GoesOn};
 ghost use Rattle.folder_core.specs.Looked.{OnlyMeets};
+ghost use Rattle.folder_core.specs.Mh.{ReadsBeside};
 ghost use Rattle.mh_folder.specs.Folder as spec;
 
 use crate::marks::Marks;
@@ -23,11 +24,10 @@ pub fn list_numbers(
         (λ files old new. spec.ListsNumbers path.now files.items old new)
         (seen disk.old) (seen disk.new) }
 {
-    let names = match contents_of(alloc, disk, path) {
-        Ok(Contents::Names(names)) => names,
-        Ok(Contents::Nothing) => return Err(ScanError::Missing),
-        Ok(Contents::File) => return Err(ScanError::NotMailbox(0)),
-        Err(why) => return Err(why),
+    let names = match contents_of(alloc, disk, path)? {
+        Contents::Names(names) => names,
+        Contents::Nothing => return Err(ScanError::Missing),
+        Contents::File => return Err(ScanError::NotMailbox(0)),
     };
     match numbered_names(alloc, names.as_slice()) {
         Ok(files) => Ok(files),
@@ -40,6 +40,7 @@ pub fn read_marks(alloc: Global, disk: &mut dyn Disk, path: &str) -> Result<Mark
     ensures read { IfOk result (λ marks. spec.ReadsMarks path.now marks
         (seen disk.old).told (seen disk.new).told) }
     ensures meets { OnlyMeets result (seen disk.old) (seen disk.new) }
+    ensures reads { ReadsBeside path.now 0 (seen disk.old) (seen disk.new) }
 {
     let file = path_in(alloc, path, ".mh_sequences")?;
     match content_of(alloc, disk, file.as_str(), u64::MAX)? {

@@ -1,8 +1,9 @@
 //! The sequences of a folder (mh-sequence(5)).
 
-ghost use Rattle.std.specs.Prelude.{◌≡◌, ◌++◌, ℕ, [], IfOk, OnOk, OnErr, true};
+ghost use Rattle.std.specs.Prelude.{◌≡◌, ◌++◌, ◌∷◌, ℕ, [], IfOk, OnOk, OnErr, true};
 ghost use Rattle.mh_folder.specs.Laws.{are_upright};
 ghost use Rattle.mh_folder.specs.Marks.{has_member};
+ghost use Rattle.mh_folder.specs.SequenceLine as one;
 ghost use Rattle.mh_folder.specs.Sequences as spec;
 
 use crate::members::Members;
@@ -164,7 +165,7 @@ fn append_copies(
 {
     let mut left = more;
     while let [line, rest @ ..] = left {
-        lines.push(line.copy(alloc)?)?;
+        push_copy(lines, alloc, line)?;
         left = rest;
     }
     Ok(())
@@ -181,18 +182,68 @@ fn with_member(
         ≡ spec.with_member name.now number (spec.plain_lines lines.now)) }
 {
     let mut made = Series::new(alloc);
+    push_with_member(&mut made, alloc, lines, name, number)?;
+    Ok(made)
+}
+
+// Adds the lines of which the first of the name has the number, or a new one behind all.
+fn push_with_member(
+    made: &mut Series<SequenceLine>,
+    alloc: Global,
+    lines: &[SequenceLine],
+    name: &[u8],
+    number: u32,
+) -> Result<(), NoMemory>
+    ensures { OnOk result (spec.plain_lines made.new.items ≡ spec.plain_lines made.old.items
+        ++ spec.with_member name.now number (spec.plain_lines lines.now)) }
+{
     let mut left = lines;
     while let [line, rest @ ..] = left {
         if line.has_name(name) {
-            made.push(line.with_number(alloc, number)?)?;
-            append_copies(&mut made, alloc, rest)?;
-            return Ok(made);
+            push_with_number(made, alloc, line, number)?;
+            return append_copies(made, alloc, rest);
         }
-        made.push(line.copy(alloc)?)?;
+        push_copy(made, alloc, line)?;
         left = rest;
     }
-    made.push(SequenceLine::empty(alloc, name)?.with_number(alloc, number)?)?;
-    Ok(made)
+    push_new(made, alloc, name, number)
+}
+
+fn push_with_number(
+    made: &mut Series<SequenceLine>,
+    alloc: Global,
+    line: &SequenceLine,
+    number: u32,
+) -> Result<(), NoMemory>
+    ensures { OnOk result (spec.plain_lines made.new.items
+        ≡ spec.plain_lines made.old.items
+        ++ (one.with_number number (one.plain_line line.now) ∷ [])) }
+{
+    made.push(line.with_number(alloc, number)?)
+}
+
+fn push_copy(
+    made: &mut Series<SequenceLine>,
+    alloc: Global,
+    line: &SequenceLine,
+) -> Result<(), NoMemory>
+    ensures { OnOk result (spec.plain_lines made.new.items
+        ≡ spec.plain_lines made.old.items ++ (one.plain_line line.now ∷ [])) }
+{
+    made.push(line.copy(alloc)?)
+}
+
+fn push_new(
+    made: &mut Series<SequenceLine>,
+    alloc: Global,
+    name: &[u8],
+    number: u32,
+) -> Result<(), NoMemory>
+    ensures { OnOk result (spec.plain_lines made.new.items
+        ≡ spec.plain_lines made.old.items
+        ++ (one.with_number number (one.empty_line name.now) ∷ [])) }
+{
+    made.push(SequenceLine::empty(alloc, name)?.with_number(alloc, number)?)
 }
 
 impl Sequences {

@@ -4,9 +4,12 @@
 ghost use Rattle.std.specs.Prelude.{ℕ, ◌≡◌, ◌+◌, ◌<◌, ◌≤◌, ◌^◌, [], List, None, IfOk, OnOk, length};
 ghost use Rattle.std.specs.Prelude.{take as take_lem};
 ghost use Rattle.std.specs.List.{All};
-ghost use Rattle.folder_core.specs.Letters.{plain_letter};
-ghost use Rattle.folder_core.specs.ListedSoFar.{IsEmpty, store_of};
-ghost use Rattle.folder_core.specs.Looked.{OnlyMeets};
+ghost use Rattle.folder_letters.specs.Letters.{plain_letter};
+ghost use Rattle.disk_model.specs.Journal.{ReadAll};
+ghost use Rattle.folder_core.specs.Costs.{RaisesAtMost};
+ghost use Rattle.folder_core.specs.Directory.{path_in as path_in_lem};
+ghost use Rattle.folder_core.specs.ListedSoFar.{IsEmpty, LooksWithin, store_of};
+ghost use Rattle.folder_core.specs.Looked.{FitsLimit, IsContent, Looked, content_read};
 ghost use Rattle.mh_folder.specs.Marks.{AreMarks};
 ghost use Rattle.mh_folder.specs.NumberedName.{IsNumbered, Rises, plain_names};
 ghost use Rattle.mh_folder.specs.Walk as spec;
@@ -52,7 +55,8 @@ impl Walk {
             → spec.Adds bytes file.now.name.items read.bytes.items read.stat.stamp
             (spec.kept_of self.old archive.old.items)
             (spec.kept_of self.new archive.new.items)) }
-        ensures count { OnOk result (self.new.so_far.count ≤ self.old.so_far.count + 1) }
+        ensures counts { OnOk result (spec.CountsOne (length read.bytes.items) self.old.so_far
+            self.new.so_far) }
         ensures front { take_lem (length archive.old.items) archive.new.items ≡ archive.old.items }
     {
         if read.bytes.as_slice().is_empty() {
@@ -81,23 +85,20 @@ impl Walk {
             (spec.kept_of self.old archive.old.items) (spec.kept_of self.new archive.new.items)
             (seen disk.old).told (seen disk.new).told) }
         ensures count { OnOk result (self.new.so_far.count ≤ self.old.so_far.count + 1) }
-        ensures meets { OnlyMeets result (seen disk.old) (seen disk.new) }
+        ensures walks { LooksWithin result self.old.so_far.bytes self.new.so_far.bytes
+            (seen disk.old) (seen disk.new) }
         ensures front { take_lem (length archive.old.items) archive.new.items ≡ archive.old.items }
     {
-        let Ok(name) = str::from_utf8(&file.name) else {
-            unreachable!()
-        };
-        let at = path_in(alloc, path, name)?;
-        match content_of(alloc, disk, at.as_str(), self.so_far.limit())? {
+        match content_at(alloc, disk, path, file, self.so_far.limit())? {
             Content::NoFile => Ok(()),
             Content::TooLong(size) => {
                 self.so_far.count_one(size);
                 Ok(())
             }
-            Content::Whole(read) => {
-                self.add(alloc, marks, file, read, archive)?;
-                Ok(())
-            }
+            Content::Whole(read) => match self.add(alloc, marks, file, read, archive) {
+                Ok(()) => Ok(()),
+                Err(NoMemory) => Err(ScanError::NoMemory),
+            },
         }
     }
 
@@ -118,7 +119,8 @@ impl Walk {
             → spec.IsWalked path.now bytes (plain_names files.now)
             (spec.kept_of self.old archive.old.items) (spec.kept_of self.new archive.new.items)
             (seen disk.old).told (seen disk.new).told) }
-        ensures meets { OnlyMeets result (seen disk.old) (seen disk.new) }
+        ensures walks { LooksWithin result self.old.so_far.bytes self.new.so_far.bytes
+            (seen disk.old) (seen disk.new) }
         ensures front { take_lem (length archive.old.items) archive.new.items ≡ archive.old.items }
     {
         let mut left = files;
@@ -131,6 +133,32 @@ impl Walk {
         }
         Ok(())
     }
+}
+
+// The content of a file, of at most so many bytes.
+fn content_at(
+    alloc: Global,
+    disk: &mut dyn Disk,
+    path: &str,
+    file: &NumberedName,
+    limit: u64,
+) -> Result<Content, ScanError>
+    requires { IsNumbered file.now }
+    ensures looked { Looked result (ReadAll (path_in_lem path.now file.now.name.items) limit)
+        (λ content tree. IsContent limit content tree
+        (path_in_lem path.now file.now.name.items)) (seen disk.old) (seen disk.new) }
+    ensures reads { RaisesAtMost (seen disk.old).bytes_read (seen disk.new).bytes_read
+        (content_read result) }
+    ensures fits { IfOk result (FitsLimit limit) }
+{
+    let Ok(name) = str::from_utf8(&file.name) else {
+        unreachable!()
+    };
+    let at = match path_in(alloc, path, name) {
+        Ok(at) => at,
+        Err(NoMemory) => return Err(ScanError::NoMemory),
+    };
+    content_of(alloc, disk, at.as_str(), limit)
 }
 
 // The letter of a message with these bytes.

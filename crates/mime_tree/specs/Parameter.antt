@@ -91,8 +91,10 @@ is_named name p = str_eq_ignore_ascii_case p.name name
 abbrev pub value_of : List ℕ → List PlainParameter → Option (List ℕ)
 value_of name ps = option_map (λ p. p.value.bytes) (find (is_named name) ps)
 
+-- a value as contracts see it
 abbrev pub plain_value : Value → PlainValue
 plain_value v = record { bytes = v.bytes.items; rest = v.rest.now }
 
+-- a parameter as contracts see it
 abbrev pub plain_parameter : Parameter → PlainParameter
 plain_parameter p = record { name = p.name.now; value = plain_value p.value }

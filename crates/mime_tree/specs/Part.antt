@@ -4,6 +4,7 @@ use Rattle.mail_base.specs.Series.{Held}
 use Rattle.mime_tree.specs.declared.encoding.Encoding.{Encoding}
 use Rattle.mime_tree.specs.declared.part.Part.{Part}
 
+-- a part without the rooms of its lists
 pub record PlainPart : Type 0 where
   pub nesting : ℕ
   pub content : List ℕ
@@ -14,6 +15,7 @@ pub record PlainPart : Type 0 where
   pub body_at : ℕ
   pub body_end : ℕ
 
+-- a part as contracts see it
 abbrev pub plain_part : Part → PlainPart
 plain_part p = record {
   nesting = p.nesting;
@@ -26,5 +28,6 @@ plain_part p = record {
   body_end = p.body_end;
 }
 
+-- parts as contracts see them
 abbrev pub plain_parts : Held Part → List PlainPart
 plain_parts parts = map plain_part parts.items

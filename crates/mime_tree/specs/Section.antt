@@ -39,5 +39,6 @@ sections boundary in_digest at (line ∷ lines) =
     sections_with (kind_of boundary line) (section_at boundary in_digest (at + length line) lines)
     (sections boundary in_digest (at + length line) lines)
 
+-- a section as contracts see it
 abbrev pub plain_section : Section → PlainSection
 plain_section s = record { start = s.start; text = s.text.now; in_digest = s.in_digest }

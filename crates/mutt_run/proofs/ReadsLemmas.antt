@@ -10,7 +10,7 @@ use Rattle.mail_base.specs.declared.kind.Kind.{Kind}
 use Rattle.mail_base.proofs.Sending.{appends_none, sent_none}
 use Rattle.disk_model.specs.Seen.{Seen}
 use Rattle.folder_core.specs.declared.error.ScanError.TheVariants.{Fault}
-use Rattle.folder_core.specs.declared.listing.Listed.{Listed}
+use Rattle.folder_letters.specs.declared.listing.Listed.{Listed}
 use Rattle.keymap.specs.Reader.{PlainReader}
 use Rattle.keymap.specs.declared.key.Key.{Key}
 use Rattle.mutt_words.specs.Options.{PlainOptions}
@@ -30,7 +30,7 @@ use Rattle.session_state.specs.declared.stage.Stage.TheVariants.{Over}
 use Rattle.mutt_run.specs.Choice.{Task, ReadFolder, first_of, setup_of, task_of}
 use Rattle.mutt_run.specs.Ending.{EndsAs, EndsDone, EndsShown, IsNoUsage, IsOpened, IsRefused}
 use Rattle.mutt_run.specs.Going.{AreActs, BeginsOut, Breaks, BreaksOut, CountsStreams, Ended}
-use Rattle.mutt_run.specs.Going.{EndsKeys, Goes, GoesOut, GoesToEnd, Streams}
+use Rattle.mutt_run.specs.Going.{EndsKeys, Goes, GoesOut, GoesToEnd, IsUnshown, Streams}
 use Rattle.mutt_run.specs.Printed.{Prints, PrintsBut, pieces}
 use Rattle.mutt_run.specs.Reading.{Outside, Reads, TellsNotes, TellsRefused, streams_of}
 use Rattle.mutt_run.specs.Screens.{printed_lines, screen_text}
@@ -56,7 +56,7 @@ module _ (o : PlainOptions) (start : ℤ) (Has : Kind → Type 0) (given : Given
       → Gives old.moments new.moments (pressed_moments more)
       → Prints status (pieces given (task_of o) (first_of o start) later) old.written new.written
       → PrintsBut (pieces given (task_of o) (first_of o start) later) old.written new.written
-      → ((after_events given (first_of o start) later).turn.stage ≡ Over
+      → (IsUnshown (after_events given (first_of o start) later).turn.stage
       → Appends old.written new.written
       (concat (pieces given (task_of o) (first_of o start) later)))
       → TellsNotes status (printed_lines (after_events given (first_of o start) later).notes) old
@@ -127,11 +127,11 @@ prints_all texts old new all = record {
 whole_broken : (o : PlainOptions) (start : ℤ) (given : Given) (events : List Happening)
     (old new : Option (List ℕ)) → task_of o ≡ ReadFolder
     → Breaks given (first_of o start) events old new
-    → (after_events given (first_of o start) events).turn.stage ≡ Over
+    → IsUnshown (after_events given (first_of o start) events).turn.stage
     → Appends old new (concat (pieces given (task_of o) (first_of o start) events))
-whole_broken o start given events old new task breaks over =
+whole_broken o start given events old new task breaks unshown =
     subst (λ (t : Task). Appends old new (concat (pieces given t (first_of o start) events)))
-    (sym task) (breaks.whole over)
+    (sym task) (breaks.whole unshown)
 
 pub ends_free : (given : Given) (o : PlainOptions) (start : ℤ) (events : List Happening)
     (a b : Option (List ℕ)) (status : Status)
@@ -202,10 +202,11 @@ module _ (o : PlainOptions) (start : ℤ) (Has : Kind → Type 0) (given : Given
       (no_fault (Rose old.disk.faults new.disk.faults) status broken) (usage_free status broken)
 
   -- an event that ends the run shows no screen
-  pub over_prints : (after_events given (first_of o start) events).turn.stage ≡ Over
+  pub over_prints : IsUnshown (after_events given (first_of o start) events).turn.stage
       → Appends old.written new.written
       (concat (pieces given (task_of o) (first_of o start) events))
-  over_prints over = whole_broken o start given events old.written new.written task breaks over
+  over_prints unshown =
+      whole_broken o start given events old.written new.written task breaks unshown
 
 -- What was told of commands.
 
@@ -252,7 +253,7 @@ module _ (o : PlainOptions) (start : ℤ) (Has : Kind → Type 0) (given : Given
         (concat (pieces given (task_of o) (first_of o start) events))
     whole = over_prints o start Has given (NotOpened why) opening events old new begins task
         same_out
-        same_left same_clock is_over
+        same_left same_clock (subst IsUnshown (sym is_over) tt)
 
     pub reads_refused : IsStated why
         → Appends old.told new.told
@@ -454,8 +455,9 @@ module _ (o : PlainOptions) (start : ℤ) (Has : Kind → Type 0) (given : Given
             → Prints status (pieces given (task_of o) (first_of o start) later) old.written
             new.written
             → PrintsBut (pieces given (task_of o) (first_of o start) later) old.written new.written
-            → ((after_events given (first_of o start) later).turn.stage ≡ Over → Appends old.written
-            new.written (concat (pieces given (task_of o) (first_of o start) later)))
+            → (IsUnshown (after_events given (first_of o start) later).turn.stage
+            → Appends old.written new.written
+            (concat (pieces given (task_of o) (first_of o start) later)))
             → TellsNotes status (printed_lines (after_events given (first_of o start) later).notes)
             old new
             → (status ≡ DiskFault → Rose old.disk.faults new.disk.faults) → IsNoUsage status

@@ -8,7 +8,7 @@ use Rattle.std.specs.Io.KnownBytes.{Appends}
 use Rattle.std.specs.List.{concat}
 use Rattle.mail_base.specs.Streams.{Sent}
 use Rattle.mail_base.proofs.Sending.{appends_then}
-use Rattle.folder_core.specs.Letters.{Mail}
+use Rattle.folder_letters.specs.Letters.{Mail}
 use Rattle.session_events.specs.Events.{Happening}
 use Rattle.session.specs.Given.{Given}
 use Rattle.session.specs.Runs.{State, after_events, screen_in, screens_from, shown}
@@ -17,7 +17,7 @@ use Rattle.session.specs.Steps.{Stands}
 use Rattle.session_state.specs.declared.stage.Stage.{Stage}
 use Rattle.session_state.specs.declared.stage.Stage.TheVariants.{Unopened, Pushing, Idle, Ready}
 use Rattle.session_state.specs.declared.stage.Stage.TheVariants.{Over, Reading}
-use Rattle.mutt_run.specs.Going.{Breaks, BreaksOut, Ended, Goes, GoesOut, Streams}
+use Rattle.mutt_run.specs.Going.{Breaks, BreaksOut, Ended, Goes, GoesOut, IsUnshown, Streams}
 use Rattle.mutt_run.specs.Printed.{last_length}
 use Rattle.mutt_run.specs.Screens.{printed_lines, screen_text}
 use Rattle.mutt_run.specs.declared.status.Status.{Status}
@@ -35,17 +35,6 @@ texts-append : (xs ys : List (List (List ℕ)))
     → concat (texts (xs ++ ys)) ≡ concat (texts xs) ++ concat (texts ys)
 texts-append xs ys =
     ap concat (map-append screen_text xs ys) ∙ concat-append (texts xs) (texts ys)
-
-abbrev IsIdle : Stage → Type 0
-IsIdle Idle = Unit {0}
-IsIdle Unopened = ⊥
-IsIdle Pushing = ⊥
-IsIdle Ready = ⊥
-IsIdle Reading = ⊥
-IsIdle Over = ⊥
-
-pub idle_not_over : Idle ≡ Over → ⊥
-idle_not_over is = subst IsIdle is tt
 
 -- The letters of a screen are those that are given.
 module _ (given : Given) (mails : List Mail) (s : State) (old new : Option (List ℕ))
@@ -112,6 +101,15 @@ module _ (given : Given) (first s : State) (events : List Happening)
           ap length (append-nil (screen_text here)),
         )
 
+    none_shown : (stage : Stage) → s.turn.stage ≡ stage → IsUnshown stage
+        → Appends old mid (concat (texts (screens_from given first events)))
+    none_shown Over is unshown = none_more Over is refl
+    none_shown Reading is unshown = none_more Reading is refl
+    none_shown Unopened is unshown = absurd unshown
+    none_shown Pushing is unshown = absurd unshown
+    none_shown Ready is unshown = absurd unshown
+    none_shown Idle is unshown = absurd unshown
+
     pub breaks_unshown : Breaks given first events old mid
     breaks_unshown = record {
       run = stands.run;
@@ -125,8 +123,8 @@ module _ (given : Given) (first s : State) (events : List Happening)
         );
         short = short_by s.turn.stage refl;
       };
-      whole = λ over. none_more Over
-          (sym (ap (λ (t : State). t.turn.stage) stands.state_is) ∙ over) refl;
+      whole = λ unshown. none_shown s.turn.stage refl
+          (subst (λ (t : State). IsUnshown t.turn.stage) stands.state_is unshown);
     }
 
     -- the screen was printed, whole or not
@@ -178,7 +176,7 @@ module _ (given : Given) (first s : State) (events : List Happening)
             length-append cut.1.0 cut.0,
           );
         };
-        whole = λ over. absurd (idle_not_over (sym (stage_is Idle idle) ∙ over));
+        whole = λ unshown. absurd (subst IsUnshown (stage_is Idle idle) unshown);
       }
 
 -- and breaks off
@@ -196,7 +194,7 @@ goes_broken {given} {first} {s} {events} {old} {new} goes = record {
     );
     short = omega arith;
   };
-  whole = λ over. sent;
+  whole = λ unshown. sent;
 }
   where
     sent : Appends old new (concat (texts (screens_from given first events)))

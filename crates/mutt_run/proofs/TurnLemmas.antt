@@ -6,7 +6,7 @@ use Rattle.std.specs.Io.KnownBytes.{Appends}
 use Rattle.mail_base.specs.Faults.{Rose}
 use Rattle.mail_base.specs.Streams.{Sent}
 use Rattle.mail_base.proofs.Sending.{appends_none, appends_then}
-use Rattle.folder_core.specs.Letters.{Mail}
+use Rattle.folder_letters.specs.Letters.{Mail}
 use Rattle.session_events.specs.Events.{Happening}
 use Rattle.session.specs.Given.{Given}
 use Rattle.session.specs.Runs.{State, after_events, screen_in, shown}

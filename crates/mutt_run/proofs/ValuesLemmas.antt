@@ -7,18 +7,18 @@ use Rattle.std.specs.List.{concat}
 use Rattle.mail_base.specs.Faults.{Rose}
 use Rattle.mail_base.specs.Streams.{Sent}
 use Rattle.mail_base.proofs.Sending.{sent_none}
+use Rattle.disk_model.specs.Seen.{Seen}
 use Rattle.mutt_words.specs.Options.{PlainOptions}
+use Rattle.patterns.specs.Causes.{Keeps}
+use Rattle.people.specs.Judged.{PlainJudged}
 use Rattle.session.specs.Beginning.{AnswersNames, BeginsRun}
 use Rattle.session_events.specs.Events.{Happening}
 use Rattle.session.specs.Given.{Given}
-use Rattle.session.specs.Runs.{after_events}
+use Rattle.session.specs.Runs.{State, after_events}
 use Rattle.session.specs.Starting.{PlainSetup, first_state}
 use Rattle.session.specs.Steps.{SourcesOff}
-use Rattle.session.proofs.GivenLemmas.{keeps_same}
+use Rattle.session.proofs.GivenLemmas.{keeps_same, keeps_then}
 use Rattle.session.specs.Telling.{Driverless}
-use Rattle.session_state.specs.declared.stage.Stage.{Stage}
-use Rattle.session_state.specs.declared.stage.Stage.TheVariants.{Unopened, Pushing, Idle, Ready}
-use Rattle.session_state.specs.declared.stage.Stage.TheVariants.{Over, Reading}
 use Rattle.mutt_run.specs.Choice.{Task, TellValues, first_of, setup_of, task_of}
 use Rattle.mutt_run.specs.Ending.{EndsAs, EndsDone, IsNoUsage}
 use Rattle.mutt_run.specs.Printed.{Prints, PrintsBut, pieces, values_text}
@@ -29,11 +29,24 @@ use Rattle.mutt_run.specs.declared.status.Status.{Status}
 use Rattle.mutt_run.specs.declared.status.Status.TheVariants.{Done, DiskFault, OutFault}
 use Rattle.mutt_run.specs.declared.status.Status.TheVariants.{NoMemory}
 use Rattle.mutt_run.proofs.KeysLemmas.{gives_none}
+use Rattle.mutt_run.specs.Going.{IsUnshown}
 use Rattle.mutt_run.proofs.ReadsLemmas.{IsBroken, IsOtherThanDisk, cut_status, ends_free}
 use Rattle.mutt_run.proofs.ReadsLemmas.{no_fault}
 use Rattle.mutt_run.proofs.ReadsLemmas.{notes_cut, notes_whole, prints_all, reads_by, takes_none}
 use Rattle.mutt_run.proofs.ReadsLemmas.{usage_free}
 use Rattle.session.proofs.StepsLemmas.{files_unopened}
+
+-- what was read of files by some verdicts was so by each list that keeps them
+pub sources_kept : {old new : List PlainJudged} {first : State} {events : List Happening}
+    {before now : Seen} → Keeps old new → SourcesOff old first events before now
+    → SourcesOff new first events before now
+sources_kept keeps off = record {
+  are = off.are;
+  run = λ given h. off.run given (keeps_then keeps h);
+  screens_are = λ given h. off.screens_are given (keeps_then keeps h);
+  told = λ given h. off.told given (keeps_then keeps h);
+  faults = off.faults;
+}
 
 -- at a moment that is the same
 pub names_at : {given : Given} {events : List Happening} {names lines notes : List (List ℕ)}
@@ -43,14 +56,6 @@ pub names_at : {given : Given} {events : List Happening} {names lines notes : Li
 names_at {given} {events} {names} {lines} {notes} setup a b same answers =
     subst (λ (m : ℤ). AnswersNames given (first_state setup m) events names lines notes) same
     answers
-
-abbrev IsUnopened : Stage → Type 0
-IsUnopened Unopened = Unit {0}
-IsUnopened Pushing = ⊥
-IsUnopened Idle = ⊥
-IsUnopened Ready = ⊥
-IsUnopened Reading = ⊥
-IsUnopened Over = ⊥
 
 module _ (o : PlainOptions) (start : ℤ) (given : Given) (setup : PlainSetup)
     (events : List Happening) (names : List (List ℕ)) (old new : Outside) (is : setup ≡ setup_of o)
@@ -71,11 +76,10 @@ module _ (o : PlainOptions) (start : ℤ) (given : Given) (setup : PlainSetup)
     told = read.told given (keeps_same given.verdicts);
   }
 
-  not_over : (Rises : Type 0) → (after_events given (first_of o start) events).turn.stage ≡ Over
-      → Rises
-  not_over Rises over =
-      absurd (subst IsUnopened
-      (sym (files_unopened given (first_of o start) events read.are refl) ∙ over) tt)
+  not_unshown : (Rises : Type 0)
+      → IsUnshown (after_events given (first_of o start) events).turn.stage → Rises
+  not_unshown Rises unshown = absurd (subst IsUnshown
+      (files_unopened given (first_of o start) events read.are refl) unshown)
 
   reads_values : (status : Status) → EndsAs given o start status events old.left new.left
       → Prints status (pieces given (task_of o) (first_of o start) events) old.written new.written
@@ -92,7 +96,7 @@ module _ (o : PlainOptions) (start : ℤ) (given : Given) (setup : PlainSetup)
       (sym same_left) (takes_none old.left))
       (subst (λ (l : Option (List ℤ)). Gives old.moments l []) (sym same_clock)
       (gives_none old.moments))
-      printed but (not_over (Appends old.written new.written
+      printed but (not_unshown (Appends old.written new.written
       (concat (pieces given (task_of o) (first_of o start) events)))) noted
       (read.told given (keeps_same given.verdicts)) fault
       no_usage

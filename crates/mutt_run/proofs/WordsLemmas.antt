@@ -20,9 +20,6 @@ use Rattle.session.specs.Runs.{State}
 use Rattle.session.specs.Starting.{PlainSetup}
 use Rattle.session.specs.Telling.{Driverless, Witnessed}
 use Rattle.session.proofs.TellingLemmas.{witnessed_files, witnessed_none}
-use Rattle.session_state.specs.declared.stage.Stage.{Stage}
-use Rattle.session_state.specs.declared.stage.Stage.TheVariants.{Unopened, Pushing, Idle, Ready}
-use Rattle.session_state.specs.declared.stage.Stage.TheVariants.{Over, Reading}
 use Rattle.mutt_run.specs.Choice.{Task, ReadFolder, TellValues, TellVersion, acted_on, first_by}
 use Rattle.mutt_run.specs.Choice.{query_task, setup_of, task_by, task_of}
 use Rattle.mutt_run.specs.Ending.{EndsAs, EndsDone, IsChosen}
@@ -92,14 +89,6 @@ task_tells o version some =
     task_at (plain_options o) version
     ∙ asked (plain_texts o.query) (texts_some o.query.items some)
 
-abbrev IsUnopened : Stage → Type 0
-IsUnopened Unopened = Unit {0}
-IsUnopened Pushing = ⊥
-IsUnopened Idle = ⊥
-IsUnopened Ready = ⊥
-IsUnopened Reading = ⊥
-IsUnopened Over = ⊥
-
 abbrev IsDone : Status → Type 0
 IsDone Done = Unit {0}
 IsDone status = ⊥
@@ -156,7 +145,7 @@ module _ (choice : Result PlainOptions (List ℕ)) (start : ℤ) (Has : Kind →
         (gives_none old.moments);
     printed = printed;
     but = but;
-    whole = λ over. absurd (subst IsUnopened over tt);
+    whole = λ unshown. absurd unshown;
     noted = notes_whole status [] old new untold;
     told = subst (λ (d : Seen). Witnessed Has given (first_by choice start) [] old.disk d)
         (sym same_disk)

@@ -32,10 +32,12 @@ pub data Task : Type 0 where
   TellValues : (names : List (List ℕ)) → Task
   ReadFolder : Task
 
+-- names that are asked for are told; else a folder is read
 abbrev pub query_task : List (List ℕ) → Task
 query_task [] = ReadFolder
 query_task (name ∷ names) = TellValues (name ∷ names)
 
+-- what options ask for
 abbrev pub task_of : PlainOptions → Task
 task_of o = if o.version then TellVersion else query_task o.query
 
@@ -43,6 +45,7 @@ task_of o = if o.version then TellVersion else query_task o.query
 abbrev pub first_by : Result PlainOptions (List ℕ) → ℤ → State
 first_by choice start = first_of (acted_on choice) start
 
+-- what words ask for
 abbrev pub task_by : Result PlainOptions (List ℕ) → Task
 task_by choice = task_of (acted_on choice)
 

@@ -15,7 +15,7 @@ use Rattle.session.specs.Steps.{Stands, Waits}
 use Rattle.session_events.specs.declared.setup.Next.{Next}
 use Rattle.session_events.specs.declared.setup.Next.TheVariants.{Go, Quit}
 use Rattle.session_state.specs.declared.stage.Stage.{Stage}
-use Rattle.session_state.specs.declared.stage.Stage.TheVariants.{Idle, Over}
+use Rattle.session_state.specs.declared.stage.Stage.TheVariants.{Idle, Over, Reading}
 use Rattle.mutt_run.specs.Printed.{PrintsBut}
 use Rattle.mutt_run.specs.Screens.{printed_lines, screen_text}
 use Rattle.mutt_run.specs.Taken.{Gives, TakesKeys, pressed_keys, pressed_moments}
@@ -48,6 +48,7 @@ pub record Streams : Type 0 where
   pub errs : Option (List ℕ)
   pub faults : ℕ
 
+-- what was written and told so far, with the faults of telling
 abbrev pub streams : Option (List ℕ) → Option (List ℕ) → ℕ → Streams
 streams out errs faults = record { out = out; errs = errs; faults = faults }
 
@@ -65,13 +66,19 @@ pub record Goes (given : Given) (first : State) (events : List Happening) (state
   pub stands : Stands given first events state screens
   pub sent : Appends old new (concat (map screen_text screens))
 
--- The events are a run, whose screens were printed but for a rest of the last; where it is over,
--- nothing is missing.
+-- behind its last event a run shows no screen: it is over, or a file is still to be read
+abbrev pub IsUnshown : Stage → Type 0
+IsUnshown Over = Unit {0}
+IsUnshown Reading = Unit {0}
+IsUnshown _ = ⊥
+
+-- The events are a run, whose screens were printed but for a rest of the last; where the last event
+-- shows none, nothing is missing.
 pub record Breaks (given : Given) (first : State) (events : List Happening)
     (old new : Option (List ℕ)) : Type 0 where
   pub run : IsRunFrom given first events
   pub prints : PrintsBut (map screen_text (screens_from given first events)) old new
-  pub whole : (after_events given first events).turn.stage ≡ Over
+  pub whole : IsUnshown (after_events given first events).turn.stage
       → Appends old new (concat (map screen_text (screens_from given first events)))
 
 -- The same, and the lines of faulty commands were told.
@@ -109,6 +116,7 @@ abbrev pub Turned : Given → Result Next Status → State → List Happening �
 Turned given (Ok next) first events state old new = GoesOut given first events state old new
 Turned given (Err status) first events state old new = BreaksOut given status first events old new
 
+-- the stage behind a key, by what its turn answers
 abbrev pub IsTurnedTo : Result Next Status → Stage → Type 0
 IsTurnedTo (Ok Go) stage = stage ≡ Idle
 IsTurnedTo (Ok Quit) stage = stage ≡ Over

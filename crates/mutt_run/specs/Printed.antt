@@ -16,6 +16,7 @@ use Rattle.mutt_run.specs.declared.status.Status.{Status}
 use Rattle.mutt_run.specs.declared.status.Status.TheVariants.{Done, OutFault, NoMemory}
 use Rattle.mutt_run.specs.declared.status.Status.TheVariants.{Empty}
 
+-- the line of the version
 abbrev pub version_line : List ℕ
 version_line = codes "mutt_main 1.0\n"
 

@@ -9,15 +9,14 @@ use Rattle.disk_model.specs.Seen.{Seen}
 use Rattle.keymap.specs.Reader.{PlainReader}
 use Rattle.mutt_words.specs.Options.{PlainOptions}
 use Rattle.session_events.specs.Events.{Happening}
-use Rattle.session.specs.Given.{Given}
+use Rattle.session.specs.Given.{Given, IsGiven}
 use Rattle.session.specs.Runs.{IsRunFrom}
 use Rattle.session.specs.Telling.{Witnessed}
 use Rattle.session_state.specs.Instants.{IsMoment}
-use Rattle.session_state.specs.declared.stage.Stage.TheVariants.{Over}
 use Rattle.mutt_run.specs.Choice.{acted_on, first_by, state_by}
 use Rattle.mutt_run.specs.Complete.{IsPlainEnd, NamesReadable}
 use Rattle.mutt_run.specs.Ending.{AllListed, EndsAs, IsChosen}
-use Rattle.mutt_run.specs.Going.{Streams, TellsText, streams}
+use Rattle.mutt_run.specs.Going.{IsUnshown, Streams, TellsText, streams}
 use Rattle.mutt_run.specs.Notes.{Tells, folder_in}
 use Rattle.mutt_run.specs.Printed.{Prints, PrintsBut, pieces_by}
 use Rattle.mutt_run.specs.Screens.{printed_lines}
@@ -36,6 +35,7 @@ pub record Outside : Type 0 where
   pub moments : Option (List ℤ)
   pub disk : Seen
 
+-- all that stands outside a run
 abbrev pub outside : Option (List ℕ) → Option (List ℕ) → ℕ → Option (List ℕ) → Option (List ℤ)
     → Seen → Outside
 outside written told faults left moments disk = record {
@@ -47,6 +47,7 @@ outside written told faults left moments disk = record {
   disk = disk;
 }
 
+-- the streams of what stands outside
 abbrev pub streams_of : Outside → Streams
 streams_of o = streams o.written o.told o.faults
 
@@ -68,13 +69,20 @@ pub record Reads (choice : Result PlainOptions (List ℕ)) (start : ℤ) (Has : 
   pub clocked : Gives old.moments new.moments (pressed_moments events)
   pub printed : Prints status (pieces_by given choice start events) old.written new.written
   pub but : PrintsBut (pieces_by given choice start events) old.written new.written
-  pub whole : (state_by given choice start events).turn.stage ≡ Over
+  pub whole : IsUnshown (state_by given choice start events).turn.stage
       → Appends old.written new.written (concat (pieces_by given choice start events))
   pub noted : TellsNotes status (printed_lines (state_by given choice start events).notes) old new
   pub told : Witnessed Has given (first_by choice start) events old.disk new.disk
   pub listed : AllListed given.mails events
   pub fault : status ≡ DiskFault → Rose old.disk.faults new.disk.faults
   pub chosen : IsChosen choice status
+
+-- the same over letters, and over every list of verdicts that keeps these
+abbrev pub ReadsOver : Result PlainOptions (List ℕ) → ℤ → (Kind → Type 0) → Given → Status
+    → List Happening → Outside → Outside → Type 0
+ReadsOver choice start Has kept status events old new = (given : Given)
+    → IsGiven kept.mails kept.verdicts given
+    → Reads choice start Has given status events old new
 
 -- What a run has come to whose start was at a moment. Where `Quiet` holds no fault was counted.
 pub record RunsFrom (choice : Result PlainOptions (List ℕ)) (start : ℤ) (Has : Kind → Type 0)
@@ -92,8 +100,9 @@ pub record RunsFrom (choice : Result PlainOptions (List ℕ)) (start : ℤ) (Has
   pub errs : Tells (λ st. EndsAs given (acted_on choice) start st events old.left new.left
       × IsChosen choice st) (Rose old.faults new.faults)
       (state_by given choice start events).notes (folder_in events) status old.told new.told
-  -- Behind the event that ends a run nothing is missing of its screens.
-  pub whole : (state_by given choice start events).turn.stage ≡ Over
+  -- Where the last event shows no screen, nothing is missing of those before it: no key is taken
+  -- behind a screen that failed.
+  pub whole : IsUnshown (state_by given choice start events).turn.stage
       → Appends old.written new.written (concat (pieces_by given choice start events))
   -- What the events say of the disk is true.
   pub told : Witnessed Has given (first_by choice start) events old.disk new.disk
@@ -101,6 +110,14 @@ pub record RunsFrom (choice : Result PlainOptions (List ℕ)) (start : ℤ) (Has
   -- keys.
   pub complete : NamesReadable Has given choice start events new.disk.told → Quiet
       → IsPlainEnd status
+
+-- the same over letters, and over every list of verdicts that keeps these: what was refused for an
+-- expression is refused whatever else is judged
+abbrev pub RunsOver : Result PlainOptions (List ℕ) → ℤ → (Kind → Type 0) → Given → Status
+    → List Happening → Outside → Outside → Type 0 → Type 0
+RunsOver choice start Has kept status events old new Quiet = (given : Given)
+    → IsGiven kept.mails kept.verdicts given
+    → RunsFrom choice start Has given status events old new Quiet
 
 -- For the code alone.
 

@@ -2,7 +2,7 @@
 use Rattle.std.specs.Prelude.{◌≡◌, ◌≤◌, ℕ, ℤ, pos, List, [], ◌∷◌, ◌++◌, length, Option, Some}
 use Rattle.std.specs.Prelude.{None}
 use Rattle.std.specs.Io.KnownBytes.{Consumes}
-use Rattle.folder_core.specs.Moments.{in_clock_range}
+use Rattle.folder_letters.specs.Moments.{in_clock_range}
 use Rattle.keymap.specs.Reader.{PlainReader, most_bytes}
 use Rattle.keymap.specs.Stream.{keys_of}
 use Rattle.keymap.specs.declared.key.Key.{Key}
@@ -36,7 +36,7 @@ AreFirst pressed pending (Some all) (Some left) =
     keys_of all ≡ pressed ++ keys_of (pending ++ left)
 
 -- A reader of keys took bytes of a stream, and these keys of them were pressed; at most three bytes
--- wait, which do not tell a key yet.
+-- wait.
 pub record TakesKeys (pressed : List Key) (reader : PlainReader) (old new : Option (List ℕ))
     : Type 0 where
   pub bytes : List ℕ

@@ -3,10 +3,7 @@
 ghost use Rattle.std.specs.Prelude.{◌∷◌, [], ◌≤ℤ◌, pos};
 ghost use Rattle.mutt_run.specs.Taken.{Gives};
 
-use mail_base::Clock;
-
-/// The last moment that a clock is read as, in seconds since 1970 UTC.
-const LAST_MOMENT: i64 = 253_000_000_000;
+use mail_base::{Clock, LAST_MOMENT};
 
 /// The clock's moment, brought into range.
 pub fn now<C: Clock>(clock: &mut C) -> i64

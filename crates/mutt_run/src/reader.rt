@@ -5,7 +5,7 @@ ghost use Rattle.std.specs.List.{All};
 ghost use Rattle.mail_base.specs.Faults.{Rose};
 ghost use Rattle.mail_base.specs.Series.{plain_texts};
 ghost use Rattle.disk_model.specs.Looking.{LooksOnly};
-ghost use Rattle.folder_core.specs.Letters.{plain_letter};
+ghost use Rattle.folder_letters.specs.Letters.{plain_letter};
 ghost use Rattle.people.specs.Judged.{IsCaused};
 ghost use Rattle.mutt_words.specs.Options.{IsUsable, plain_options};
 ghost use Rattle.mutt_words.specs.Words.{options_of};
@@ -16,7 +16,7 @@ ghost use Rattle.mutt_run.specs.Ending.{AllListed, IsChosen};
 ghost use Rattle.mutt_run.specs.Notes.{folder_in};
 ghost use Rattle.mutt_run.specs.Printed.{TellsVersion};
 ghost use Rattle.mutt_run.specs.Going.{CountsStreams};
-ghost use Rattle.mutt_run.specs.Reading.{Reads, RunsFrom, outside};
+ghost use Rattle.mutt_run.specs.Reading.{ReadsOver, RunsOver, outside};
 ghost use Rattle.mutt_run.specs.Taken.{TakesSome};
 ghost use Rattle.mutt_run.specs.declared.status.Status.TheVariants.{DiskFault, KeysFault, OutFault};
 
@@ -55,8 +55,8 @@ pub fn run<K: Source, O: Sink, E: Sink, C: Clock>(
     ensures unopened { IfErr (options_of (plain_texts words.now))
         (λ word. plain_events trace.new.events.items ≡ []) }
 
-    // A run from the moment that the clock gave first.
-    ensures runs { (start : ℤ) × RunsFrom (options_of (plain_texts words.now)) start
+    // A run from the moment that the clock gave first, by each list of verdicts that keeps these.
+    ensures runs { (start : ℤ) × RunsOver (options_of (plain_texts words.now)) start
         (λ kind. Any (λ d. sort (d.vtable, d.value) ≡ kind) drivers.old.list.items)
         (given_of (map plain_letter trace.new.archive.items) trace.new.verdicts.kept)
         result (plain_events trace.new.events.items)
@@ -118,7 +118,7 @@ fn obey_words<K: Source, O: Sink, E: Sink, C: Clock>(
     requires events { trace.old.events.items ≡ [] }
     requires notes { trace.old.notes.items ≡ [] }
     requires moment { IsMoment moment }
-    ensures reads { Reads (options_of (plain_texts words.now)) moment
+    ensures reads { ReadsOver (options_of (plain_texts words.now)) moment
         (λ kind. Any (λ d. sort (d.vtable, d.value) ≡ kind) drivers.now.list.items)
         (given_of (map plain_letter trace.new.archive.items) trace.new.verdicts.kept)
         result (plain_events trace.new.events.items)
@@ -158,7 +158,7 @@ fn obey<K: Source, O: Sink, E: Sink, C: Clock>(
     requires notes { trace.old.notes.items ≡ [] }
     requires usable { IsUsable options }
     requires moment { IsMoment moment }
-    ensures reads { Reads (Ok (plain_options options)) moment
+    ensures reads { ReadsOver (Ok (plain_options options)) moment
         (λ kind. Any (λ d. sort (d.vtable, d.value) ≡ kind) drivers.now.list.items)
         (given_of (map plain_letter trace.new.archive.items) trace.new.verdicts.kept)
         result (plain_events trace.new.events.items)

@@ -3,7 +3,7 @@
 ghost use Rattle.std.specs.Prelude.{◌≡◌, ◌≤◌, ℕ, ℤ, Ok, true, false, [], List, Any, Option, map};
 ghost use Rattle.mail_base.specs.Series.{plain_texts};
 ghost use Rattle.disk_model.specs.Seen.{Seen};
-ghost use Rattle.folder_core.specs.Letters.{plain_letter};
+ghost use Rattle.folder_letters.specs.Letters.{plain_letter};
 ghost use Rattle.mutt_words.specs.Options.{PlainOptions};
 ghost use Rattle.session.specs.Beginning.{Starts};
 ghost use Rattle.session_events.specs.Events.{AreFiles, plain_events};
@@ -16,7 +16,7 @@ ghost use Rattle.session.specs.Starting.{plain_setup};
 ghost use Rattle.session.specs.Telling.{Driverless};
 ghost use Rattle.mutt_run.specs.Choice.{ReadFolder, TellValues, first_of, setup_of, task_of};
 ghost use Rattle.mutt_run.specs.Going.{CountsStreams};
-ghost use Rattle.mutt_run.specs.Reading.{Reads, TellsRefused, outside};
+ghost use Rattle.mutt_run.specs.Reading.{ReadsOver, TellsRefused, outside};
 ghost use Rattle.mutt_run.specs.Screens.{printed_lines};
 
 use crate::printing::{print, put_lines};
@@ -51,7 +51,7 @@ pub fn read<K: Source, O: Sink, E: Sink, C: Clock>(
     requires window { IsWindow (plain_setup setup).window }
     requires moment { IsMoment moment }
     ensures reads { (o : PlainOptions) → plain_setup setup ≡ setup_of o
-        → o.skip_empty ≡ skip_empty → task_of o ≡ ReadFolder → Reads (Ok o) moment
+        → o.skip_empty ≡ skip_empty → task_of o ≡ ReadFolder → ReadsOver (Ok o) moment
         (λ kind. Any (λ d. sort (d.vtable, d.value) ≡ kind) drivers.now.list.items)
         (given_of (map plain_letter trace.new.archive.items) trace.new.verdicts.kept)
         result (plain_events trace.new.events.items)
@@ -104,7 +104,7 @@ fn read_on<K: Source, O: Sink, E: Sink, C: Clock>(
         given (first_of o start) start (plain_events trace.old.events.items)
         (plain_session session.old trace.old.notes) before
         (seen (dev.old.disk.vtable, dev.old.disk.value)))
-        → Reads (Ok o) start
+        → ReadsOver (Ok o) start
         (λ kind. Any (λ d. sort (d.vtable, d.value) ≡ kind) drivers.now.list.items)
         (given_of (map plain_letter trace.new.archive.items) trace.new.verdicts.kept)
         result (plain_events trace.new.events.items)
@@ -165,7 +165,8 @@ pub fn answer<O: Sink, E: Sink>(
     requires moment { IsMoment moment }
     ensures reads { (o : PlainOptions) → plain_setup setup ≡ setup_of o
         → task_of o ≡ TellValues (plain_texts names.now)
-        → (left : Option (List ℕ)) → (moments : Option (List ℤ)) → Reads (Ok o) moment Driverless
+        → (left : Option (List ℕ)) → (moments : Option (List ℤ))
+        → ReadsOver (Ok o) moment Driverless
         (given_of (map plain_letter trace.new.archive.items) trace.new.verdicts.kept)
         result (plain_events trace.new.events.items)
         (outside (O.written out.old) (E.written errs.old) (E.faults errs.old) left moments

@@ -3,7 +3,7 @@
 ghost use Rattle.std.specs.Prelude.{◌≡◌, ◌≤◌, ◌<◌, ◌⊎◌, ℕ, List, Any};
 ghost use Rattle.std.specs.Prelude.{OnOk, IsErrOf, length, map};
 ghost use Rattle.mail_base.specs.Faults.{Rose};
-ghost use Rattle.folder_core.specs.Letters.{plain_letter};
+ghost use Rattle.folder_letters.specs.Letters.{plain_letter};
 ghost use Rattle.session_events.specs.Events.{plain_events};
 ghost use Rattle.session_state.specs.Instants.{IsMoment};
 ghost use Rattle.session.specs.Fitting.{Fits};

@@ -20,6 +20,7 @@ read_long word =
     (valued Offset (behind_text (codes "--offset=") word)
     (valued Owner (behind_text (codes "--owner=") word) None)))
 
+-- a text has no byte but ASCII letters and digits
 abbrev pub are_letters_or_digits : List ℕ → Bool
 are_letters_or_digits text = list_all is_ascii_alphanumeric text
 

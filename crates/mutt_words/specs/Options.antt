@@ -8,7 +8,7 @@ use Rattle.mail_base.specs.Zone.{IsOffset, numeric_zone}
 use Rattle.mail_base.specs.declared.kind.Kind.{Kind}
 use Rattle.rc_lang.specs.Variables.{is_variable}
 use Rattle.mutt_words.specs.LongOption.{is_owner}
-use Rattle.mutt_words.specs.ShortOption.{kind_named}
+use Rattle.mail_base.specs.Kind.{kind_named}
 use Rattle.mutt_words.specs.declared.error.ValueError.{ValueError}
 use Rattle.mutt_words.specs.declared.error.ValueError.TheVariants.{Bad, NoMemory}
 use Rattle.mutt_words.specs.declared.long_option.LongOption.{LongOption}
@@ -39,6 +39,7 @@ abbrev pub plain_text : Option (Held ℕ) → Option (List ℕ)
 plain_text None = None
 plain_text (Some text) = Some text.items
 
+-- options as contracts see them
 abbrev pub plain_options : Options → PlainOptions
 plain_options o = record {
   folder = plain_text o.folder;
@@ -72,6 +73,7 @@ no_words = record {
   owner = [];
 }
 
+-- the options with a switch turned on
 abbrev pub turned_on : PlainOptions → Switch → PlainOptions
 turned_on o switch.NoSystemFile = o
 turned_on o switch.ReadOnly = record o { read_only = true }

@@ -1,9 +1,7 @@
 -- Options of a letter with a value, which stands in the next word or behind the letter.
-use Rattle.std.specs.Prelude.{◌==◌, ℕ, List, [], ◌∷◌, Option, Some, None, codes, if◌then◌else◌}
-use Rattle.std.specs.Str.{byte, bytes_eq}
+use Rattle.std.specs.Prelude.{◌==◌, ℕ, List, [], ◌∷◌, Option, Some, None, if◌then◌else◌}
+use Rattle.std.specs.Str.{byte}
 use Rattle.mail_base.specs.Fronts.{◌>>=◌, behind}
-use Rattle.mail_base.specs.declared.kind.Kind.{Kind}
-use Rattle.mail_base.specs.declared.kind.Kind.TheVariants.{Mbox, Maildir, Mh, Mmdf}
 use Rattle.mutt_words.specs.declared.short_option.ShortOption.{ShortOption}
 use Rattle.mutt_words.specs.declared.short_option.ShortOption.TheVariants.{Folder, RcFile, Command}
 use Rattle.mutt_words.specs.declared.short_option.ShortOption.TheVariants.{FolderKind, Query}
@@ -29,11 +27,3 @@ abbrev pub read_short : List ℕ → Option (ShortOption × List ℕ)
 read_short word = do
   text ← behind (byte "-") word
   read_letter text
-
--- the kinds of folders by their names
-abbrev pub kind_named : List ℕ → Option Kind
-kind_named name =
-    if bytes_eq name (codes "mbox") then Some Mbox
-    else (if bytes_eq name (codes "Maildir") then Some Maildir
-    else (if bytes_eq name (codes "MH") then Some Mh
-    else (if bytes_eq name (codes "MMDF") then Some Mmdf else None)))

@@ -5,6 +5,7 @@ use Rattle.mutt_words.specs.declared.switch.Switch.{Switch}
 use Rattle.mutt_words.specs.declared.switch.Switch.TheVariants.{NoSystemFile, ReadOnly, SkipEmpty}
 use Rattle.mutt_words.specs.declared.switch.Switch.TheVariants.{Version}
 
+-- the switch that a word is
 abbrev pub switch_of : List ℕ → Option Switch
 switch_of word =
     if bytes_eq word (codes "-n") then Some NoSystemFile

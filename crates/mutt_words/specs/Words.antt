@@ -17,15 +17,18 @@ use Rattle.mutt_words.specs.declared.long_option.LongOption.{LongOption}
 use Rattle.mutt_words.specs.declared.short_option.ShortOption.{ShortOption}
 use Rattle.mutt_words.specs.declared.switch.Switch.{Switch}
 
+-- the options with that of a letter, where the word begins with one
 abbrev pub by_short : PlainOptions → Option (ShortOption × List ℕ) → Option PlainOptions
 by_short o None = None
 by_short o (Some found) = with_short o found.0 found.1
 
+-- the options with that of a name, or else these
 abbrev pub by_long : PlainOptions → Option (LongOption × List ℕ) → Option PlainOptions
     → Option PlainOptions
 by_long o None others = others
 by_long o (Some found) others = with_long o found.0 found.1
 
+-- the options with a switch, or else these
 abbrev pub by_switch : PlainOptions → Option Switch → Option PlainOptions → Option PlainOptions
 by_switch o None others = others
 by_switch o (Some switch) others = Some (turned_on o switch)
@@ -35,6 +38,7 @@ abbrev pub after_word : PlainOptions → List ℕ → Option PlainOptions
 after_word o word =
     by_switch o (switch_of word) (by_long o (read_long word) (by_short o (read_short word)))
 
+-- the option of a letter behind which nothing stands
 abbrev pub without_value : Option (ShortOption × List ℕ) → Option ShortOption
 without_value (Some (option, [])) = Some option
 without_value _ = None

@@ -7,11 +7,11 @@ ghost use Rattle.mail_base.specs.Zone.{IsOffset, numeric_zone};
 ghost use Rattle.rc_lang.specs.Variables.{is_variable as is_variable_lem};
 ghost use Rattle.mutt_words.specs.LongOption.{is_owner as is_owner_lem};
 ghost use Rattle.mutt_words.specs.Options as spec;
-ghost use Rattle.mutt_words.specs.ShortOption.{kind_named as kind_named_lem};
+ghost use Rattle.mail_base.specs.Kind.{kind_named};
 
 use crate::error::ValueError;
 use crate::long_option::{LongOption, is_owner};
-use crate::short_option::{ShortOption, kind_named};
+use crate::short_option::ShortOption;
 use crate::switch::Switch;
 use mail_base::{Bytes, Kind, Words, is_utf8, read_decimal, read_zone};
 use rc_lang::is_variable;
@@ -140,9 +140,9 @@ fn text(alloc: Global, value: &[u8]) -> Result<Bytes, ValueError>
 }
 
 fn known_kind(name: &[u8]) -> Result<Kind, ValueError>
-    ensures { spec.Gives (λ kind. kind) result (kind_named_lem name.now) }
+    ensures { spec.Gives (λ kind. kind) result (kind_named name.now) }
 {
-    match kind_named(name) {
+    match Kind::named(name) {
         Some(kind) => Ok(kind),
         None => Err(ValueError::Bad),
     }

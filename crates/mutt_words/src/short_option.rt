@@ -3,7 +3,7 @@
 ghost use Rattle.std.specs.Prelude.{◌≡◌, option_map};
 ghost use Rattle.mutt_words.specs.ShortOption as spec;
 
-use mail_base::{Kind, behind};
+use mail_base::behind;
 
 /// An option of a letter with a value.
 #[derive(Clone, Copy, Debug, PartialEq, Eq)]
@@ -44,21 +44,4 @@ pub fn read_short(word: &[u8]) -> Option<(ShortOption, &[u8])>
         return None;
     };
     Some((ShortOption::from_letter(*letter)?, value))
-}
-
-/// The kind of folders with this name.
-pub fn kind_named(name: &[u8]) -> Option<Kind>
-    ensures { result ≡ spec.kind_named name.now }
-{
-    if name == b"mbox".as_slice() {
-        Some(Kind::Mbox)
-    } else if name == b"Maildir".as_slice() {
-        Some(Kind::Maildir)
-    } else if name == b"MH".as_slice() {
-        Some(Kind::Mh)
-    } else if name == b"MMDF".as_slice() {
-        Some(Kind::Mmdf)
-    } else {
-        None
-    }
 }

@@ -2,7 +2,7 @@
 use Rattle.std.proofs.Common.{◌≡◌, ◌∙◌, ◌++◌, ◌≤◌, ◌⊎◌, ◌&&◌, ℕ, Bool, true, false, List, [], ◌∷◌}
 use Rattle.std.proofs.Common.{Option, Some, None, Result, Ok, Err, is_some, option_map}
 use Rattle.std.proofs.Common.{append_assoc, map, refl, sym, ap, subst, arith, inl, inr}
-use Rattle.std.specs.Prelude.{if◌then◌else◌}
+use Rattle.std.specs.Prelude.{IsErrOf, if◌then◌else◌}
 use Rattle.std.specs.List.{list_all}
 use Rattle.std.specs.Str.{bytes_eq}
 use Rattle.mail_base.specs.Faults.{Rose}
@@ -25,8 +25,8 @@ use Rattle.patterns_match.specs.Operations.{operation_map}
 use Rattle.patterns_match.specs.Trees.{Tells, Searches, Dated, Counts}
 use Rattle.patterns_match.specs.declared.asked.Asked.{Asked}
 use Rattle.patterns_match.specs.declared.operation.Operation.TheVariants as operation
-use Rattle.patterns.specs.Causes.{Halfway, Judges, Keeps, SomeOf, is_found_good, is_good}
-use Rattle.patterns.specs.Causes.{is_good_on}
+use Rattle.patterns.specs.Causes.{AreRead, Halfway, Judges, Keeps, ReadsFront, SomeOf}
+use Rattle.patterns.specs.Causes.{is_found_good, is_good, is_good_on}
 use Rattle.patterns.specs.Errors.{is_fault, of_expr_error}
 use Rattle.patterns_match.specs.Trees.{Leaf}
 use Rattle.patterns_match.specs.declared.letter.Field.{Field}
@@ -164,9 +164,45 @@ rose_from : (b m a : ℕ) → b ≤ m → Rose m a → Rose b a
 rose_from b m a le (inl up) = inl (omega arith)
 rose_from b m a le (inr last) = inr last
 
+-- texts that were read behind others
+read_on : (front texts : List (List ℕ)) (old mid new : List PlainJudged) (b m a : ℕ)
+    → AreRead front old mid b m → AreRead texts mid new m a → AreRead (front ++ texts) old new b a
+read_on [] texts old mid new b m a first next =
+    subst (λ n. AreRead texts old new n a) first.1
+    (subst (λ l. AreRead texts l new m a) first.0 next)
+read_on (t ∷ front) texts old mid new b m a first next = (
+  first.0,
+  first.1,
+  read_on front texts (with_verdict old t first.0.verdict b first.0.after) mid new first.0.after m
+      a first.2 next,
+)
+
+told_size : {T : Type 0} (r : Result T ExprError) → verdict_of r ≡ Some Size
+    → IsErrOf r expr.Size
+told_size (Ok x) e = cc
+told_size (Err expr.Syntax) e = cc
+told_size (Err expr.Size) e = refl
+told_size (Err expr.NoMemory) e = cc
+
+-- a text that was read
+told_one : {T : Type 0} (text : List ℕ) (r : Result T ExprError) (mid new : List PlainJudged)
+    (m a : ℕ) → Reads text r mid new m a → AreRead (text ∷ []) mid new m a
+told_one text r mid new m a reads = (
+  record { verdict = verdict_of r; after = a },
+  record {
+    later = reads.later;
+    asks = reads.asks;
+    size = λ e. reads.size_cause (told_size r e);
+  },
+  (reads.judged, refl),
+)
+
 pub halfway_start : (all : List (Operation Leaf)) (old : List PlainJudged) (b : ℕ)
     → Halfway all all old old b b
 halfway_start all old b = record {
+  front = [];
+  parts = refl;
+  read = (refl, refl);
   keeps = record { stays = λ text v is. is };
   sizes = λ text is. is;
   later = omega arith;
@@ -183,6 +219,9 @@ module _ {all rest : List (Operation Leaf)} {o : Operation Leaf} {old mid : List
 
   pub halfway_skip : expr_of o ≡ None → Halfway all rest old mid b m
   halfway_skip is = record {
+    front = so.front;
+    parts = ap (λ l. so.front ++ l) (sym (with_none is)) ∙ so.parts;
+    read = so.read;
     keeps = so.keeps;
     sizes = so.sizes;
     later = so.later;
@@ -203,10 +242,28 @@ module _ {all rest : List (Operation Leaf)} {o : Operation Leaf} {old mid : List
     more {r = r} {a = a} reads =
         subst (Keeps mid) (sym reads.judged) (keeps_more mid (utf8_text text) (verdict_of r) m a)
 
+    -- the text behind those that were read
+    abbrev onto : List (List ℕ)
+    onto = so.front ++ utf8_text text ∷ []
+
+    with_front : onto ++ exprs_in rest ≡ exprs_in all
+    with_front =
+        append_assoc so.front (utf8_text text ∷ []) (exprs_in rest)
+        ∙ ap (λ l. so.front ++ l) (sym with_text) ∙ so.parts
+
+    read_too : {T : Type 0} (r : Result T ExprError) {new : List PlainJudged} {a : ℕ}
+        → Reads (utf8_text text) r mid new m a → AreRead onto old new b a
+    read_too r {new = new} {a = a} reads =
+        read_on so.front (utf8_text text ∷ []) old mid new b m a so.read
+        (told_one (utf8_text text) r mid new m a reads)
+
     pub halfway_on : {T : Type 0} {x : T} {new : List PlainJudged} {a : ℕ}
         → Reads (utf8_text text) (Ok x) mid new m a
         → Halfway all rest old new b a
-    halfway_on {new = new} {a = a} reads = record {
+    halfway_on {x = x} {new = new} {a = a} reads = record {
+      front = onto;
+      parts = with_front;
+      read = read_too (Ok x) reads;
       keeps = keeps_on old mid new so.keeps (more reads);
       sizes = λ t was. so.sizes t (size_stays mid (utf8_text text) t m a
           (subst (λ l. verdict_on l t ≡ Some Size) reads.judged was));
@@ -234,10 +291,22 @@ module _ {all rest : List (Operation Leaf)} {o : Operation Leaf} {old mid : List
     by_cause (inl was) = inl (among old Size (so.sizes (utf8_text text) was))
     by_cause {a = a} (inr rose) = inr (rose_from b m a so.later rose)
 
+    stopped : {S : Type 0} (e : ExprError) {new : List PlainJudged} {a : ℕ}
+        → Reads {T = S} (utf8_text text) (Err e) mid new m a
+        → ReadsFront (exprs_in all) old new b a
+    stopped {S = S} e reads = record {
+      front = onto;
+      rest = exprs_in rest;
+      parts = with_front;
+      read = read_too {T = S} (Err e) reads;
+    }
+
     pub halfway_stop : {S T : Type 0} (e : ExprError) {new : List PlainJudged} {a : ℕ}
         → Reads {T = S} (utf8_text text) (Err e) mid new m a
         → Judges {T = T} (exprs_in all) (Err (of_expr_error e)) old new b a
-    halfway_stop expr.Syntax {new = new} reads = record {
+    halfway_stop {S = S} expr.Syntax {new = new} reads = record {
+      reads = stopped {S = S} expr.Syntax reads;
+      all = tt;
       keeps = keeps_on old mid new so.keeps (more reads);
       sizes = tt;
       later = omega (arith, so.later, reads.later);
@@ -249,7 +318,9 @@ module _ {all rest : List (Operation Leaf)} {o : Operation Leaf} {old mid : List
       lost_syntax = λ s. among new Syntax reads.verdict;
       lost_size = λ s. cc;
     }
-    halfway_stop expr.Size {new = new} reads = record {
+    halfway_stop {S = S} expr.Size {new = new} reads = record {
+      reads = stopped {S = S} expr.Size reads;
+      all = tt;
       keeps = keeps_on old mid new so.keeps (more reads);
       sizes = tt;
       later = omega (arith, so.later, reads.later);
@@ -260,7 +331,9 @@ module _ {all rest : List (Operation Leaf)} {o : Operation Leaf} {old mid : List
       lost_syntax = λ s. cc;
       lost_size = λ s. among new Size reads.verdict;
     }
-    halfway_stop expr.NoMemory {new = new} reads = record {
+    halfway_stop {S = S} expr.NoMemory {new = new} reads = record {
+      reads = stopped {S = S} expr.NoMemory reads;
+      all = tt;
       keeps = keeps_on old mid new so.keeps (more reads);
       sizes = tt;
       later = omega (arith, so.later, reads.later);
@@ -276,6 +349,8 @@ pub halfway_end : {T : Type 0} {x : T} {all : List (Operation Leaf)} {old new : 
     {b a : ℕ} → Halfway all [] old new b a
     → Judges (exprs_in all) (Ok x) old new b a
 halfway_end {new = new} so = record {
+  reads = record { front = so.front; rest = []; parts = so.parts; read = so.read };
+  all = refl;
   keeps = so.keeps;
   sizes = so.sizes;
   later = so.later;
@@ -290,7 +365,9 @@ halfway_end {new = new} so = record {
 pub no_memory : {T : Type 0} {all left : List (Operation Leaf)} {old new : List PlainJudged}
     {b a : ℕ} → Halfway all left old new b a
     → Judges {T = T} (exprs_in all) (Err error.NoMemory) old new b a
-no_memory so = record {
+no_memory {left = left} so = record {
+  reads = record { front = so.front; rest = exprs_in left; parts = so.parts; read = so.read };
+  all = tt;
   keeps = so.keeps;
   sizes = tt;
   later = so.later;

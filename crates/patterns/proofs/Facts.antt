@@ -29,6 +29,18 @@ open_one : pattern_of no_day (codes "(~A") ≡ Err (Unbalanced 0)
 unfolding letter_of rows
 open_one = refl
 
+open_thread : pattern_of no_day (codes "~(~A") ≡ Err (Unbalanced 1)
+unfolding letter_of rows
+open_thread = refl
+
+open_parent : pattern_of no_day (codes "~A =<(~A") ≡ Err (Unbalanced 5)
+unfolding letter_of rows
+open_parent = refl
+
+open_child : pattern_of no_day (codes "(~>(~A") ≡ Err (Unbalanced 0)
+unfolding letter_of rows
+open_child = refl
+
 empty : pattern_of no_day [] ≡ Err Empty
 empty = refl
 

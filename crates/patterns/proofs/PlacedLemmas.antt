@@ -10,7 +10,7 @@ use Rattle.mail_base.specs.Blanks.{is_blank}
 use Rattle.patterns.specs.Faults.{◌>>?◌, Reading, TooDeep}
 use Rattle.patterns.specs.Laws.{ReadPatternsArePlaced}
 use Rattle.patterns.specs.Patterns.{Opened, Side, State, at_first, close, closed, ended, is_simple}
-use Rattle.patterns.specs.Patterns.{joined}
+use Rattle.patterns.specs.Patterns.{joined, parenthesis_at}
 use Rattle.patterns.specs.Patterns.{more_of, most_open, nothing_read, pattern_of, read_from}
 use Rattle.patterns.specs.Patterns.{simple, step}
 use Rattle.patterns.specs.Patterns.{stepped, tree_of, whole_of, with_term}
@@ -161,7 +161,11 @@ step_good : (place : ℕ) (s : State) (token : Token) → IsGoodState s
 step_good place s (Open relation) good =
     open_good s (record {
       side = nothing_read;
-      opened = record { place = place; relation = relation; before = s.side } ∷ s.opened;
+      opened = record {
+        place = parenthesis_at place relation;
+        relation = relation;
+        before = s.side;
+      } ∷ s.opened;
     }) (nat_lt (length s.opened) most_open) refl
     (λ room. record {
       side = record { either = refl; both = refl };

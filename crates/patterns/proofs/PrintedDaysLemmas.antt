@@ -40,7 +40,7 @@ use Rattle.std.proofs.lemmas.List.{append-nil}
 use Rattle.mail_base.specs.Fronts.{◌>>=◌}
 use Rattle.patterns.specs.Dates.{from_to}
 use Rattle.patterns.specs.Numbers.{greatest}
-use Rattle.patterns.proofs.NumberLemmas.{own}
+use Rattle.mail_base.proofs.NumberLemmas.{own}
 use Rattle.patterns.proofs.RangeLemmas.{number_known}
 use Rattle.patterns.proofs.DaysLemmas.{true_le}
 use Rattle.patterns.proofs.PlaceLemmas.{digits_all, no_split, split_read}

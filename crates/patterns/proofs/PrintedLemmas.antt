@@ -21,7 +21,7 @@ use Rattle.patterns.specs.Dates.{days_of}
 use Rattle.patterns.specs.Laws.{PatternsAreRead}
 use Rattle.patterns.specs.Patterns.{Opened, Side, State, at_first, begins_term, closed}
 use Rattle.patterns.specs.Patterns.{joined, simple}
-use Rattle.patterns.specs.Patterns.{more_of}
+use Rattle.patterns.specs.Patterns.{more_of, parenthesis_at}
 use Rattle.patterns.specs.Patterns.{most_open, nothing_read, pattern_of, read_from, step, stepped}
 use Rattle.patterns.specs.Patterns.{tree_of, with_term}
 use Rattle.patterns.specs.Printed.{can_write_leaf, can_write_text, is_bare, is_placed, is_terms}
@@ -292,7 +292,11 @@ module _ (days : List ℕ → Option Days) where
       let parts = and_parts (nat_lt 0 n) (nests_in tree (n - 1)) (sym (nests n) ∙ fits) in
       let some : 0 < n = lt_from parts.0 in
       let room : nat_lt (length opened) most_open ≡ true = grind (arith, nat_tests) in
-      let last : Opened = record { place = place; relation = relation; before = from } in
+      let last : Opened = record {
+        place = parenthesis_at place relation;
+        relation = relation;
+        before = from;
+      } in
       let inner : List Opened = last ∷ opened in
       let behind : List ℕ = text ++ 41 ∷ rest in
       let first = token_read days place (at from opened) (at nothing_read inner) lead taken behind

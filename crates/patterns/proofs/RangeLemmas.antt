@@ -18,14 +18,15 @@ use Rattle.std.specs.Str.Parse.{digits_value}
 use Rattle.mail_base.specs.Places.{split_once}
 use Rattle.patterns.specs.Arguments.{is_end, is_quote}
 use Rattle.patterns.specs.Laws.{RangesAreRead}
-use Rattle.patterns.specs.Numbers.{greatest, is_number, number_of, up_to_greatest, with_unit}
+use Rattle.mail_base.specs.Number.{is_number}
+use Rattle.patterns.specs.Numbers.{greatest, number_of, up_to_greatest, with_unit}
 use Rattle.patterns.specs.Printed.{can_write_range, is_bare, lacks, printed_range}
 use Rattle.patterns.specs.RangeTexts.{between, exactly_or_between, measured, range_of}
 use Rattle.patterns_match.specs.declared.range.Range.{Range}
 use Rattle.patterns_match.specs.declared.range.Range.TheVariants as range
 use Rattle.patterns.specs.declared.range_text.Measure.{Measure}
 use Rattle.patterns.specs.declared.range_text.Measure.TheVariants.{Count, Size}
-use Rattle.patterns.proofs.NumberLemmas.{own}
+use Rattle.mail_base.proofs.NumberLemmas.{own}
 use Rattle.patterns.proofs.PlaceLemmas.{digits_all, no_split, split_read}
 
 no_zero : (b : ℕ) → 48 < b → not (b == 48) ≡ true

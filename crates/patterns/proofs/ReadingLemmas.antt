@@ -1,14 +1,14 @@
 -- Patterns with their expressions read.
 use Rattle.std.proofs.Common.{◌≡◌, ◌∙◌, ◌++◌, ℕ, Bool, true, false, List, [], ◌∷◌, Some, None}
 use Rattle.std.proofs.Common.{Result, Ok, Err, IsOk, length}
-use Rattle.std.specs.Prelude.{if◌then◌else◌}
+use Rattle.std.specs.Prelude.{OnErr, if◌then◌else◌}
 use Rattle.std.specs.List.{list_all}
 use Rattle.std.proofs.Common.{map, refl, sym, ap, subst, arith}
 use Rattle.std.proofs.lemmas.List.{length-map, map-append}
 use Rattle.people.specs.Judged.{PlainJudged}
 use Rattle.patterns_match.specs.Asked.{asked_operations, asked_tree}
 use Rattle.patterns.specs.Exprs.{asked, exprs, exprs_in, tree_map}
-use Rattle.patterns.specs.Causes.{Judges, Keeps, is_good_on}
+use Rattle.patterns.specs.Causes.{AreRead, Judges, Keeps, ReadsFront, is_good_on}
 use Rattle.people.specs.declared.judged.Verdict.TheVariants.{Syntax, Size}
 use Rattle.patterns.proofs.CauseLemmas.{found_kept, lost_kept}
 use Rattle.patterns.specs.Errors.{is_fault, of_read_error}
@@ -167,6 +167,17 @@ answer_later view (Ok tree) (Err error.RegexSize) {new = new} is j list kept =
 answer_later view (Err fault) (Err error.RegexSize) is j list kept = refl
 answer_later view expected (Err error.NoMemory) is j list kept = tt
 
+-- where there are no texts none was read
+none_read : (front rest : List (List ℕ)) {old new : List PlainJudged} {b a : ℕ}
+    → front ++ rest ≡ [] → AreRead front old new b a → (new ≡ old) × (a ≡ b)
+none_read [] rest parts read = read
+none_read (t ∷ front) rest parts read = cc
+
+unasked_at : (expected : Reading Tree) {old new : List PlainJudged} {b a : ℕ}
+    → ReadsFront (exprs_read expected) old new b a → OnErr expected ((new ≡ old) × (a ≡ b))
+unasked_at (Ok tree) so = tt
+unasked_at (Err fault) so = none_read so.front so.rest so.parts so.read
+
 is_read : {T : Type 0} (view : T → Tree) (expected : Reading Tree)
     (result : Result T PatternError) {old new : List PlainJudged} {b a : ℕ}
     → IsAnswer view expected result
@@ -175,6 +186,7 @@ is_read : {T : Type 0} (view : T → Tree) (expected : Reading Tree)
 is_read view expected result is j = record {
   answer = is;
   judges = j;
+  unasked = unasked_at expected j.reads;
   later = answer_later view expected result is j;
 }
 
@@ -186,6 +198,13 @@ read_fails {T = T} view e expected kept count fails =
     let cause : PatternError = of_read_error e in
     let result : Result T PatternError = Err cause in
     is_read view expected result (form_error expected e fails) (record {
+      reads = record {
+        front = [];
+        rest = exprs_read expected;
+        parts = refl;
+        read = (refl, refl);
+      };
+      all = tt;
       keeps = record { stays = λ t v is. is };
       sizes = tt;
       later = omega arith;
@@ -227,6 +246,8 @@ module _ {S T : Type 0} (view : T → Tree) (needs : List (Operation Need))
       is_read view expected result (expr_error expected e sound (subst (λ r. IsOk r) (sym is) refl))
       (subst (λ l. Judges {T = T} l (Err e) old new b a) (exprs_are needs expected coded is)
       (record {
+        reads = j.reads;
+        all = tt;
         keeps = j.keeps;
         sizes = tt;
         later = j.later;
@@ -246,6 +267,8 @@ module _ {S T : Type 0} (view : T → Tree) (needs : List (Operation Need))
       is_read view expected (Ok y) (ap (reading_map (tree_map asked)) is ∙ ap Ok (sym tree))
       (subst (λ l. Judges {T = T} l (Ok y) old new b a) (exprs_are needs expected coded is)
       (record {
+        reads = j.reads;
+        all = j.all;
         keeps = j.keeps;
         sizes = j.sizes;
         later = j.later;

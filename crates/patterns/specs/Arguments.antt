@@ -14,6 +14,7 @@ is_end b = is_blank b || b == byte "|" || b == byte ")"
 abbrev pub plain_len : List ℕ → ℕ
 plain_len text = position_or_len is_end text
 
+-- an argument without quotes, and what follows it
 abbrev pub plain_argument : List ℕ → List ℕ × List ℕ
 plain_argument text = (take (plain_len text) text, drop (plain_len text) text)
 
@@ -28,5 +29,6 @@ argument_at [] = Some ([], [])
 argument_at (b ∷ rest) =
     if is_quote b then split_once b rest else Some (plain_argument (b ∷ rest))
 
+-- the same behind blanks
 abbrev pub argument : List ℕ → Option (List ℕ × List ℕ)
 argument text = argument_at (without_blanks text)

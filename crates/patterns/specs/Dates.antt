@@ -14,6 +14,7 @@ use Rattle.patterns_match.specs.declared.range.Range.TheVariants as range
 abbrev pub up_to_most : ℕ → Option ℕ
 up_to_most n = if nat_le n 9999 then Some n else None
 
+-- the number of units that a text writes
 abbrev pub count_of : List ℕ → Option ℕ
 count_of text = number_of text >>= up_to_most
 
@@ -26,6 +27,7 @@ ago_count (digits, b ∷ rest) = None
 abbrev pub ago_in : (ℕ → Option ℤ) → List ℕ × List ℕ → Option ℤ
 ago_in back parts = ago_count parts >>= back
 
+-- the day so many units ago, where the text has their letter, or else the other
 abbrev pub or_ago : (ℕ → Option ℤ) → Option (List ℕ × List ℕ) → Option ℤ → Option ℤ
 or_ago back None other = other
 or_ago back (Some parts) other = ago_in back parts
@@ -51,6 +53,7 @@ days_between today (b ∷ low, []) = option_map range.From (day_of today (b ∷ 
 days_between today (b ∷ low, c ∷ high) =
     from_to (day_of today (b ∷ low)) (day_of today (c ∷ high))
 
+-- the range of one day, or of those round a dash
 abbrev pub day_or_between : Date → List ℕ → Option (List ℕ × List ℕ) → Option (Range ℤ)
 day_or_between today text None = option_map range.Exactly (day_of today text)
 day_or_between today text (Some parts) = days_between today parts

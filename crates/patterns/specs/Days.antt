@@ -42,6 +42,7 @@ behind_day today day text None = written_day (Some today.year) (two_digits text)
 behind_day today day text (Some (month, year)) =
     written_day (option_map pos (year_of year)) (two_digits month) day
 
+-- the day that a text writes, by what stands round its first slash
 abbrev pub day_at : Date → List ℕ → Option (List ℕ × List ℕ) → Option ℤ
 day_at today text None = written_day (Some today.year) (Some today.month) (two_digits text)
 day_at today text (Some (day, rest)) =
@@ -55,6 +56,7 @@ day_of today text = day_at today text (split_once (byte "/") text)
 abbrev pub has_day : ℤ → Bool
 has_day day = int_le (neg_ℤ (pos 4_371_587)) day && int_le day (pos 2_932_896)
 
+-- a year of the calendar that the jiff crate has
 abbrev pub has_year : ℤ → Bool
 has_year year = int_le (neg_ℤ (pos 9999)) year && int_le year (pos 9999)
 

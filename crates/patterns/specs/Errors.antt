@@ -27,10 +27,12 @@ is_fault _ = true
 
 -- For the code alone.
 
+-- why a form is not read, as an error
 abbrev pub of_read_error : ReadError → PatternError
 of_read_error (read.Fault fault) = error_of fault
 of_read_error read.NoMemory = error.NoMemory
 
+-- why an expression is not read, as an error
 abbrev pub of_expr_error : ExprError → PatternError
 of_expr_error expr.Syntax = error.RegexSyntax
 of_expr_error expr.Size = error.RegexSize

@@ -25,7 +25,7 @@ tree_map f (Or a b) = Or (tree_map f a) (tree_map f b)
 tree_map f (Group tree) = Group (tree_map f tree)
 tree_map f (Related relation tree) = Related relation (tree_map f tree)
 
--- the expression that an operation asks, if it is one of those
+-- the expression that a term searches for, if it does, and where
 abbrev pub leaf_expr : Leaf → Option (Field × List ℕ)
 leaf_expr (Tells mark) = None
 leaf_expr (Searches field true text) = None
@@ -33,6 +33,7 @@ leaf_expr (Searches field false text) = Some (field, text)
 leaf_expr (Dated day range) = None
 leaf_expr (Counts number range) = None
 
+-- the same of an operation
 abbrev pub expr_of : Operation Leaf → Option (Field × List ℕ)
 expr_of (operation.Ask leaf) = leaf_expr leaf
 expr_of operation.Negate = None

@@ -10,6 +10,7 @@ Reading X = Result X Fault
 
 -- the next step, where the one before gave a value
 infixl 10 ◌>>?◌
+-- the second reading behind the first; a fault of the first ends both
 abbrev pub ◌>>?◌ : {A B : Type 0} → Reading A → (A → Reading B) → Reading B
 Ok a >>? f = f a
 Err fault >>? f = Err fault

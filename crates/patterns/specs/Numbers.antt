@@ -1,15 +1,10 @@
 -- Numbers of a pattern: decimal digits without a leading zero.
-use Rattle.std.specs.Prelude.{◌==◌, ◌&&◌, ◌-◌, ◌*◌, ◌^◌, ℕ, Bool, false, not, nat_le, List, [], ◌∷◌}
+use Rattle.std.specs.Prelude.{◌-◌, ◌*◌, ◌^◌, ℕ, nat_le, List, [], ◌∷◌}
 use Rattle.std.specs.Prelude.{Option, Some, None, if◌then◌else◌}
-use Rattle.std.specs.Str.{all_ascii_digits, byte}
+use Rattle.std.specs.Str.{byte}
 use Rattle.std.specs.Str.Parse.{digits_value}
+use Rattle.mail_base.specs.Number.{is_number}
 use Rattle.mail_base.specs.Places.{split_once}
-
--- digits alone, without a leading zero
-abbrev pub is_number : List ℕ → Bool
-is_number [] = false
-is_number (b ∷ []) = all_ascii_digits (b ∷ [])
-is_number (b ∷ c ∷ rest) = not (b == byte "0") && all_ascii_digits (b ∷ c ∷ rest)
 
 -- the greatest number of a pattern
 abbrev pub greatest : ℕ
@@ -19,6 +14,7 @@ greatest = 2 ^ 63 - 1
 abbrev pub up_to_greatest : ℕ → Option ℕ
 up_to_greatest n = if nat_le n greatest then Some n else None
 
+-- the number that a text writes
 abbrev pub number_of : List ℕ → Option ℕ
 number_of text = if is_number text then up_to_greatest (digits_value 10 text) else None
 
@@ -32,6 +28,7 @@ abbrev pub in_unit : ℕ → List ℕ × List ℕ → Option ℕ
 in_unit unit (digits, []) = times unit (number_of digits)
 in_unit unit (digits, b ∷ rest) = None
 
+-- the number before a unit, where the text has that unit, or else the other
 abbrev pub with_unit : ℕ → Option (List ℕ × List ℕ) → Option ℕ → Option ℕ
 with_unit unit None other = other
 with_unit unit (Some parts) other = in_unit unit parts

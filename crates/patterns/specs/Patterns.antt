@@ -10,6 +10,7 @@ use Rattle.patterns.specs.Tokens.{Token, Open, Close, Bar, Bang, Term, token_at}
 use Rattle.patterns_match.specs.Trees.{Days, Tree, Asks, And, Or, Group, Related, Searches, negated}
 use Rattle.patterns_match.specs.declared.letter.Field.TheVariants.{From, Subject}
 use Rattle.patterns_match.specs.declared.relation.Relation.{Relation}
+use Rattle.patterns_match.specs.declared.relation.Relation.TheVariants.{Thread, Parent, Child}
 
 -- What was read of a pattern, or of what is in a parenthesis: the alternatives before the last bar,
 -- the terms behind it, and the exclamation marks behind these.
@@ -18,6 +19,7 @@ pub record Side : Type 0 where
   pub both : Option Tree
   pub nots : ℕ
 
+-- nothing was read yet
 abbrev pub nothing_read : Side
 nothing_read = record { either = None; both = None; nots = 0 }
 
@@ -36,6 +38,7 @@ pub record State : Type 0 where
   pub side : Side
   pub opened : List Opened
 
+-- the state before the first token
 abbrev pub at_first : State
 at_first = record { side = nothing_read; opened = [] }
 
@@ -75,12 +78,23 @@ close place side (o ∷ opened) =
       opened = opened;
     }))
 
+-- the place of the parenthesis of a token, which stands behind the sign of a relation
+abbrev pub parenthesis_at : ℕ → Option Relation → ℕ
+parenthesis_at place None = place
+parenthesis_at place (Some Thread) = place + 1
+parenthesis_at place (Some Parent) = place + 2
+parenthesis_at place (Some Child) = place + 2
+
 -- a token at a place
 abbrev pub step : ℕ → State → Token → Reading State
 step place state (Open relation) =
     if nat_lt (length state.opened) most_open then Ok (record {
       side = nothing_read;
-      opened = record { place = place; relation = relation; before = state.side } ∷ state.opened;
+      opened = record {
+        place = parenthesis_at place relation;
+        relation = relation;
+        before = state.side;
+      } ∷ state.opened;
     })
     else Err TooDeep
 step place state Close = close place state.side state.opened
@@ -128,6 +142,7 @@ begins_term b = b == byte "~" || b == byte "=" || b == byte "%"
 abbrev pub is_simple : List ℕ → Bool
 is_simple text = not (list_any begins_term text)
 
+-- a text that is searched for in From and Subject
 abbrev pub simple : List ℕ → Tree
 simple text =
     Or (Asks (Searches From false text)) (Asks (Searches Subject false text))

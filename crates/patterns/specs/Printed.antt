@@ -19,6 +19,7 @@ use Rattle.patterns_match.specs.declared.relation.Relation.TheVariants.{Thread, 
 
 -- Written.
 
+-- a range of numbers, without units
 abbrev pub printed_range : Range ℕ → List ℕ
 printed_range (range.Exactly n) = decimal n
 printed_range (range.Between low high) = decimal low ++ byte "-" ∷ decimal high
@@ -27,6 +28,7 @@ printed_range (range.From low) = decimal low ++ byte "-" ∷ []
 printed_range (range.Below n) = byte "<" ∷ decimal n
 printed_range (range.Above n) = byte ">" ∷ decimal n
 
+-- the byte does not stand in the text
 abbrev pub lacks : ℕ → List ℕ → Bool
 lacks b text = list_all (λ x. not (x == b)) text
 
@@ -35,6 +37,7 @@ abbrev pub is_bare : List ℕ → Bool
 is_bare [] = false
 is_bare (b ∷ rest) = not (is_quote b) && list_all (λ x. not (is_end x)) (b ∷ rest)
 
+-- a text in quotes of one kind
 abbrev pub quoted : ℕ → List ℕ → List ℕ
 quoted quote text = quote ∷ (text ++ quote ∷ [])
 
@@ -73,6 +76,7 @@ printed write (Related relation tree) = opening relation ++ (printed write tree 
 
 -- Can be written.
 
+-- the numbers of a range are not past the greatest
 abbrev pub can_write_range : Range ℕ → Bool
 can_write_range (range.Exactly n) = nat_le n greatest
 can_write_range (range.Between low high) = nat_le low greatest && nat_le high greatest

@@ -11,12 +11,15 @@ use Rattle.patterns.specs.Days.{has_day}
 use Rattle.patterns_match.specs.Trees.{Days}
 use Rattle.patterns_match.specs.declared.range.Range.TheVariants as range
 
+-- a digit as its byte
 abbrev pub digit : ℕ → ℕ
 digit n = byte "0" + n
 
+-- a number below 100 in two digits
 abbrev pub in_two_digits : ℕ → List ℕ
 in_two_digits n = digit (n / 10 % 10) ∷ digit (n % 10) ∷ []
 
+-- a number below 10,000 in four digits
 abbrev pub in_four_digits : ℕ → List ℕ
 in_four_digits n =
     digit (n / 1000 % 10) ∷ digit (n / 100 % 10) ∷ digit (n / 10 % 10) ∷ digit (n % 10) ∷ []
@@ -31,6 +34,7 @@ printed_date date =
 abbrev pub days_since : Date → ℤ → ℕ
 days_since today day = unsigned_abs (epoch_day today -ℤ day)
 
+-- how long ago a day is, in days
 abbrev pub printed_since : Date → ℤ → List ℕ
 printed_since today day = decimal (days_since today day) ++ byte "d" ∷ []
 
@@ -53,6 +57,7 @@ abbrev pub is_since : Date → ℤ → Bool
 is_since today day =
     int_le day (epoch_day today) && nat_le (days_since today day) 9999 && has_day day
 
+-- the calendar has the days of a range, or they are not too long ago
 abbrev pub can_write_days : Date → (ℤ → Date) → Days → Bool
 can_write_days today date_of (range.Exactly day) = has_date date_of day
 can_write_days today date_of (range.Between first last) =

@@ -25,6 +25,7 @@ between measure (b ∷ low, c ∷ high) = do
   most ← measured measure (c ∷ high)
   Some (range.Between least most)
 
+-- the range of one number, or of those round a dash
 abbrev pub exactly_or_between : Measure → List ℕ → Option (List ℕ × List ℕ) → Option (Range ℕ)
 exactly_or_between measure text None = option_map range.Exactly (measured measure text)
 exactly_or_between measure text (Some parts) = between measure parts

@@ -1,5 +1,6 @@
 -- What reading the text of a pattern answers, and what it leaves of the verdicts.
 use Rattle.std.specs.Prelude.{◌≡◌, ℕ, ℤ, List, [], Option, Some, None, Result, Ok, Err, IsOk}
+use Rattle.std.specs.Prelude.{OnErr}
 use Rattle.std.specs.Prelude.{if◌then◌else◌}
 use Rattle.std.specs.List.{list_all}
 use Rattle.jiff_core.specs.Date.{epoch_day}
@@ -63,6 +64,8 @@ pub record IsRead {T : Type 0} (view : T → Tree) (expected : Reading Tree)
     : Type 0 where
   pub answer : IsAnswer view expected result
   pub judges : Judges (exprs_read expected) result old new before after
+  -- where the form is at fault nobody is asked
+  pub unasked : OnErr expected ((new ≡ old) × (after ≡ before))
   -- so it is by each list that keeps the verdicts
   pub later : (list : List PlainJudged) → Keeps new list
       → IsReading view (reading_by list expected) result

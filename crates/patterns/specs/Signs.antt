@@ -19,6 +19,7 @@ use Rattle.patterns_match.specs.declared.letter.Number.{Number}
 use Rattle.patterns_match.specs.declared.letter.Number.TheVariants.{Place, Score, Attachments}
 use Rattle.patterns_match.specs.declared.letter.Number.TheVariants.{Bytes}
 
+-- the letter without an argument that tells a mark
 abbrev pub mark_sign : Mark → ℕ
 mark_sign All = byte "A"
 mark_sign Deleted = byte "D"
@@ -37,6 +38,7 @@ mark_sign Collapsed = byte "v"
 mark_sign Duplicate = byte "="
 mark_sign Childless = byte "$"
 
+-- the letter that searches in a field
 abbrev pub field_sign : Field → ℕ
 field_sign Body = byte "b"
 field_sign Whole = byte "B"
@@ -53,10 +55,12 @@ field_sign References = byte "x"
 field_sign Label = byte "y"
 field_sign ContentType = byte "M"
 
+-- the letter of a date
 abbrev pub day_sign : Day → ℕ
 day_sign Sent = byte "d"
 day_sign Received = byte "r"
 
+-- the letter of a number
 abbrev pub number_sign : Number → ℕ
 number_sign Place = byte "m"
 number_sign Score = byte "n"

@@ -22,9 +22,11 @@ abbrev pub Gives : {X Y : Type 0} → (X → Y) → Result X ReadError → Readi
 Gives view (Ok value) expected = expected ≡ Ok (view value)
 Gives view (Err error) expected = Fails error expected
 
+-- the tree that a draft makes
 abbrev pub tree_in : Draft → Tree
 tree_in draft = made draft.operations.items
 
+-- a side with trees in place of drafts
 abbrev pub plain_side : HeldSide → Side
 plain_side s = record {
   either = option_map tree_in s.either;
@@ -32,6 +34,7 @@ plain_side s = record {
   nots = s.nots;
 }
 
+-- the same of an open parenthesis
 abbrev pub plain_opened : HeldOpened → Opened
 plain_opened o = record {
   place = o.place;

@@ -108,6 +108,7 @@ letter_at days plain place (b ∷ rest) =
     or_fault (UnknownLetter place) (letter_of b)
     >>? (λ letter. term_of days plain letter (place + 1) rest)
 
+-- the parenthesis of a relation, if one stands there, or else a letter
 abbrev pub sign_at : (List ℕ → Option Days) → Bool → ℕ → List ℕ → Option (Relation × List ℕ)
     → Reading (Token × List ℕ)
 sign_at days plain place text None = letter_at days plain place text
@@ -126,12 +127,14 @@ token_at days place b rest =
 
 -- For the code alone: tokens as they are held.
 
+-- a term with its text and days as they are seen
 abbrev pub plain_leaf : HeldLeaf → Leaf
 plain_leaf (held.Tells mark) = Tells mark
 plain_leaf (held.Searches field plain text) = Searches field plain text.now
 plain_leaf (held.Dated day range) = Dated day (range_map epoch_day range)
 plain_leaf (held.Counts number range) = Counts number range
 
+-- a token with its term so
 abbrev pub plain_token : HeldToken → Token
 plain_token (token.Open relation) = Open relation
 plain_token token.Close = Close

@@ -1,7 +1,9 @@
 //! Ranges of days in a pattern.
 
 ghost use Rattle.std.specs.Prelude.{◌≡◌, ◌≤◌, option_map, IfSome};
+ghost use Rattle.std.specs.Str.{byte};
 ghost use Rattle.jiff_core.specs.Date.{epoch_day};
+ghost use Rattle.mail_base.specs.Places.{split_once};
 ghost use Rattle.patterns.specs.Dates as spec;
 ghost use Rattle.patterns_match.specs.Ranges.{range_map};
 
@@ -63,6 +65,17 @@ fn days_between(today: Date, low: &[u8], high: &[u8]) -> Option<Range<Date>>
     }
 }
 
+// The range of a day, or of two with a dash between them.
+fn plain_days(today: Date, text: &[u8]) -> Option<Range<Date>>
+    ensures { option_map (range_map epoch_day) result
+        ≡ spec.day_or_between today text.now (split_once (byte "-") text.now) }
+{
+    match split_once(b'-', text) {
+        Some((low, high)) => days_between(today, low, high),
+        None => Some(Range::Exactly(read_day(today, text)?)),
+    }
+}
+
 /// The range of days that an argument writes. Less than so long ago is after that day.
 pub fn read_days(today: Date, text: &[u8]) -> Option<Range<Date>>
     ensures { option_map (range_map epoch_day) result ≡ spec.days_of today text.now }
@@ -72,9 +85,6 @@ pub fn read_days(today: Date, text: &[u8]) -> Option<Range<Date>>
         [b'<', rest @ ..] => Some(Range::Above(ago(today, rest)?)),
         [b'>', rest @ ..] => Some(Range::Below(ago(today, rest)?)),
         [b'=', rest @ ..] => Some(Range::Exactly(ago(today, rest)?)),
-        _ => match split_once(b'-', text) {
-            Some((low, high)) => days_between(today, low, high),
-            None => Some(Range::Exactly(read_day(today, text)?)),
-        },
+        _ => plain_days(today, text),
     }
 }

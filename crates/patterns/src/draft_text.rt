@@ -54,7 +54,8 @@ fn step_at(
     first: u8,
     rest: &[u8],
 ) -> Result<(State, usize), ReadError>
-    requires place { place + 1 + length rest.now < 2 ^ 64 }
+    requires within { place + 1 + length rest.now < 2 ^ 64 }
+    requires place { place + 2 < 2 ^ 64 }
     requires nots { state.side.nots + 1 < 2 ^ 64 }
     ensures value { Gives (λ p. plain_state p.0) result (spec.stepped place (plain_state state)
         (token_at (days_of today) place first rest.now)) }

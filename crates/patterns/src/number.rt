@@ -1,10 +1,9 @@
 //! Numbers of a pattern: decimal digits without a leading zero.
 
-ghost use Rattle.std.specs.Prelude.{◌≡◌, ◌≤◌, true, false, Some, IfSome, IfNone};
-ghost use Rattle.std.specs.Str.{all_ascii_digits};
+ghost use Rattle.std.specs.Prelude.{◌≡◌, ◌≤◌, Some, IfSome};
 ghost use Rattle.patterns.specs.Numbers as spec;
 
-use mail_base::split_once;
+use mail_base::{number_text, split_once};
 
 // The greatest number of a pattern.
 const GREATEST: u64 = 9_223_372_036_854_775_807;
@@ -18,44 +17,6 @@ pub fn number_of(text: &[u8]) -> Option<u64>
         Ok(number) if number <= GREATEST => Some(number),
         _ => None,
     }
-}
-
-// The text, if it is a number.
-fn number_text(text: &[u8]) -> Option<&str>
-    ensures some { IfSome result
-        (λ digits. (digits.now ≡ text.now) × (spec.is_number text.now ≡ true)) }
-    ensures none { IfNone result (spec.is_number text.now ≡ false) }
-{
-    if !is_number(text) {
-        return None;
-    }
-    let Ok(digits) = str::from_utf8(text) else {
-        unreachable!()
-    };
-    Some(digits)
-}
-
-fn is_number(text: &[u8]) -> bool
-    ensures { result ≡ spec.is_number text.now }
-{
-    match text {
-        [] => false,
-        [_] => are_digits(text),
-        [first, ..] => *first != b'0' && are_digits(text),
-    }
-}
-
-fn are_digits(text: &[u8]) -> bool
-    ensures { result ≡ all_ascii_digits text.now }
-{
-    let mut left = text;
-    while let [first, rest @ ..] = left {
-        if !first.is_ascii_digit() {
-            return false;
-        }
-        left = rest;
-    }
-    true
 }
 
 // A number times a unit.

@@ -115,6 +115,18 @@ fn closed(alloc: Global, relation: Option<Relation>, draft: Draft) -> Result<Dra
     }
 }
 
+// The place of the parenthesis of a token, which stands behind the sign of a relation.
+fn parenthesis_at(place: usize, relation: Option<Relation>) -> usize
+    requires { place + 2 < 2 ^ 64 }
+    ensures { result ≡ spec.parenthesis_at place relation }
+{
+    match relation {
+        None => place,
+        Some(Relation::Thread) => place + 1,
+        Some(Relation::Parent | Relation::Child) => place + 2,
+    }
+}
+
 // The parentheses with a further one.
 fn with_opened(mut opened: Vec<Opened>, last: Opened) -> Result<Vec<Opened>, NoMemory>
     ensures { IfOk result (λ v. v.items ≡ opened.items ++ last ∷ []) }
@@ -146,6 +158,7 @@ impl State {
 
     #[tactic(auto, using(crate::proofs::StateLemmas::opened_last, crate::proofs::StateLemmas::opened_length))]
     fn open(self, place: usize, relation: Option<Relation>) -> Result<Self, ReadError>
+        requires { place + 2 < 2 ^ 64 }
         ensures value { Gives plain_state result
             (spec.step place (plain_state self) (Open relation)) }
         ensures nots { IfOk result (λ s. s.side.nots ≡ 0) }
@@ -155,7 +168,7 @@ impl State {
         }
         let State { side, opened } = self;
         let last = Opened {
-            place,
+            place: parenthesis_at(place, relation),
             relation,
             before: side,
         };
@@ -219,7 +232,8 @@ impl State {
 
     /// What was read behind a token that stands at a place.
     pub fn step(self, alloc: Global, place: usize, token: &Token<'_>) -> Result<Self, ReadError>
-        requires { self.side.nots + 1 < 2 ^ 64 }
+        requires place { place + 2 < 2 ^ 64 }
+        requires nots { self.side.nots + 1 < 2 ^ 64 }
         ensures value { Gives plain_state result
             (spec.step place (plain_state self) (plain_token token.now)) }
         ensures nots { IfOk result (λ s. s.side.nots ≤ self.side.nots + 1) }

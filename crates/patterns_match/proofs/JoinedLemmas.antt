@@ -7,11 +7,18 @@ use Rattle.std.proofs.lemmas.Bool.{le-leb}
 use Rattle.std.proofs.Math.Dec.{leb-suc-suc, leb-suc-zero}
 use Rattle.std.specs.List.{list_any, range_with_len}
 use Rattle.std.specs.Str.{bytes_eq, str_to_ascii_lowercase}
+use Rattle.bstr.specs.Text.{lines_from}
+use Rattle.headers.specs.FoldedField.{continued}
 use Rattle.memchr.specs.Find.{occurs_at}
 use Rattle.people.specs.Expr.{is_folded, literal_found, stands_in}
 use Rattle.patterns_match.specs.Joined.{are_equal, begins, case_of, holds}
 use Rattle.patterns_match.specs.declared.joined.Case.{Case}
 use Rattle.patterns_match.specs.declared.joined.Case.TheVariants.{Regarded, Folded}
+
+-- no line stands in nothing
+pub no_lines : continued [] ≡ []
+unfolding lines_from
+no_lines = refl
 
 and_swap : (a b c : Bool) → (a && (b && c)) ≡ (b && (a && c))
 and_swap true b c = refl

@@ -11,16 +11,19 @@ use Rattle.patterns_match.specs.declared.asked.Sought.TheVariants.{Plain, Expres
 use Rattle.patterns_match.specs.declared.letter.Field.{Field}
 use Rattle.patterns_match.specs.declared.operation.Operation.{Operation}
 
+-- a search, by what is searched for
 abbrev pub plain_search : Field → Sought → Leaf
 plain_search field (Plain text) = Searches field true text.items
 plain_search field (Expression expr) = Searches field false expr
 
+-- what a term asks, without the rooms of its texts
 abbrev pub plain_asked : Asked → Leaf
 plain_asked (held.Tells mark) = Tells mark
 plain_asked (held.Searches field sought) = plain_search field sought
 plain_asked (held.Dated day range) = Dated day (range_map epoch_day range)
 plain_asked (held.Counts number range) = Counts number range
 
+-- operations, each without such rooms
 abbrev pub asked_operations : List (Operation Asked) → List (Operation Leaf)
 asked_operations operations = map (operation_map plain_asked) operations
 

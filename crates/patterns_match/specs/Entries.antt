@@ -3,6 +3,7 @@ use Rattle.headers.specs.Header.{plain_header}
 use Rattle.patterns_match.specs.Listings.{Message}
 use Rattle.patterns_match.specs.declared.entry.Entry.{Entry}
 
+-- a message with what is lent of it
 abbrev pub plain_entry : Entry → Message
 plain_entry e = record {
   row = e.row.now;

@@ -36,6 +36,7 @@ asks_parts field.Whole = true
 asks_parts field.ContentType = true
 asks_parts _ = false
 
+-- it is counted in the parts of the message
 abbrev pub counts_parts : Number → Bool
 counts_parts number.Attachments = true
 counts_parts _ = false
@@ -59,6 +60,7 @@ mark_may_score mark.Duplicate = false
 mark_may_score mark.Childless = false
 mark_may_score _ = true
 
+-- the fields that a score may search
 abbrev pub field_may_score : Field → Bool
 field_may_score field.Body = false
 field_may_score field.Whole = false
@@ -66,10 +68,12 @@ field_may_score field.Header = false
 field_may_score field.ContentType = false
 field_may_score _ = true
 
+-- the numbers that a score may ask
 abbrev pub number_may_score : Number → Bool
 number_may_score number.Bytes = true
 number_may_score _ = false
 
+-- the terms that may stand in a score
 abbrev pub leaf_may_score : Leaf → Bool
 leaf_may_score (Tells mark) = mark_may_score mark
 leaf_may_score (Searches field plain text) = field_may_score field

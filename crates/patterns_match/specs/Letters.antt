@@ -21,6 +21,7 @@ pub record Row : Type 0 where
   pub sign : ℕ
   pub letter : Letter
 
+-- a line of the table
 abbrev pub row : ℕ → Letter → Row
 row sign letter = record { sign = sign; letter = letter }
 

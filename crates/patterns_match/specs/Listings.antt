@@ -5,8 +5,9 @@ use Rattle.std.specs.List.{flat_map, slice_range, starts_with}
 use Rattle.bstr.specs.Text.{lines_of, without_terminator}
 use Rattle.mail_base.specs.Lines.{PlainField, behind_line, message_fields}
 use Rattle.headers.specs.Header.{PlainHeader}
+use Rattle.headers.specs.Ids.{ids}
 use Rattle.headers.specs.Person.{PlainPerson}
-use Rattle.headers.specs.Values.{first_value}
+use Rattle.headers.specs.Values.{first_value, values}
 use Rattle.mime_tree.specs.Part.{PlainPart}
 use Rattle.mime_tree.specs.Parts.{parts_of}
 use Rattle.mime_tree.specs.Text.{decoded_lines}
@@ -28,6 +29,7 @@ pub record Message : Type 0 where
 abbrev pub person_text : PlainPerson → List ℕ
 person_text p = p.name ++ codes " <" ++ p.address ++ codes ">"
 
+-- the texts of persons
 abbrev pub person_texts : List PlainPerson → List (List ℕ)
 person_texts persons = map person_text persons
 
@@ -52,15 +54,26 @@ abbrev pub body_lines : List ℕ → ℕ → Option (List PlainPart) → List (L
 body_lines raw body_at None = map without_terminator (lines_of (behind_line (drop body_at raw)))
 body_lines raw body_at (Some parts) = flat_map (part_lines raw) parts
 
+-- the lines of the body of a message
 abbrev pub body_texts : Message → List (List ℕ)
 body_texts m = body_lines m.raw m.header.body_at (parts_of m.raw)
 
+-- the header lines of a message
 abbrev pub header_texts : Message → List (List ℕ)
 header_texts m = map field_text (message_fields m.raw)
 
 -- the parts of a message, where they do not nest too deep
 abbrev pub parts_in : Message → List PlainPart
 parts_in m = unwrap_or (parts_of m.raw) []
+
+-- the ids of all fields of the name
+abbrev pub ids_named : List ℕ → List PlainField → List (List ℕ)
+ids_named name fields = flat_map ids (values name fields)
+
+-- the ids of all References and In-Reply-To fields
+abbrev pub answered_ids : List PlainField → List (List ℕ)
+answered_ids fields =
+    ids_named (codes "references") fields ++ ids_named (codes "in-reply-to") fields
 
 -- where a letter searches: the texts, of which one has to have it
 abbrev pub texts_of : Field → Message → List (List ℕ)
@@ -76,6 +89,6 @@ texts_of field.Anyone m =
     person_texts (m.header.authors ++ m.header.senders ++ m.header.to ++ m.header.cc)
 texts_of field.Id m = all_of m.header.message_id
 texts_of field.Subject m = m.header.subject ∷ []
-texts_of field.References m = m.header.candidates
+texts_of field.References m = answered_ids (message_fields m.raw)
 texts_of field.Label m = all_of (first_value (codes "x-label") (message_fields m.raw))
 texts_of field.ContentType m = map (λ p. p.content) (parts_in m)

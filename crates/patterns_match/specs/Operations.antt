@@ -41,6 +41,7 @@ act operation.Either trees = on_two Or trees
 act operation.Group trees = on_last Group trees
 act (operation.Related relation) trees = on_last (Related relation) trees
 
+-- the trees behind operations
 abbrev pub trees_of : List (Operation Leaf) → List Tree → List Tree
 trees_of [] trees = trees
 trees_of (o ∷ operations) trees = trees_of operations (act o trees)

@@ -2,8 +2,9 @@
 use Rattle.std.specs.Prelude.{◌==◌, ◌&&◌, ◌||◌, ◌++◌, ℕ, ℤ, Bool, true, false, not, int_le, int_lt}
 use Rattle.std.specs.Prelude.{List, Option, Some, None, length, slice_get}
 use Rattle.std.specs.Ordering.{int_eq}
+use Rattle.std.specs.Option.{option_map_or}
 use Rattle.std.specs.List.{count_by, list_any, range_with_len}
-use Rattle.headers.specs.declared.sent_date.SentDate.{SentDate}
+use Rattle.mail_base.specs.Flags.{is_new, is_old}
 use Rattle.people.specs.Expr.{finds, literal_found}
 use Rattle.people.specs.People.{PlainPeople, any_in}
 use Rattle.people.specs.declared.people.PeopleTable.TheVariants.{Lists, Subscribed, Mine}
@@ -36,8 +37,8 @@ abbrev pub tells : PlainPeople → List Message → ℕ → Message → Mark →
 tells people listing place m mark.All = true
 tells people listing place m mark.Deleted = m.row.deleted
 tells people listing place m mark.Flagged = m.row.flags.flagged
-tells people listing place m mark.New = not m.row.flags.seen && not m.row.flags.aged
-tells people listing place m mark.Old = m.row.flags.aged && not m.row.flags.seen
+tells people listing place m mark.New = is_new m.row.flags
+tells people listing place m mark.Old = is_old m.row.flags
 tells people listing place m mark.Replied = m.row.flags.replied
 tells people listing place m mark.Read = m.row.flags.seen
 tells people listing place m mark.Tagged = m.row.tagged
@@ -65,13 +66,13 @@ holds_day (range.From low) x = int_le low x
 holds_day (range.Below n) x = int_lt x n
 holds_day (range.Above n) x = int_lt n x
 
-abbrev pub sent_within : Days → ℤ → Option SentDate → Bool
-sent_within days offset None = false
-sent_within days offset (Some date) = holds_day days (day_number date.seconds offset)
+-- a message without a date that can be read was sent when it was received
+abbrev pub sent_at : Message → ℤ
+sent_at m = option_map_or (λ date. date.seconds) m.header.sent m.row.received
 
 -- the dates, by an offset from UTC
 abbrev pub dated : ℤ → Message → Days → Day → Bool
-dated offset m days day.Sent = sent_within days offset m.header.sent
+dated offset m days day.Sent = holds_day days (day_number (sent_at m) offset)
 dated offset m days day.Received = holds_day days (day_number m.row.received offset)
 
 -- the numbers

@@ -21,6 +21,7 @@ pub record PlainEntry : Type 0 where
   pub value : ℤ
   pub last : Bool
 
+-- what a pattern scores
 abbrev pub plain_entry : Pattern → ℤ → Bool → PlainEntry
 plain_entry pattern value last = record {
   tree = pattern_tree pattern;
@@ -51,6 +52,7 @@ abbrev pub score : PlainPeople → List Message → List PlainEntry → ℕ → 
 score people listing entries place =
     not_negative (total (counts people listing place) (pos 0) entries)
 
+-- a value that an entry may have
 abbrev pub in_range : ℤ → Bool
 in_range value = int_le (neg_ℤ (pos 1_000_000)) value && int_le value (pos 1_000_000)
 

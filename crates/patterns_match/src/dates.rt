@@ -39,6 +39,16 @@ fn holds_day(days: Range<Date>, day: i128) -> bool
     }
 }
 
+// When a message was sent, in seconds since 1970: received, where its date cannot be read.
+fn sent_at(entry: &Entry<'_>) -> i64
+    ensures { result ≡ spec.sent_at (plain_entry entry.now) }
+{
+    match entry.header.sent {
+        Some(date) => date.seconds,
+        None => entry.row.received,
+    }
+}
+
 /// Whether a date of a message lies in the range, by an offset from UTC.
 pub fn is_dated(day: Day, days: Range<Date>, offset: i32, entry: &Entry<'_>) -> bool
     ensures { result
@@ -46,9 +56,6 @@ pub fn is_dated(day: Day, days: Range<Date>, offset: i32, entry: &Entry<'_>) -> 
 {
     match day {
         Day::Received => holds_day(days, day_number(entry.row.received, offset)),
-        Day::Sent => match entry.header.sent {
-            Some(date) => holds_day(days, day_number(date.seconds, offset)),
-            None => false,
-        },
+        Day::Sent => holds_day(days, day_number(sent_at(entry), offset)),
     }
 }

@@ -37,5 +37,5 @@ pub use relation::Relation;
 pub use row::Row;
 pub use score_entry::ScoreEntry;
 pub use score_error::ScoreError;
-pub use scores::Scores;
+pub use scores::{GREATEST_SCORE, MOST_SCORES, Scores};
 pub use table::Table;

@@ -16,11 +16,11 @@ use mail_base::NoMemory;
 use people::People;
 use std::alloc::Global;
 
-// How many entries there may be.
-const MOST_ENTRIES: usize = 4_096;
+/// How many entries there may be.
+pub const MOST_SCORES: usize = 4_096;
 
-// The greatest value of an entry.
-const GREATEST: i64 = 1_000_000;
+/// The greatest value of an entry; the least is its negative.
+pub const GREATEST_SCORE: u32 = 1_000_000;
 
 /// What messages score by the patterns that they satisfy.
 #[derive(Drop)]
@@ -86,10 +86,11 @@ impl Scores {
         if !may_score(&pattern) {
             return Err(ScoreError::NotHere);
         }
-        if value < -GREATEST || value > GREATEST {
+        let greatest = i64::from(GREATEST_SCORE);
+        if value < -greatest || value > greatest {
             return Err(ScoreError::OutOfRange);
         }
-        if self.entries.len() >= MOST_ENTRIES {
+        if self.entries.len() >= MOST_SCORES {
             return Err(ScoreError::TooMany);
         }
         push(&mut self.entries, pattern, value, last)?;

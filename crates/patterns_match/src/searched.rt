@@ -1,13 +1,15 @@
 //! What a pattern searches for, in the texts of a message.
 
-ghost use Rattle.std.specs.Prelude.{◌≡◌, ◌++◌, true, codes, map, option_map, IfOk, IsOk};
+ghost use Rattle.std.specs.Prelude.{◌≡◌, ◌++◌, ◌∷◌, [], true, codes, map, option_map, IfOk, IsOk};
 ghost use Rattle.std.specs.List.{list_any};
 ghost use Rattle.mail_base.specs.Lines.{message_fields};
 ghost use Rattle.headers.specs.FoldedField.{plain_folded};
+ghost use Rattle.headers.specs.Ids.{ids};
 ghost use Rattle.headers.specs.Person.{plain_person, plain_persons};
 ghost use Rattle.headers.specs.Values.{first_value};
 ghost use Rattle.patterns_match.specs.Asked.{plain_search};
 ghost use Rattle.patterns_match.specs.Entries.{plain_entry};
+ghost use Rattle.patterns_match.specs.Joined.{whole};
 ghost use Rattle.patterns_match.specs.Kept.{IsKept};
 ghost use Rattle.patterns_match.specs.Leaves as leaves;
 ghost use Rattle.patterns_match.specs.Listings as spec;
@@ -20,24 +22,8 @@ use crate::joined::Joined;
 use crate::kept::Kept;
 use crate::letter::Field;
 use headers::{FoldedField, Header, Person};
-use mail_base::{Bytes, NoMemory};
+use mail_base::{NoMemory, is_same_name};
 use std::alloc::Global;
-
-// Whether it is found in one of the texts.
-fn any_found(sought: &Sought, texts: &[Bytes]) -> Result<bool, NoMemory>
-    ensures value { IfOk result (λ found. found
-        ≡ list_any (sought_found sought.now) (map (λ t. t.items) texts.now)) }
-    ensures memory { is_sought_literal sought.now ≡ true → IsOk result }
-{
-    let mut left = texts;
-    while let [first, rest @ ..] = left {
-        if sought.is_found(first.as_slice())? {
-            return Ok(true);
-        }
-        left = rest;
-    }
-    Ok(false)
-}
 
 fn person_found(alloc: Global, sought: &Sought, person: &Person) -> Result<bool, NoMemory>
     ensures value { IfOk result (λ found. found
@@ -48,6 +34,7 @@ fn person_found(alloc: Global, sought: &Sought, person: &Person) -> Result<bool,
         first: person.name.as_slice(),
         rest: &[b" <", person.address.as_slice(), b">"],
         lines: &[],
+        last: None,
     };
     sought.is_found_in(alloc, text)
 }
@@ -89,6 +76,7 @@ fn line_found(alloc: Global, sought: &Sought, field: FoldedField<'_>) -> Result<
         first: field.name,
         rest: &[b": ", field.value],
         lines: field.lines,
+        last: None,
     };
     sought.is_found_in(alloc, text)
 }
@@ -118,12 +106,68 @@ fn label_found(alloc: Global, sought: &Sought, raw: &[u8]) -> Result<bool, NoMem
     let Some(field) = FoldedField::named(raw, b"x-label") else {
         return Ok(false);
     };
-    let text = Joined {
-        first: field.value,
-        rest: &[],
-        lines: field.lines,
-    };
-    sought.is_found_in(alloc, text)
+    sought.is_found_in(alloc, Joined::of(field))
+}
+
+// Whether it is found in one of the message ids of a text.
+fn any_id(alloc: Global, sought: &Sought, text: Joined<'_>) -> Result<bool, NoMemory>
+    ensures value { IfOk result
+        (λ found. found ≡ list_any (sought_found sought.now) (ids (whole text.entry))) }
+    ensures memory { is_sought_literal sought.now ≡ true → IsOk result }
+{
+    let mut left = text;
+    while let Some((id, rest)) = left.next_id() {
+        if sought.is_found_in(alloc, id)? {
+            return Ok(true);
+        }
+        left = rest;
+    }
+    Ok(false)
+}
+
+// Whether it is found in one of the message ids of a field, if that has the name.
+fn id_in_field(
+    alloc: Global,
+    sought: &Sought,
+    name: &[u8],
+    field: FoldedField<'_>,
+) -> Result<bool, NoMemory>
+    ensures value { IfOk result (λ found. found ≡ list_any (sought_found sought.now)
+        (spec.ids_named name.now (plain_folded field.entry ∷ []))) }
+    ensures memory { is_sought_literal sought.now ≡ true → IsOk result }
+{
+    if !is_same_name(field.name, name) {
+        return Ok(false);
+    }
+    any_id(alloc, sought, Joined::of(field))
+}
+
+// Whether it is found in one of the message ids of the fields of the name.
+fn id_in_fields(alloc: Global, sought: &Sought, name: &[u8], raw: &[u8]) -> Result<bool, NoMemory>
+    ensures value { IfOk result (λ found. found ≡ list_any (sought_found sought.now)
+        (spec.ids_named name.now (message_fields raw.now))) }
+    ensures memory { is_sought_literal sought.now ≡ true → IsOk result }
+{
+    let mut left = raw;
+    while let Some((field, rest)) = FoldedField::next(left) {
+        if id_in_field(alloc, sought, name, field)? {
+            return Ok(true);
+        }
+        left = rest;
+    }
+    Ok(false)
+}
+
+// Whether it is found in one of the ids to which a message refers.
+fn reference_found(alloc: Global, sought: &Sought, raw: &[u8]) -> Result<bool, NoMemory>
+    ensures value { IfOk result (λ found. found ≡ list_any (sought_found sought.now)
+        (spec.answered_ids (message_fields raw.now))) }
+    ensures memory { is_sought_literal sought.now ≡ true → IsOk result }
+{
+    if id_in_fields(alloc, sought, b"references", raw)? {
+        return Ok(true);
+    }
+    id_in_fields(alloc, sought, b"in-reply-to", raw)
 }
 
 // Whether it is found in one of the persons of either list.
@@ -202,7 +246,7 @@ pub fn is_searched(
         Field::Anyone => anyone_found(alloc, sought, header),
         Field::Id => id_found(sought, header),
         Field::Subject => sought.is_found(header.subject.as_slice()),
-        Field::References => any_found(sought, header.candidates.as_slice()),
+        Field::References => reference_found(alloc, sought, entry.raw),
         Field::Label => label_found(alloc, sought, entry.raw),
         Field::ContentType => kind_found(kept, sought, entry.raw),
     }

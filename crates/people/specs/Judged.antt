@@ -20,6 +20,7 @@ pub record PlainJudged : Type 0 where
   pub before : ℕ
   pub after : ℕ
 
+-- a text that was judged, without the room of its text
 abbrev pub plain_judged : Judged → PlainJudged
 plain_judged j = record {
   text = j.text.items;
@@ -56,6 +57,7 @@ with_verdict list text (Some verdict) before after =
     if is_some (verdict_on list text) then list
     else list ++ record { text = text; verdict = verdict; before = before; after = after } ∷ []
 
+-- a verdict that is there, and is not good
 abbrev pub is_refused : Option Verdict → Bool
 is_refused None = false
 is_refused (Some Good) = false

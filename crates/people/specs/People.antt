@@ -17,6 +17,7 @@ pub record Alias : Type 0 where
   pub name : List ℕ
   pub value : List ℕ
 
+-- the alias of a name
 abbrev pub alias : List ℕ → List ℕ → Alias
 alias name value = record { name = name; value = value }
 
@@ -27,6 +28,7 @@ pub record PlainPeople : Type 0 where
   pub mine : List (List ℕ)
   pub aliases : List Alias
 
+-- empty tables, and no alias
 abbrev pub no_people : PlainPeople
 no_people = record { lists = []; subscribed = []; mine = []; aliases = [] }
 
@@ -92,5 +94,6 @@ to_char people header =
 
 -- For the code alone.
 
+-- an entry of the map of aliases
 abbrev pub plain_alias : Vec ℕ Global × Held ℕ → Alias
 plain_alias e = alias e.0.items e.1.items

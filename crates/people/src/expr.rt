@@ -42,13 +42,10 @@ impl Expr {
     {
         let mut line = Line::new(alloc);
         append_utf8(&mut line, text)?;
-        let Ok(shown) = str::from_utf8(line.as_slice()) else {
-            unreachable!()
-        };
         let pattern = if is_literal(line.as_slice()) {
             None
         } else {
-            Some(verdicts.judge(alloc, shown)?)
+            Some(verdicts.judge(alloc, line.as_str())?)
         };
         Ok(Expr {
             alloc,
@@ -110,8 +107,5 @@ fn pattern_found_in(alloc: Global, regex: &Regex, text: &[u8]) -> Result<bool, N
 {
     let mut line = Line::new(alloc);
     append_utf8(&mut line, text)?;
-    let Ok(shown) = str::from_utf8(line.as_slice()) else {
-        unreachable!()
-    };
-    pattern_found(alloc, regex, shown)
+    pattern_found(alloc, regex, line.as_str())
 }

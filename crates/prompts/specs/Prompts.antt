@@ -17,6 +17,7 @@ pub record PlainPrompt : Type 0 where
   pub asking : Asking
   pub typed : List ℕ
 
+-- what a prompt asks (Mutt's manual, "Functions")
 abbrev pub asking_text : Asking → List ℕ
 asking_text Delete = codes "Delete messages matching: "
 asking_text Undelete = codes "Undelete messages matching: "
@@ -38,9 +39,11 @@ choices SetFlag = codes "DNOr*!"
 choices ClearFlag = codes "DNOr*!"
 choices _ = []
 
+-- one key answers the prompt
 abbrev pub is_of_one_key : Asking → Bool
 is_of_one_key asking = not (length (choices asking) == 0)
 
+-- a key is an answer to the prompt
 abbrev pub has_choice : Asking → ℕ → Bool
 has_choice asking c = list_any (λ choice. nat_eq choice c) (choices asking)
 
@@ -49,6 +52,7 @@ abbrev pub reply_to_enter : Bool → Reply
 reply_to_enter true = GivenUp
 reply_to_enter false = Answered
 
+-- what a character says to a prompt
 abbrev pub reply_to_char : Asking → ℕ → Reply
 reply_to_char asking c =
     if c == 7 then GivenUp
@@ -74,6 +78,7 @@ typed_with_char p c =
     if is_no_text p.asking c then p.typed
     else (if c == 127 then shortened p.typed else p.typed ++ c ∷ [])
 
+-- what is typed behind a key
 abbrev pub typed_with : PlainPrompt → Key → List ℕ
 typed_with p (Char c) = typed_with_char p c
 typed_with p _ = p.typed

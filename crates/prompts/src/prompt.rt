@@ -1,6 +1,6 @@
 //! What is typed at prompts.
 
-ghost use Rattle.std.specs.Prelude.{◌≡◌, ◌++◌, encode_utf8, OnOk};
+ghost use Rattle.std.specs.Prelude.{◌≡◌, ◌++◌, OnOk};
 ghost use Rattle.std.specs.Str.{encode_utf8_all};
 
 use crate::asking::{Asking, BACKSPACE, ENTER, GIVE_UP};
@@ -25,19 +25,12 @@ impl Model for Prompt {
     ghost view = { λ p. record { asking = p.asking; typed = p.typed.items } };
 }
 
-fn push_char(line: &mut Line, c: char) -> Result<(), NoMemory>
-    ensures { OnOk result (line.new.items ≡ line.old.items ++ encode_utf8 c) }
-{
-    let mut buffer = [0; 4];
-    line.append(c.encode_utf8(&mut buffer))
-}
-
 fn append_chars(line: &mut Line, chars: &[char]) -> Result<(), NoMemory>
     ensures { OnOk result (line.new.items ≡ line.old.items ++ encode_utf8_all chars.now) }
 {
     let mut left = chars;
     while let [first, rest @ ..] = left {
-        push_char(line, *first)?;
+        line.push_char(*first)?;
         left = rest;
     }
     Ok(())

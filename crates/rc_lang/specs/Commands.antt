@@ -27,6 +27,7 @@ pub record Row : Type 0 where
   pub least : ℕ
   pub most : Option ℕ
 
+-- a row of the table of commands
 abbrev pub row : List ℕ → Command → ℕ → Option ℕ → Row
 row name command least most = record { name = name; command = command; least = least; most = most }
 
@@ -68,6 +69,7 @@ rows =
     ∷ row (codes "reply-hook") Idle 0 None
     ∷ []
 
+-- a row of the code's table as contracts see it
 abbrev pub plain_row : CommandRow → Row
 plain_row r = record { name = r.0.now; command = r.1; least = r.2; most = r.3 }
 
@@ -95,6 +97,7 @@ written_word word = flat_map written_piece word
 abbrev pub is_negation : List PlainPiece → Bool
 is_negation word = bytes_eq (written_word word) (codes "!")
 
+-- the first word is an exclamation mark
 abbrev pub begins_negated : List (List PlainPiece) → Bool
 begins_negated [] = false
 begins_negated (word ∷ words) = is_negation word
@@ -109,6 +112,7 @@ abbrev pub extra_word : Option ℕ → List (List PlainPiece) → Option (List P
 extra_word None words = None
 extra_word (Some most) words = slice_get words most
 
+-- the command, where no word is too many
 abbrev pub without_extra : Command → Option (List PlainPiece) → Result Command Fault
 without_extra command None = Ok command
 without_extra command (Some word) = Err (fault_of ExtraWord (written_word word))
@@ -119,10 +123,12 @@ command_if_right r words =
     if nat_lt (length words) r.least then Err (fault_of MissingWord [])
     else without_extra r.command (extra_word r.most words)
 
+-- the command of a row, or its first fault in the words
 abbrev pub judged_row : List ℕ → Option Row → List (List PlainPiece) → Result Command Fault
 judged_row name None words = Err (fault_of UnknownCommand name)
 judged_row name (Some r) words = command_if_right r (counted_words r.command words)
 
+-- the command of a name that was expanded
 abbrev pub command_named : Result (List ℕ) Fault → List (List PlainPiece) → Result Command Fault
 command_named (Ok name) words = judged_row name (row_of name) words
 command_named (Err fault) words = Err fault

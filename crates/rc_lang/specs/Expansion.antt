@@ -5,6 +5,7 @@ use Rattle.rc_lang.specs.Settings.{queried_value}
 use Rattle.rc_lang.specs.Values.{PlainValue, value_text}
 use Rattle.rc_lang_words.specs.Words.{PlainPiece, Text, Variable}
 
+-- the text of a value
 abbrev pub text_given : Result PlainValue Fault → Result (List ℕ) Fault
 text_given (Ok value) = Ok (value_text value)
 text_given (Err fault) = Err fault
@@ -25,6 +26,7 @@ abbrev pub before_rest : {A : Type 0} → Result (List A) Fault → Result (List
 before_rest (Ok front) rest = before_all front rest
 before_rest (Err fault) rest = Err fault
 
+-- a list of one word
 abbrev pub one_word : Result (List ℕ) Fault → Result (List (List ℕ)) Fault
 one_word (Ok word) = Ok (word ∷ [])
 one_word (Err fault) = Err fault

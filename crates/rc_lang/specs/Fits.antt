@@ -25,18 +25,22 @@ all_fit (r ∷ rows) (value ∷ values) = fits r.kind value && all_fit rows valu
 all_fit [] (value ∷ values) = false
 all_fit (r ∷ rows) [] = false
 
+-- a variable is a boolean
 abbrev pub is_flag : PlainKind → Bool
 is_flag (kind.Flag default) = true
 is_flag _ = false
 
+-- a variable is one of four ways
 abbrev pub is_quad : PlainKind → Bool
 is_quad (kind.Quad default) = true
 is_quad _ = false
 
+-- a variable is a number
 abbrev pub is_number : PlainKind → Bool
 is_number (kind.Number default most) = true
 is_number _ = false
 
+-- a variable is a text
 abbrev pub is_text : PlainKind → Bool
 is_text (kind.Text rule default) = true
 is_text _ = false

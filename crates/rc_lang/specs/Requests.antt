@@ -9,6 +9,7 @@ use Rattle.rc_lang.specs.declared.request.Change.{Change}
 use Rattle.rc_lang.specs.declared.request.Change.TheVariants as change
 use Rattle.rc_lang.specs.declared.request.Request.{Request}
 
+-- the command that changes variables with a name
 abbrev pub set_command_of : List ℕ → Option SetCommand
 set_command_of word =
     if bytes_eq word (codes "set") then Some command.Set
@@ -29,6 +30,7 @@ pub record PlainRequest : Type 0 where
   pub name : List ℕ
   pub change : Option PlainChange
 
+-- a change as contracts see it
 abbrev pub plain_change : Change → PlainChange
 plain_change change.Set = Set
 plain_change change.Unset = Unset
@@ -36,9 +38,11 @@ plain_change change.Toggle = Toggle
 plain_change change.Reset = Reset
 plain_change (change.Assign text) = Assign text.now
 
+-- a request as contracts see it
 abbrev pub plain_request : Request → PlainRequest
 plain_request r = record { name = r.name.now; change = option_map plain_change r.change }
 
+-- a request to change a variable
 abbrev pub request : List ℕ → PlainChange → PlainRequest
 request name change = record { name = name; change = Some change }
 
@@ -55,6 +59,7 @@ prefix_request word =
 abbrev pub equals_at : List ℕ → Option ℕ
 equals_at word = position (λ b. b == 61) word
 
+-- the request of a word with an equals sign at a place, if any
 abbrev pub assigned_at : List ℕ → Option ℕ → PlainRequest
 assigned_at word None = prefix_request word
 assigned_at word (Some at) = request (take at word) (Assign (drop (at + 1) word))
@@ -63,12 +68,14 @@ assigned_at word (Some at) = request (take at word) (Assign (drop (at + 1) word)
 abbrev pub set_request : List ℕ → PlainRequest
 set_request word = assigned_at word (equals_at word)
 
+-- what a word asks of a command
 abbrev pub request_of : SetCommand → List ℕ → PlainRequest
 request_of command.Set word = set_request word
 request_of command.Unset word = request word Unset
 request_of command.Toggle word = request word Toggle
 request_of command.Reset word = request word Reset
 
+-- what stands before the equals sign
 abbrev pub before_value : List ℕ → Option ℕ → List ℕ
 before_value word None = word
 before_value word (Some at) = take at word

@@ -1,9 +1,10 @@
 -- Which texts a variable takes.
 use Rattle.std.specs.Prelude.{◌≡◌, ◌⊎◌, Result, Ok, Err, false}
 use Rattle.std.specs.Prelude.{ℕ, Bool, true, ◌&&◌, ◌||◌, ◌==◌, nat_eq, nat_lt, List, codes, drop}
-use Rattle.std.specs.Prelude.{is_ok, length, if◌then◌else◌}
+use Rattle.std.specs.Prelude.{is_ok, is_some, length, if◌then◌else◌}
 use Rattle.std.specs.List.{list_all, starts_with}
 use Rattle.std.specs.Str.{bytes_eq}
+use Rattle.mail_base.specs.Kind.{kind_named}
 use Rattle.expando.specs.Formats.{format_of}
 use Rattle.rc_lang.specs.declared.rule.Rule.{Rule}
 use Rattle.rc_lang.specs.declared.rule.Rule.TheVariants.{Any, FolderKind, SixAscii, Sort, SortAux}
@@ -11,6 +12,7 @@ use Rattle.rc_lang.specs.declared.rule.Rule.TheVariants.{RowFormat, StatusFormat
 use Rattle.rc_lang_words.specs.declared.fault.RcFault.{RcFault}
 use Rattle.rc_lang_words.specs.declared.fault.RcFault.TheVariants.{BadFormat, BadValue, NoMemory}
 
+-- a byte is ASCII
 abbrev pub is_ascii_byte : ℕ → Bool
 is_ascii_byte b = nat_lt b 128
 
@@ -18,11 +20,9 @@ is_ascii_byte b = nat_lt b 128
 abbrev pub behind_front : List ℕ → List ℕ → List ℕ
 behind_front front text = if starts_with nat_eq text front then drop (length front) text else text
 
--- the kinds of folders by their names
+-- the name of a kind of folders
 abbrev pub is_folder_kind : List ℕ → Bool
-is_folder_kind text =
-    bytes_eq text (codes "mbox") || bytes_eq text (codes "Maildir") || bytes_eq text (codes "MH")
-    || bytes_eq text (codes "MMDF")
+is_folder_kind text = is_some (kind_named text)
 
 -- the orders of messages; `date` is another name of `date-sent`
 abbrev pub is_order : List ℕ → Bool
@@ -37,6 +37,7 @@ is_order text =
 abbrev pub row_letters : List ℕ
 row_letters = codes "CmZS{[anFLtiscNly"
 
+-- the letters of the status line
 abbrev pub status_letters : List ℕ
 status_letters = codes "frmMnoudFtVsSP"
 
@@ -44,6 +45,7 @@ status_letters = codes "frmMnoudFtVsSP"
 abbrev pub is_format : List ℕ → List ℕ → Bool
 is_format letters text = is_ok (format_of letters text)
 
+-- a rule takes a text
 abbrev pub allows : Rule → List ℕ → Bool
 allows Any text = true
 allows FolderKind text = is_folder_kind text

@@ -28,6 +28,7 @@ pub record Changed : Type 0 where
   pub values : List PlainValue
   pub shown : Option (List ℕ)
 
+-- the values with one of them changed
 abbrev pub with_value : List PlainValue → ℕ → Result PlainValue RcFault → Result Changed RcFault
 with_value values n (Ok value) = Ok (record { values = slice_set values n value; shown = None })
 with_value values n (Err fault) = Err fault
@@ -47,6 +48,7 @@ changed_found values n change (Some row) (Some value) = changed_row values n row
 changed_found values n change (Some row) None = Err UnknownVariable
 changed_found values n change None value = Err UnknownVariable
 
+-- what a change makes of the variable at a place, if there is one
 abbrev pub changed_at : List PlainValue → Option PlainChange → Option ℕ → Result Changed RcFault
 changed_at values change None = Err UnknownVariable
 changed_at values change (Some n) = changed_found values n change (named_at n) (slice_get values n)
@@ -60,6 +62,7 @@ pub record Outcome : Type 0 where
   pub values : List PlainValue
   pub answer : Result (Option (List ℕ)) Fault
 
+-- a fault with its word
 abbrev pub fault_of : RcFault → List ℕ → Fault
 fault_of fault word = record { fault = fault; word = word }
 
@@ -82,6 +85,7 @@ run_words command values shown (word ∷ words) =
     go_on values shown word (answer_of values (request_of command word))
     (λ v s. run_words command v s words)
 
+-- what a command makes of the values
 abbrev pub run_command : List PlainValue → List ℕ → List (List ℕ) → Option SetCommand → Outcome
 run_command values first words None =
     record { values = values; answer = Err (fault_of UnknownCommand first) }
@@ -153,6 +157,7 @@ IsRun command old new (Err e) words =
     × ((run_words command old None words ≡ record { values = new; answer = Err (plain_error e) })
     ⊎ (plain_error e ≡ no_memory))
 
+-- the value at a place, if there is one
 abbrev pub value_at : List PlainValue → Option ℕ → Option PlainValue
 value_at values None = None
 value_at values (Some n) = slice_get values n

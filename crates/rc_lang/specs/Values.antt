@@ -7,6 +7,7 @@ use Rattle.rc_lang.specs.declared.value.Value.TheVariants as value
 use Rattle.rc_lang.specs.Quads.{quad_text}
 use Rattle.mail_base.specs.Shown.{utf8_text}
 
+-- the value of a variable
 pub data PlainValue : Type 0 where
   Flag : Bool → PlainValue
   Number : ℤ → PlainValue

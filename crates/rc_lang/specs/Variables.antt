@@ -46,15 +46,19 @@ pub record TableRow : Type 0 where
   pub name : List ℕ
   pub kind : PlainKind
 
+-- a row of the table of variables
 abbrev pub row : ℕ → List ℕ → PlainKind → TableRow
 row place name kind = record { place = place; name = name; kind = kind }
 
+-- the default of the variable `index_format`
 abbrev pub index_format : List ℕ
 index_format = codes "%4C %Z %{%b %d} %-15.15L (%?l?%4l&%4c?) %s"
 
+-- the default of the variable `pager_format`
 abbrev pub pager_format : List ℕ
 pager_format = codes "-%Z- %C/%m: %-20.20n   %s"
 
+-- the default of the variable `status_format`
 abbrev pub status_format : List ℕ
 status_format =
     codes "-%r-Mutt: %f [Msgs:%?M?%M/?%m%?n? New:%n?%?o? Old:%o?"
@@ -120,6 +124,7 @@ variables =
     Beep ∷
     ArrowCursor ∷ Help ∷ Markers ∷ Confirmappend ∷ WaitKey ∷ Move ∷ []
 
+-- the table of variables
 abbrev pub rows : List TableRow
 rows = map row_of variables
 
@@ -131,6 +136,7 @@ place_of name = position (λ r. bytes_eq r.name name) rows
 abbrev pub is_variable : List ℕ → Bool
 is_variable name = is_some (place_of name)
 
+-- a row without its place
 abbrev pub without_place : TableRow → Named
 without_place r = record { name = r.name; kind = r.kind }
 
@@ -138,11 +144,13 @@ without_place r = record { name = r.name; kind = r.kind }
 abbrev pub named_at : ℕ → Option Named
 named_at n = option_map without_place (slice_get rows n)
 
+-- the kind of a variable as contracts see it
 abbrev pub plain_kind : Kind → PlainKind
 plain_kind (kind.Flag b) = Flag b
 plain_kind (kind.Number value most) = Number value most
 plain_kind (kind.Quad q) = Quad q
 plain_kind (kind.Text rule text) = Text rule text.now
 
+-- a row of the code's table as contracts see it
 abbrev pub plain_row : Row → Named
 plain_row r = record { name = r.0.now; kind = plain_kind r.1 }

@@ -5,7 +5,7 @@ ghost use Rattle.std.specs.List.{list_all};
 ghost use Rattle.rc_lang.specs.Rules as spec;
 
 use expando::{FormatError, read_format};
-use mail_base::NoMemory;
+use mail_base::{Kind, NoMemory};
 use rc_lang_words::RcFault;
 use std::alloc::Global;
 
@@ -98,10 +98,7 @@ fn behind_front<'a>(front: &[u8], text: &'a [u8]) -> &'a [u8]
 fn is_folder_kind(text: &[u8]) -> bool
     ensures { result ≡ spec.is_folder_kind text.now }
 {
-    text == b"mbox".as_slice()
-        || text == b"Maildir".as_slice()
-        || text == b"MH".as_slice()
-        || text == b"MMDF".as_slice()
+    Kind::named(text).is_some()
 }
 
 fn is_order(text: &[u8]) -> bool

@@ -16,6 +16,7 @@ pub record Fault : Type 0 where
   pub fault : RcFault
   pub word : List ℕ
 
+-- a fault with its word as contracts see it
 abbrev pub plain_error : RcError → Fault
 plain_error e = record { fault = e.fault; word = e.word.items }
 

@@ -12,6 +12,7 @@ use Rattle.rc_lang_words.specs.declared.state.Quoting.TheVariants as quoting
 use Rattle.rc_lang_words.specs.declared.state.Escape.{Escape}
 use Rattle.rc_lang_words.specs.declared.state.Escape.TheVariants.{Absent, Backslash, Control}
 
+-- where in a muttrc a byte stands
 abbrev pub state : ℕ → Quoting → Escape → State
 state line quoting escape = record { line = line; quoting = quoting; escape = escape }
 
@@ -60,6 +61,7 @@ escaped_byte b =
     if b == 110 then 10
     else (if b == 114 then 13 else (if b == 116 then 9 else (if b == 101 then 27 else b)))
 
+-- a byte stands in a comment
 abbrev pub is_comment : Quoting → Bool
 is_comment quoting.Comment = true
 is_comment _ = false
@@ -80,12 +82,14 @@ has_control b = nat_lt b 128 && not (b == 10)
 abbrev pub control_of : ℕ → ℕ
 control_of b = (to_ascii_uppercase b + 64) % 128
 
+-- what a byte is that is not escaped, and where the next one stands
 abbrev pub unescaped_step : ℕ → Quoting → ℕ → Option Role × State
 unescaped_step line quoting.Plain b = plain_step line b
 unescaped_step line quoting.Single b = single_step line b
 unescaped_step line quoting.Double b = double_step line b
 unescaped_step line quoting.Comment b = comment_step line b
 
+-- what a byte is behind an escape, and where the next one stands
 abbrev pub step_behind : ℕ → Quoting → Escape → ℕ → Option Role × State
 step_behind line q Absent b = unescaped_step line q b
 step_behind line q Backslash b = backslash_step line q b
@@ -109,19 +113,23 @@ last_letter Absent = None
 last_letter Backslash = None
 last_letter (Control letter) = Some letter
 
+-- a byte stands in quotes
 abbrev pub is_quoted : Quoting → Bool
 is_quoted quoting.Plain = false
 is_quoted quoting.Single = true
 is_quoted quoting.Double = true
 is_quoted quoting.Comment = false
 
+-- a sign on a line
 abbrev pub sign : ℕ → Role → Sign
 sign line role = record { line = line; role = role }
 
+-- the sign of a byte that is one
 abbrev pub role_sign : ℕ → Option Role → List Sign
 role_sign line None = []
 role_sign line (Some role) = sign line role ∷ []
 
+-- the sign of a byte that stands for itself
 abbrev pub literal_sign : ℕ → Option ℕ → List Sign
 literal_sign line None = []
 literal_sign line (Some b) = sign line (Literal b) ∷ []
@@ -145,6 +153,7 @@ signs_from s (b ∷ rest) = byte_signs s b ++ signs_from (step s b).1 rest
 abbrev pub signs_of : List ℕ → List Sign
 signs_of text = signs_from (state 1 quoting.Plain Absent) text
 
+-- a sign is a blank between words
 abbrev pub is_blank : Sign → Bool
 is_blank s = elim s.role [ Blank ↦ true | _ ↦ false ]
 
@@ -152,6 +161,7 @@ is_blank s = elim s.role [ Blank ↦ true | _ ↦ false ]
 abbrev pub is_end : Sign → Bool
 is_end s = elim s.role [ CommandEnd ↦ true | OpenQuote ↦ true | _ ↦ false ]
 
+-- a sign is a quote that is not closed
 abbrev pub is_open_quote : Sign → Bool
 is_open_quote s = elim s.role [ OpenQuote ↦ true | _ ↦ false ]
 

@@ -28,12 +28,15 @@ abbrev pub plain_piece : RcPiece → PlainPiece
 plain_piece (piece.Text t) = Text t.items
 plain_piece (piece.Variable name) = Variable name.items
 
+-- the pieces of a word as contracts see them
 abbrev pub plain_pieces : Held RcPiece → List PlainPiece
 plain_pieces pieces = map plain_piece pieces.items
 
+-- a word as contracts see it
 abbrev pub plain_word : RcWord → List PlainPiece
 plain_word w = plain_pieces w.pieces
 
+-- words as contracts see them
 abbrev pub plain_words : Held RcWord → List (List PlainPiece)
 plain_words words = map plain_word words.items
 
@@ -50,9 +53,11 @@ pub record Found : Type 0 where
   pub name : List ℕ
   pub size : ℕ
 
+-- a found name as contracts see it
 abbrev pub found_view : FoundName → Found
 found_view f = record { name = text_of f.name.now; size = f.size }
 
+-- signs begin with a byte that is not escaped
 abbrev pub begins_active : ℕ → List Sign → Bool
 begins_active byte [] = false
 begins_active byte (s ∷ rest) = is_active byte s
@@ -67,6 +72,7 @@ braced_name signs n =
     if nat_lt 0 n && begins_active 125 (drop n signs) then Some (found_name signs n
     (n + 2)) else None
 
+-- a name without braces, of so many signs
 abbrev pub bare_name : List Sign → ℕ → Option Found
 bare_name signs n = if nat_lt 0 n then Some (found_name signs n n) else None
 
@@ -166,6 +172,7 @@ pub record PlainLine : Type 0 where
   pub words : List (List PlainPiece)
   pub fault : Option RcFault
 
+-- the line of the first sign
 abbrev pub first_line : List Sign → ℕ
 first_line [] = 1
 first_line (s ∷ word) = s.line
@@ -191,5 +198,6 @@ lines_of text = filter_map command_line (commands_from [] (signs_of (utf8_text t
 abbrev pub plain_line : RcLine → PlainLine
 plain_line l = record { line = l.line; words = plain_words l.words; fault = l.fault }
 
+-- commands as contracts see them
 abbrev pub plain_lines : Held RcLine → List PlainLine
 plain_lines lines = map plain_line lines.items

@@ -1,8 +1,8 @@
 //! Cases of address lists (RFC 5322, section 3.4).
 
 use case_files::{Answer, Case, CaseFault, Subject};
-use headers::{Persons, read_people};
-use mail_base::Bytes;
+use headers::{Person, Persons, read_people};
+use mail_base::{Bytes, NoMemory};
 use std::alloc::Global;
 
 /// `value` is an unfolded value; each `person` is `NAME <ADDRESS>`, with a blank first where there
@@ -14,12 +14,10 @@ impl Subject for People {
         &[b"value"]
     }
 
-    fn answer(&self, alloc: Global, case: &Case) -> Result<Answer, CaseFault> {
-        let mut answer = Answer::new(alloc);
+    fn answer(&self, alloc: Global, case: &Case, answer: &mut Answer) -> Result<(), CaseFault> {
         let persons = read_people(alloc, case.need(b"value")?)?;
         answer.put_count(b"persons", persons.len())?;
-        put_persons(alloc, &mut answer, b"person", &persons)?;
-        Ok(answer)
+        put_persons(alloc, answer, b"person", &persons)
     }
 }
 
@@ -31,11 +29,16 @@ pub fn put_persons(
     persons: &Persons,
 ) -> Result<(), CaseFault> {
     for person in persons.as_slice() {
-        let mut shown = Bytes::copy_of(alloc, person.name.as_slice())?;
-        shown.append(b" <")?;
-        shown.append(person.address.as_slice())?;
-        shown.append(b">")?;
+        let mut shown = Bytes::new(alloc);
+        append_person(&mut shown, person)?;
         answer.put(key, shown.as_slice())?;
     }
     Ok(())
+}
+
+fn append_person(shown: &mut Bytes, person: &Person) -> Result<(), NoMemory> {
+    shown.append(person.name.as_slice())?;
+    shown.append(b" <")?;
+    shown.append(person.address.as_slice())?;
+    shown.append(b">")
 }

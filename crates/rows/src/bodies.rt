@@ -3,7 +3,7 @@
 ghost use Rattle.std.specs.Prelude.{◌≤◌, length};
 
 use case_files::{Answer, Case, CaseFault, Subject};
-use mail_base::Bytes;
+use mail_base::{Bytes, Line, NoMemory};
 use mime_tree::{MimeError, Part, decoded_text, read_parts};
 use std::alloc::Global;
 
@@ -16,8 +16,7 @@ impl Subject for Bodies {
         &[b"message"]
     }
 
-    fn answer(&self, alloc: Global, case: &Case) -> Result<Answer, CaseFault> {
-        let mut answer = Answer::new(alloc);
+    fn answer(&self, alloc: Global, case: &Case, answer: &mut Answer) -> Result<(), CaseFault> {
         let raw = case.need(b"message")?;
         let parts = match read_parts(alloc, raw) {
             Ok(parts) => parts,
@@ -25,9 +24,9 @@ impl Subject for Bodies {
             Err(MimeError::NoMemory) => return Err(CaseFault::NoMemory),
         };
         for part in parts.as_slice() {
-            put_text(alloc, &mut answer, b"lines", raw, part)?;
+            put_text(alloc, answer, b"lines", raw, part)?;
         }
-        Ok(answer)
+        Ok(())
     }
 }
 
@@ -42,10 +41,16 @@ pub fn put_text(
     requires order { part.now.body_at ≤ part.now.body_end }
     requires within { part.now.body_end ≤ length raw.now }
 {
+    let lines = decoded_text(alloc, raw, part)?;
     let mut text = Bytes::new(alloc);
-    for line in decoded_text(alloc, raw, part)?.as_slice() {
+    append_lines(&mut text, lines.as_slice())?;
+    answer.put(key, text.as_slice())
+}
+
+fn append_lines(text: &mut Bytes, lines: &[Line]) -> Result<(), NoMemory> {
+    for line in lines {
         text.append(line.as_slice())?;
         text.push(b'\n')?;
     }
-    answer.put(key, text.as_slice())
+    Ok(())
 }

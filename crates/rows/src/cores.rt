@@ -13,11 +13,9 @@ impl Subject for Cores {
         &[b"region"]
     }
 
-    fn answer(&self, alloc: Global, case: &Case) -> Result<Answer, CaseFault> {
-        let mut answer = Answer::new(alloc);
+    fn answer(&self, alloc: Global, case: &Case, answer: &mut Answer) -> Result<(), CaseFault> {
         let region = case.need(b"region")?;
         answer.put(b"core", core_of(alloc, region)?.as_slice())?;
-        answer.put(b"first line", first_line(region))?;
-        Ok(answer)
+        answer.put(b"first line", first_line(region))
     }
 }

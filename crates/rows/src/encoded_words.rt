@@ -12,10 +12,8 @@ impl Subject for EncodedWords {
         &[b"value"]
     }
 
-    fn answer(&self, alloc: Global, case: &Case) -> Result<Answer, CaseFault> {
-        let mut answer = Answer::new(alloc);
+    fn answer(&self, alloc: Global, case: &Case, answer: &mut Answer) -> Result<(), CaseFault> {
         let line = decode_words(alloc, case.need(b"value")?)?;
-        answer.put(b"text", line.as_slice())?;
-        Ok(answer)
+        answer.put(b"text", line.as_slice())
     }
 }

@@ -12,17 +12,16 @@ impl Subject for FlagChanges {
         &[b"flags", b"added", b"cleared"]
     }
 
-    fn answer(&self, alloc: Global, case: &Case) -> Result<Answer, CaseFault> {
-        let mut answer = Answer::new(alloc);
+    fn answer(&self, alloc: Global, case: &Case, answer: &mut Answer) -> Result<(), CaseFault> {
         let flags = flags_named(case.need(b"flags")?)?;
         let added = flags_named(case.find(b"added").unwrap_or(b""))?;
         let cleared = flags_named(case.find(b"cleared").unwrap_or(b""))?;
         let delta = Delta::new(added, cleared).ok_or(CaseFault::BadInput)?;
-        put_flags(&mut answer, b"applied", flags.apply(delta))?;
+        put_flags(answer, b"applied", flags.apply(delta))?;
         for kind in [Kind::Mbox, Kind::Maildir, Kind::Mh, Kind::Mmdf] {
-            put_flags(&mut answer, kind_name(kind), flags.stored(kind))?;
+            put_flags(answer, kind_name(kind), flags.stored(kind))?;
         }
-        Ok(answer)
+        Ok(())
     }
 }
 

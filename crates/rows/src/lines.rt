@@ -14,8 +14,7 @@ impl Subject for LineForms {
         &[b"line"]
     }
 
-    fn answer(&self, alloc: Global, case: &Case) -> Result<Answer, CaseFault> {
-        let mut answer = Answer::new(alloc);
+    fn answer(&self, alloc: Global, case: &Case, answer: &mut Answer) -> Result<(), CaseFault> {
         let line = case.need(b"line")?;
         match colon_of(line) {
             Some(colon) => answer.put_count(b"colon", colon)?,
@@ -25,7 +24,6 @@ impl Subject for LineForms {
         answer.put_flag(b"empty", is_empty_line(line))?;
         answer.put_flag(b"text", is_utf8(line))?;
         answer.put(b"behind blanks", without_blanks(line))?;
-        answer.put(b"before the end", without_line_end(line))?;
-        Ok(answer)
+        answer.put(b"before the end", without_line_end(line))
     }
 }

@@ -14,17 +14,15 @@ impl Subject for MaildirNames {
         &[b"name", b"in"]
     }
 
-    fn answer(&self, alloc: Global, case: &Case) -> Result<Answer, CaseFault> {
-        let mut answer = Answer::new(alloc);
+    fn answer(&self, alloc: Global, case: &Case, answer: &mut Answer) -> Result<(), CaseFault> {
         let Ok(name) = str::from_utf8(case.need(b"name")?) else {
             return Err(CaseFault::BadInput);
         };
         let in_cur = case.need(b"in")? == b"cur".as_slice();
         match read_name(alloc, name, in_cur)? {
-            Some(read) => put_name(alloc, &mut answer, &read)?,
-            None => answer.put(b"base", b"none")?,
+            Some(read) => put_name(alloc, answer, &read),
+            None => answer.put(b"base", b"none"),
         }
-        Ok(answer)
     }
 }
 

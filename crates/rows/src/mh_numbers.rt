@@ -12,12 +12,10 @@ impl Subject for MhNumbers {
         &[b"name"]
     }
 
-    fn answer(&self, alloc: Global, case: &Case) -> Result<Answer, CaseFault> {
-        let mut answer = Answer::new(alloc);
+    fn answer(&self, alloc: Global, case: &Case, answer: &mut Answer) -> Result<(), CaseFault> {
         match read_number(case.need(b"name")?) {
-            Some(number) => answer.put_number(b"number", i64::from(number))?,
-            None => answer.put(b"number", b"none")?,
+            Some(number) => answer.put_number(b"number", i64::from(number)),
+            None => answer.put(b"number", b"none"),
         }
-        Ok(answer)
     }
 }

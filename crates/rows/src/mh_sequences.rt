@@ -17,15 +17,22 @@ impl Subject for MhSequences {
         &[b"file", b"put", b"take", b"drop", b"ask"]
     }
 
-    fn answer(&self, alloc: Global, case: &Case) -> Result<Answer, CaseFault> {
-        let mut answer = Answer::new(alloc);
+    fn answer(&self, alloc: Global, case: &Case, answer: &mut Answer) -> Result<(), CaseFault> {
         let mut sequences = Sequences::read(alloc, case.need(b"file")?)?;
-        for entry in case.entries.as_slice() {
-            run(&mut answer, &mut sequences, entry)?;
-        }
-        answer.put(b"written", sequences.write(alloc)?.as_slice())?;
-        Ok(answer)
+        run_all(alloc, answer, &mut sequences, case)
     }
+}
+
+fn run_all(
+    alloc: Global,
+    answer: &mut Answer,
+    sequences: &mut Sequences,
+    case: &Case,
+) -> Result<(), CaseFault> {
+    for entry in case.entries.as_slice() {
+        run(answer, sequences, entry)?;
+    }
+    answer.put(b"written", sequences.write(alloc)?.as_slice())
 }
 
 fn run(answer: &mut Answer, sequences: &mut Sequences, entry: &Entry) -> Result<(), CaseFault> {

@@ -1,9 +1,11 @@
 //! Cases of the parts of a message (RFC 2045, RFC 2046).
 
+ghost use Rattle.std.specs.Prelude.{◌≤◌, length};
+
 use crate::bodies::put_text;
 use case_files::{Answer, Case, CaseFault, Subject};
-use mail_base::Bytes;
-use mime_tree::{Encoding, MimeError, Part, kind_list, read_parts};
+use mail_base::{Bytes, NoMemory};
+use mime_tree::{Encoding, MimeError, Part, Parts, kind_list, read_parts};
 use std::alloc::Global;
 
 /// `message` is the raw message. Each `part` is its nesting and its type, and behind semicolons
@@ -16,38 +18,59 @@ impl Subject for MessageParts {
         &[b"message"]
     }
 
-    fn answer(&self, alloc: Global, case: &Case) -> Result<Answer, CaseFault> {
-        let mut answer = Answer::new(alloc);
+    fn answer(&self, alloc: Global, case: &Case, answer: &mut Answer) -> Result<(), CaseFault> {
         let raw = case.need(b"message")?;
         let parts = match read_parts(alloc, raw) {
             Ok(parts) => parts,
-            Err(MimeError::TooDeep) => {
-                answer.put(b"refused", b"too deep")?;
-                return Ok(answer);
-            }
+            Err(MimeError::TooDeep) => return answer.put(b"refused", b"too deep"),
             Err(MimeError::NoMemory) => return Err(CaseFault::NoMemory),
         };
-        answer.put_count(b"parts", parts.len())?;
-        for kind in kind_list(alloc, &parts)?.as_slice() {
-            answer.put(b"kind", kind.as_slice())?;
-        }
+        put_kinds(alloc, answer, &parts)?;
         let mut number = 0usize;
         for part in parts.as_slice() {
             number = number.saturating_add(1);
-            put_part(alloc, &mut answer, part)?;
-            put_place(alloc, &mut answer, number, part)?;
-            if part.content.as_slice().starts_with(b"text/") {
-                let key = format!(in alloc; "lines {number}")?;
-                put_text(alloc, &mut answer, key.as_bytes(), raw, part)?;
-            }
+            put_all_of(alloc, answer, number, raw, part)?;
         }
-        Ok(answer)
+        Ok(())
     }
+}
+
+fn put_kinds(alloc: Global, answer: &mut Answer, parts: &Parts) -> Result<(), CaseFault> {
+    answer.put_count(b"parts", parts.len())?;
+    for kind in kind_list(alloc, parts)?.as_slice() {
+        answer.put(b"kind", kind.as_slice())?;
+    }
+    Ok(())
+}
+
+// What the part of this number is, where it stands, and its text.
+fn put_all_of(
+    alloc: Global,
+    answer: &mut Answer,
+    number: usize,
+    raw: &[u8],
+    part: &Part,
+) -> Result<(), CaseFault>
+    requires order { part.now.body_at ≤ part.now.body_end }
+    requires within { part.now.body_end ≤ length raw.now }
+{
+    put_part(alloc, answer, part)?;
+    put_place(alloc, answer, number, part)?;
+    if part.content.as_slice().starts_with(b"text/") {
+        let key = format!(in alloc; "lines {number}")?;
+        put_text(alloc, answer, key.as_bytes(), raw, part)?;
+    }
+    Ok(())
 }
 
 fn put_part(alloc: Global, answer: &mut Answer, part: &Part) -> Result<(), CaseFault> {
     let nesting = part.nesting;
     let mut shown = Bytes::copy_of(alloc, format!(in alloc; "{nesting} ")?.as_bytes())?;
+    append_part(&mut shown, part)?;
+    answer.put(b"part", shown.as_slice())
+}
+
+fn append_part(shown: &mut Bytes, part: &Part) -> Result<(), NoMemory> {
     shown.append(part.content.as_slice())?;
     if part.charset.len() > 0 {
         shown.append(b"; charset=")?;
@@ -65,7 +88,7 @@ fn put_part(alloc: Global, answer: &mut Answer, part: &Part) -> Result<(), CaseF
     if part.attachment {
         shown.append(b"; attachment")?;
     }
-    answer.put(b"part", shown.as_slice())
+    Ok(())
 }
 
 fn put_place(

@@ -12,12 +12,10 @@ impl Subject for Postmarks {
         &[b"line"]
     }
 
-    fn answer(&self, alloc: Global, case: &Case) -> Result<Answer, CaseFault> {
-        let mut answer = Answer::new(alloc);
+    fn answer(&self, alloc: Global, case: &Case, answer: &mut Answer) -> Result<(), CaseFault> {
         match read_postmark(case.need(b"line")?) {
-            Some(moment) => answer.put_number(b"moment", moment)?,
-            None => answer.put(b"moment", b"none")?,
+            Some(moment) => answer.put_number(b"moment", moment),
+            None => answer.put(b"moment", b"none"),
         }
-        Ok(answer)
     }
 }

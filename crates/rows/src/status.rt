@@ -13,9 +13,7 @@ impl Subject for StatusFields {
         &[b"region"]
     }
 
-    fn answer(&self, alloc: Global, case: &Case) -> Result<Answer, CaseFault> {
-        let mut answer = Answer::new(alloc);
-        put_flags(&mut answer, b"flags", read_status(case.need(b"region")?))?;
-        Ok(answer)
+    fn answer(&self, alloc: Global, case: &Case, answer: &mut Answer) -> Result<(), CaseFault> {
+        put_flags(answer, b"flags", read_status(case.need(b"region")?))
     }
 }

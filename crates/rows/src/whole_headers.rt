@@ -2,7 +2,7 @@
 
 use crate::address_lists::put_persons;
 use case_files::{Answer, Case, CaseFault, Subject};
-use headers::{Header, SentDate, read_header};
+use headers::{Field, Header, SentDate, read_header};
 use mail_base::Names;
 use std::alloc::Global;
 
@@ -15,23 +15,30 @@ impl Subject for Headers {
         &[b"message"]
     }
 
-    fn answer(&self, alloc: Global, case: &Case) -> Result<Answer, CaseFault> {
-        let mut answer = Answer::new(alloc);
+    fn answer(&self, alloc: Global, case: &Case, answer: &mut Answer) -> Result<(), CaseFault> {
         let header = read_header(alloc, case.need(b"message")?)?;
-        put_subject(&mut answer, &header)?;
-        put_lists(alloc, &mut answer, &header)?;
-        put_ids(&mut answer, &header)?;
-        put_sent(alloc, &mut answer, header.sent)?;
-        answer.put_count(b"fields", header.fields.len())?;
-        for field in header.fields.as_slice() {
-            answer.put(b"name", field.name.as_slice())?;
-            answer.put(b"value", field.value.as_slice())?;
-        }
-        answer.put_count(b"body at", header.body_at)?;
-        let lines = header.body_lines;
-        answer.put_text(b"body lines", format!(in alloc; "{lines}")?.as_str())?;
-        Ok(answer)
+        put_header(alloc, answer, &header)
     }
+}
+
+fn put_header(alloc: Global, answer: &mut Answer, header: &Header) -> Result<(), CaseFault> {
+    put_subject(answer, header)?;
+    put_lists(alloc, answer, header)?;
+    put_ids(answer, header)?;
+    put_sent(alloc, answer, header.sent)?;
+    put_fields(answer, header.fields.as_slice())?;
+    answer.put_count(b"body at", header.body_at)?;
+    let lines = header.body_lines;
+    answer.put_text(b"body lines", format!(in alloc; "{lines}")?.as_str())
+}
+
+fn put_fields(answer: &mut Answer, fields: &[Field]) -> Result<(), CaseFault> {
+    answer.put_count(b"fields", fields.len())?;
+    for field in fields {
+        answer.put(b"name", field.name.as_slice())?;
+        answer.put(b"value", field.value.as_slice())?;
+    }
+    Ok(())
 }
 
 fn put_subject(answer: &mut Answer, header: &Header) -> Result<(), CaseFault> {

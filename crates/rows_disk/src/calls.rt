@@ -3,7 +3,7 @@
 use case_disks::text_of;
 use case_files::{Answer, Case, CaseFault, read_number};
 use disk_model::{Device, Disk, DiskError, FileRead, Stat};
-use mail_base::{Bytes, Names};
+use mail_base::{Bytes, Names, NoMemory};
 use std::alloc::Global;
 
 /// Whether the stamp of a file is told. That of a file on the system differs from run to run.
@@ -119,16 +119,24 @@ fn put_names(
     answer: &mut Answer,
     names: Result<Names, DiskError>,
 ) -> Result<(), CaseFault> {
-    let names = match names {
-        Ok(names) => names,
-        Err(error) => return put_error(alloc, answer, error),
-    };
+    match names {
+        Ok(names) => put_listed(alloc, answer, names.as_slice()),
+        Err(error) => put_error(alloc, answer, error),
+    }
+}
+
+fn put_listed(alloc: Global, answer: &mut Answer, names: &[Bytes]) -> Result<(), CaseFault> {
     let mut text = Bytes::copy_of(alloc, b"names")?;
-    for name in names.as_slice() {
+    append_names(&mut text, names)?;
+    answer.put(b"answer", text.as_slice())
+}
+
+fn append_names(text: &mut Bytes, names: &[Bytes]) -> Result<(), NoMemory> {
+    for name in names {
         text.push(b' ')?;
         text.append(name.as_slice())?;
     }
-    answer.put(b"answer", text.as_slice())
+    Ok(())
 }
 
 fn put_stat(

@@ -17,17 +17,25 @@ impl Subject for DiskCalls {
         &[b"file", b"folder", b"failing", b"stop", b"others", b"call"]
     }
 
-    fn answer(&self, alloc: Global, case: &Case) -> Result<Answer, CaseFault> {
-        let mut answer = Answer::new(alloc);
+    fn answer(&self, alloc: Global, case: &Case, answer: &mut Answer) -> Result<(), CaseFault> {
         let mut dev = Device::new(Box::new(alloc, disk_of(alloc, case)?)?);
-        put_calls(alloc, &mut answer, &mut dev, case, Stamps::Told)?;
-        for entry in case.entries.as_slice() {
-            if entry.role() == b"image".as_slice() {
-                put_image(alloc, &mut answer, &dev, entry)?;
-            }
-        }
-        Ok(answer)
+        put_calls_and_images(alloc, answer, &mut dev, case)
     }
+}
+
+fn put_calls_and_images(
+    alloc: Global,
+    answer: &mut Answer,
+    dev: &mut Device,
+    case: &Case,
+) -> Result<(), CaseFault> {
+    put_calls(alloc, answer, dev, case, Stamps::Told)?;
+    for entry in case.entries.as_slice() {
+        if entry.role() == b"image".as_slice() {
+            put_image(alloc, answer, dev, entry)?;
+        }
+    }
+    Ok(())
 }
 
 /// Puts an image as a line a node: `PATH/` of a folder, `PATH: BYTES` of a file.
@@ -44,14 +52,20 @@ fn put_image(
         "written" => Fill::Written,
         byte => Fill::Byte(u8::try_from(read_number(byte.as_bytes())?).unwrap_or(0)),
     };
+    let key = entry.key.as_slice();
     match dev.image(alloc, read_number(names.as_bytes())?, fill)? {
-        Some(tree) => answer.put(entry.key.as_slice(), lines_of(alloc, &tree)?.as_slice()),
-        None => answer.put(entry.key.as_slice(), b"none"),
+        Some(tree) => put_tree(alloc, answer, key, &tree),
+        None => answer.put(key, b"none"),
     }
 }
 
-fn lines_of(alloc: Global, tree: &Tree) -> Result<Bytes, NoMemory> {
+fn put_tree(alloc: Global, answer: &mut Answer, key: &[u8], tree: &Tree) -> Result<(), CaseFault> {
     let mut text = Bytes::new(alloc);
+    append_lines(&mut text, tree)?;
+    answer.put(key, text.as_slice())
+}
+
+fn append_lines(text: &mut Bytes, tree: &Tree) -> Result<(), NoMemory> {
     for node in tree.as_slice() {
         text.append(node.path.as_slice())?;
         match &node.bytes {
@@ -63,5 +77,5 @@ fn lines_of(alloc: Global, tree: &Tree) -> Result<Bytes, NoMemory> {
         }
         text.push(b'\n')?;
     }
-    Ok(text)
+    Ok(())
 }

@@ -18,11 +18,9 @@ impl Subject for FileCalls<'_> {
         &[b"call"]
     }
 
-    fn answer(&self, alloc: Global, case: &Case) -> Result<Answer, CaseFault> {
-        let mut answer = Answer::new(alloc);
+    fn answer(&self, alloc: Global, case: &Case, answer: &mut Answer) -> Result<(), CaseFault> {
         let disk = RealDisk::new(self.rt.clone()?);
         let mut dev = Device::new(Box::new(alloc, disk)?);
-        put_calls(alloc, &mut answer, &mut dev, case, Stamps::Untold)?;
-        Ok(answer)
+        put_calls(alloc, answer, &mut dev, case, Stamps::Untold)
     }
 }

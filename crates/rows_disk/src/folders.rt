@@ -6,13 +6,15 @@ use disk_model::{Device, DiskError};
 use folder_core::{Archive, Driver, Found, Known, ScanError};
 use mail_base::Kind;
 use maildir_folder::MaildirDriver;
+use mbox_folder::MboxDriver;
 use mh_folder::MhDriver;
 use real_disk::RealDisk;
 use std::alloc::Global;
 
-/// `make PATH` is a folder that is made, and `messages PATH N` makes the files from N to the value
-/// in it, of one byte each. Each `maildir` and each `mh` is the path of a folder that is scanned.
-/// What a case makes stands there for the next ones.
+/// `make PATH` is a folder that is made, and `messages PATH N` makes the files from N to the
+/// value in it, of one byte each; `size PATH` makes a file of so many zero bytes, none of which
+/// takes room. Each `mbox`, `maildir` and `mh` is the path of a folder that is scanned. What a
+/// case makes stands there for the next ones.
 #[derive(Drop)]
 pub struct FolderScans<'a> {
     pub rt: &'a HostRuntime,
@@ -20,18 +22,26 @@ pub struct FolderScans<'a> {
 
 impl Subject for FolderScans<'_> {
     fn inputs(&self) -> &[&[u8]] {
-        &[b"make", b"messages", b"maildir", b"mh"]
+        &[b"make", b"messages", b"size", b"mbox", b"maildir", b"mh"]
     }
 
-    fn answer(&self, alloc: Global, case: &Case) -> Result<Answer, CaseFault> {
-        let mut answer = Answer::new(alloc);
+    fn answer(&self, alloc: Global, case: &Case, answer: &mut Answer) -> Result<(), CaseFault> {
         let disk = RealDisk::new(self.rt.clone()?);
         let mut dev = Device::new(Box::new(alloc, disk)?);
-        for entry in case.entries.as_slice() {
-            put_step(alloc, &mut answer, &mut dev, entry)?;
-        }
-        Ok(answer)
+        put_steps(alloc, answer, &mut dev, case)
     }
+}
+
+fn put_steps(
+    alloc: Global,
+    answer: &mut Answer,
+    dev: &mut Device,
+    case: &Case,
+) -> Result<(), CaseFault> {
+    for entry in case.entries.as_slice() {
+        put_step(alloc, answer, dev, entry)?;
+    }
+    Ok(())
 }
 
 fn put_step(
@@ -47,6 +57,10 @@ fn put_step(
         dev.disk.make_dir(alloc, path).map_err(unmade)
     } else if role == b"messages".as_slice() {
         make_messages(alloc, dev, text_of(entry.about())?, read_number(value)?)
+    } else if role == b"size".as_slice() {
+        make_file(alloc, dev, text_of(entry.about())?, read_number(value)?)
+    } else if role == b"mbox".as_slice() {
+        put_mbox(alloc, answer, dev, text_of(value)?)
     } else if role == b"maildir".as_slice() {
         put_maildir(alloc, answer, dev, text_of(value)?)
     } else if role == b"mh".as_slice() {
@@ -65,12 +79,32 @@ fn make_messages(alloc: Global, dev: &mut Device, about: &str, last: u64) -> Res
     let (path, first) = about.split_once(' ').ok_or(CaseFault::BadInput)?;
     for number in read_number(first.as_bytes())?..=last {
         let file = format!(in alloc; "{path}/{number}")?;
-        dev.disk.create(alloc, file.as_str()).map_err(unmade)?;
-        dev.disk
-            .write_at(alloc, file.as_str(), 0, b"\n")
-            .map_err(unmade)?;
+        make_message(alloc, dev, file.as_str())?;
     }
     Ok(())
+}
+
+fn make_message(alloc: Global, dev: &mut Device, file: &str) -> Result<(), CaseFault> {
+    dev.disk.create(alloc, file).map_err(unmade)?;
+    dev.disk.write_at(alloc, file, 0, b"\n").map_err(unmade)
+}
+
+/// Makes a file of so many zero bytes.
+fn make_file(alloc: Global, dev: &mut Device, path: &str, size: u64) -> Result<(), CaseFault> {
+    dev.disk.create(alloc, path).map_err(unmade)?;
+    dev.disk.cut(alloc, path, size).map_err(unmade)
+}
+
+fn put_mbox(
+    alloc: Global,
+    answer: &mut Answer,
+    dev: &mut Device,
+    path: &str,
+) -> Result<(), CaseFault> {
+    let mut known = Known::new(alloc, path, Kind::Mbox)?;
+    let mut archive = Archive::new(alloc);
+    let found = MboxDriver::new().scan(alloc, dev, &mut known, &mut archive);
+    put_scan(alloc, answer, &known, found)
 }
 
 fn put_maildir(
@@ -105,9 +139,17 @@ fn put_scan(
     known: &Known,
     found: Result<Found, ScanError>,
 ) -> Result<(), CaseFault> {
-    match found {
-        Ok(_) => answer.put(b"scan", b"done")?,
-        Err(error) => answer.put_text(b"scan", format!(in alloc; "{error}")?.as_str())?,
-    }
+    put_end(alloc, answer, found)?;
     answer.put_count(b"listed", known.listing().len())
+}
+
+fn put_end(
+    alloc: Global,
+    answer: &mut Answer,
+    found: Result<Found, ScanError>,
+) -> Result<(), CaseFault> {
+    match found {
+        Ok(_) => answer.put(b"scan", b"done"),
+        Err(error) => answer.put_text(b"scan", format!(in alloc; "{error}")?.as_str()),
+    }
 }

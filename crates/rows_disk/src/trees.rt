@@ -13,9 +13,7 @@ impl Subject for Trees {
         &[b"file", b"folder"]
     }
 
-    fn answer(&self, alloc: Global, case: &Case) -> Result<Answer, CaseFault> {
-        let mut answer = Answer::new(alloc);
-        answer.put_flag(b"tree", is_tree(&tree_of(alloc, case)?))?;
-        Ok(answer)
+    fn answer(&self, alloc: Global, case: &Case, answer: &mut Answer) -> Result<(), CaseFault> {
+        answer.put_flag(b"tree", is_tree(&tree_of(alloc, case)?))
     }
 }

@@ -35,34 +35,55 @@ impl Subject for IndexLines {
         ]
     }
 
-    fn answer(&self, alloc: Global, case: &Case) -> Result<Answer, CaseFault> {
+    fn answer(&self, alloc: Global, case: &Case, answer: &mut Answer) -> Result<(), CaseFault> {
         let header = read_header(alloc, case.need(b"message")?)?;
-        let mut people = people_of(alloc, case)?;
-        let ties = Ties::of(alloc, &mut people, &header)?;
-        let mut tree = Line::new(alloc);
-        append_utf8(&mut tree, case.find(b"tree").unwrap_or(b""))?;
-        let entry = entry_of(case, &header, &ties, &tree)?;
-        let mut answer = Answer::new(alloc);
-        for given in case.entries.as_slice() {
-            if given.key.as_slice() == b"format".as_slice() {
-                put_row(alloc, case, given.value.as_slice(), &entry, &mut answer)?;
-            }
-        }
-        Ok(answer)
+        let ties = ties_of(alloc, case, &header)?;
+        put_tied(alloc, case, &header, &ties, answer)
     }
 }
 
-fn people_of(alloc: Global, case: &Case) -> Result<People, CaseFault> {
+fn put_tied(
+    alloc: Global,
+    case: &Case,
+    header: &Header,
+    ties: &Ties,
+    answer: &mut Answer,
+) -> Result<(), CaseFault> {
+    let mut tree = Line::new(alloc);
+    append_utf8(&mut tree, case.find(b"tree").unwrap_or(b""))?;
+    put_rows(alloc, case, &entry_of(case, header, ties, &tree)?, answer)
+}
+
+fn put_rows(
+    alloc: Global,
+    case: &Case,
+    entry: &Entry<'_>,
+    answer: &mut Answer,
+) -> Result<(), CaseFault> {
+    for given in case.entries.as_slice() {
+        if given.key.as_slice() == b"format".as_slice() {
+            put_row(alloc, case, given.value.as_slice(), entry, answer)?;
+        }
+    }
+    Ok(())
+}
+
+fn ties_of(alloc: Global, case: &Case, header: &Header) -> Result<Ties, CaseFault> {
+    let mut people = People::new(alloc);
+    add_people(alloc, case, &mut people)?;
+    Ok(Ties::of(alloc, &mut people, header)?)
+}
+
+fn add_people(alloc: Global, case: &Case, people: &mut People) -> Result<(), CaseFault> {
     let builder = Box::new(alloc, RegexBuild::new(Names::new(alloc)))?;
     let mut verdicts = Verdicts::new(alloc, builder);
-    let mut people = People::new(alloc);
     for given in case.entries.as_slice() {
         if let Some(table) = table_of(given) {
             let read = Expr::read(alloc, given.value.as_slice(), &mut verdicts);
-            add(&mut people, table, read)?;
+            add(people, table, read)?;
         }
     }
-    Ok(people)
+    Ok(())
 }
 
 fn has(case: &Case, key: &[u8], letter: u8) -> bool {

@@ -2,7 +2,7 @@
 
 use case_files::{Answer, Case, CaseFault, Entry, Subject};
 use headers::read_header;
-use mail_base::Names;
+use mail_base::{Names, NoMemory};
 use people::{Expr, ExprError, People, PeopleTable, RegexBuild, Verdicts};
 use std::alloc::Global;
 
@@ -25,8 +25,7 @@ impl Subject for PeopleCalls {
         ]
     }
 
-    fn answer(&self, alloc: Global, case: &Case) -> Result<Answer, CaseFault> {
-        let mut answer = Answer::new(alloc);
+    fn answer(&self, alloc: Global, case: &Case, answer: &mut Answer) -> Result<(), CaseFault> {
         let builder = Box::new(alloc, RegexBuild::new(Names::new(alloc)))?;
         let mut verdicts = Verdicts::new(alloc, builder);
         let mut people = People::new(alloc);
@@ -34,10 +33,10 @@ impl Subject for PeopleCalls {
             let value = entry.value.as_slice();
             match table_of(entry) {
                 Some(table) => add(&mut people, table, Expr::read(alloc, value, &mut verdicts))?,
-                None => play(alloc, entry, &mut people, &mut answer)?,
+                None => play(alloc, entry, &mut people, answer)?,
             }
         }
-        Ok(answer)
+        Ok(())
     }
 }
 
@@ -117,6 +116,12 @@ fn put_place(
     text: &[u8],
     answer: &mut Answer,
 ) -> Result<(), CaseFault> {
+    let place = place_of(alloc, people, text)?;
+    answer.put_number(b"place", i64::from(place))
+}
+
+// The place of the header of a text in `to_chars`.
+fn place_of(alloc: Global, people: &mut People, text: &[u8]) -> Result<u8, NoMemory> {
     let header = read_header(alloc, text)?;
-    answer.put_number(b"place", i64::from(people.to_char(&header)?))
+    people.to_char(&header)
 }

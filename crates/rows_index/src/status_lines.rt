@@ -18,15 +18,14 @@ impl Subject for StatusLines {
         ]
     }
 
-    fn answer(&self, alloc: Global, case: &Case) -> Result<Answer, CaseFault> {
+    fn answer(&self, alloc: Global, case: &Case, answer: &mut Answer) -> Result<(), CaseFault> {
         let summary = summary_of(case)?;
-        let mut answer = Answer::new(alloc);
         for given in case.entries.as_slice() {
             if given.key.as_slice() == b"format".as_slice() {
-                put_line(alloc, case, given.value.as_slice(), &summary, &mut answer)?;
+                put_line(alloc, case, given.value.as_slice(), &summary, answer)?;
             }
         }
-        Ok(answer)
+        Ok(())
     }
 }
 

@@ -21,5 +21,6 @@ message_of size m = record {
   duplicate = m.duplicate;
 }
 
+-- the messages of a listing
 abbrev pub listed : List Listed → List Message
 listed messages = map (message_of (length messages)) messages

@@ -15,26 +15,29 @@ impl Subject for Expressions {
         &[b"size", b"expr", b"text"]
     }
 
-    fn answer(&self, alloc: Global, case: &Case) -> Result<Answer, CaseFault> {
-        let mut answer = Answer::new(alloc);
+    fn answer(&self, alloc: Global, case: &Case, answer: &mut Answer) -> Result<(), CaseFault> {
         let builder = Box::new(alloc, RegexBuild::new(sizes_of(alloc, case)?))?;
         let mut verdicts = Verdicts::new(alloc, builder);
         let mut last = None;
         for entry in case.entries.as_slice() {
             let value = entry.value.as_slice();
             if entry.role() == b"expr".as_slice() {
-                last = put_read(Expr::read(alloc, value, &mut verdicts), &mut answer)?;
+                put_read(Expr::read(alloc, value, &mut verdicts), &mut last, answer)?;
             } else if entry.role() == b"text".as_slice() {
-                put_found(&mut last, value, &mut answer)?;
+                put_found(&mut last, value, answer)?;
             }
         }
-        for place in 0..verdicts.len() {
-            if let Some(judged) = verdicts.get(place) {
-                put_judged(alloc, judged, &mut answer)?;
-            }
-        }
-        Ok(answer)
+        put_verdicts(alloc, &verdicts, answer)
     }
+}
+
+fn put_verdicts(alloc: Global, verdicts: &Verdicts, answer: &mut Answer) -> Result<(), CaseFault> {
+    for place in 0..verdicts.len() {
+        if let Some(judged) = verdicts.get(place) {
+            put_judged(alloc, judged, answer)?;
+        }
+    }
+    Ok(())
 }
 
 fn sizes_of(alloc: Global, case: &Case) -> Result<Names, NoMemory> {
@@ -47,21 +50,28 @@ fn sizes_of(alloc: Global, case: &Case) -> Result<Names, NoMemory> {
     Ok(sizes)
 }
 
-fn put_read(read: Result<Expr, ExprError>, answer: &mut Answer) -> Result<Option<Expr>, CaseFault> {
+fn put_read(
+    read: Result<Expr, ExprError>,
+    last: &mut Option<Expr>,
+    answer: &mut Answer,
+) -> Result<(), CaseFault> {
     match read {
         Ok(expr) => {
-            answer.put_text(b"read", "good")?;
-            Ok(Some(expr))
+            *last = Some(expr);
+            answer.put_text(b"read", "good")
         }
-        Err(ExprError::Syntax) => {
-            answer.put_text(b"read", "syntax")?;
-            Ok(None)
+        Err(error) => {
+            *last = None;
+            put_error(error, answer)
         }
-        Err(ExprError::Size) => {
-            answer.put_text(b"read", "size")?;
-            Ok(None)
-        }
-        Err(ExprError::NoMemory) => Err(CaseFault::NoMemory),
+    }
+}
+
+fn put_error(error: ExprError, answer: &mut Answer) -> Result<(), CaseFault> {
+    match error {
+        ExprError::Syntax => answer.put_text(b"read", "syntax"),
+        ExprError::Size => answer.put_text(b"read", "size"),
+        ExprError::NoMemory => Err(CaseFault::NoMemory),
     }
 }
 
@@ -73,14 +83,24 @@ fn put_found(expr: &mut Option<Expr>, text: &[u8], answer: &mut Answer) -> Resul
 }
 
 fn put_judged(alloc: Global, judged: &Judged, answer: &mut Answer) -> Result<(), CaseFault> {
-    let mut line = Bytes::copy_of(alloc, judged.text.as_slice())?;
+    let mut line = Bytes::new(alloc);
+    write_judged(alloc, judged, &mut line)?;
+    answer.put(b"judged", line.as_slice())
+}
+
+fn write_judged(alloc: Global, judged: &Judged, line: &mut Bytes) -> Result<(), CaseFault> {
     let before = judged.before;
     let after = judged.after;
-    line.append(match judged.verdict {
+    line.append(judged.text.as_slice())?;
+    line.append(word_of(judged.verdict))?;
+    line.append(format!(in alloc; " {before} {after}")?.as_bytes())?;
+    Ok(())
+}
+
+fn word_of(verdict: Verdict) -> &'static [u8] {
+    match verdict {
         Verdict::Good => b" good",
         Verdict::Syntax => b" syntax",
         Verdict::Size => b" size",
-    })?;
-    line.append(format!(in alloc; " {before} {after}")?.as_bytes())?;
-    answer.put(b"judged", line.as_slice())
+    }
 }

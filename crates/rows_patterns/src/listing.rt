@@ -9,7 +9,6 @@ use mail_base::Bytes;
 use patterns_match::{Row, Table};
 
 /// A message, with the place of its parent and of its root.
-#[derive(Drop)]
 pub struct Listed {
     pub row: Row,
     pub header: Header,
@@ -17,6 +16,19 @@ pub struct Listed {
     pub parent: Option<usize>,
     pub root: usize,
     pub duplicate: bool,
+}
+
+impl Drop for Listed {
+    fn drop(self) {
+        let Listed {
+            row: _,
+            header: _,
+            raw: _,
+            parent: _,
+            root: _,
+            duplicate: _,
+        } = self;
+    }
 }
 
 /// Messages in order. A parent that is not listed counts as none, and such a root as the last

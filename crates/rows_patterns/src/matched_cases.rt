@@ -35,8 +35,7 @@ impl Subject for MatchedCases {
         ]
     }
 
-    fn answer(&self, alloc: Global, case: &Case) -> Result<Answer, CaseFault> {
-        let mut answer = Answer::new(alloc);
+    fn answer(&self, alloc: Global, case: &Case, answer: &mut Answer) -> Result<(), CaseFault> {
         let builder = Box::new(alloc, RegexBuild::new(Names::new(alloc)))?;
         let mut verdicts = Verdicts::new(alloc, builder);
         let mut stage = Stage::new(alloc);
@@ -44,23 +43,57 @@ impl Subject for MatchedCases {
             let value = entry.value.as_slice();
             match table_of(entry) {
                 Some(table) => stage.add_expr(table, Expr::read(alloc, value, &mut verdicts))?,
-                None => stage.play(alloc, entry, &mut verdicts, &mut answer)?,
+                None => stage.act(alloc, entry, &mut verdicts, answer)?,
             }
         }
-        if stage.is_scored {
-            stage.put_scores(alloc, &mut answer)?;
-        }
-        Ok(answer)
+        stage.put_scores(alloc, answer)
+    }
+}
+
+// What an entry does.
+#[derive(Clone, Copy)]
+enum Step {
+    List,
+    PutUnder,
+    PutReceived,
+    PutScored,
+    Ask,
+    AddScore { last: bool },
+    AddMany,
+    Nothing,
+}
+
+fn step_named(name: &[u8]) -> Step {
+    match name {
+        b"message" => Step::List,
+        b"under" => Step::PutUnder,
+        b"received" => Step::PutReceived,
+        b"scored" => Step::PutScored,
+        b"pattern" => Step::Ask,
+        b"add" => Step::AddScore { last: false },
+        b"last" => Step::AddScore { last: true },
+        b"many" => Step::AddMany,
+        _ => Step::Nothing,
     }
 }
 
 // What a case has made so far.
-#[derive(Drop)]
 struct Stage {
     listing: Listing,
     people: People,
     scores: Scores,
     is_scored: bool,
+}
+
+impl Drop for Stage {
+    fn drop(self) {
+        let Stage {
+            listing: _,
+            people: _,
+            scores: _,
+            is_scored: _,
+        } = self;
+    }
 }
 
 impl Stage {
@@ -75,7 +108,7 @@ impl Stage {
         }
     }
 
-    fn play(
+    fn act(
         &mut self,
         alloc: Global,
         entry: &Entry,
@@ -83,29 +116,20 @@ impl Stage {
         answer: &mut Answer,
     ) -> Result<(), CaseFault> {
         let value = entry.value.as_slice();
-        match entry.role() {
-            b"message" => self.list(alloc, entry.about(), value),
-            b"under" => self.put_under(value),
-            b"received" => self.put_received(value),
-            b"scored" => self.put_scored(value),
-            b"pattern" => self.put_places(alloc, read(alloc, value, verdicts)?, answer),
-            b"add" => self.add_score(alloc, entry, read(alloc, value, verdicts)?, false, answer),
-            b"last" => self.add_score(alloc, entry, read(alloc, value, verdicts)?, true, answer),
-            b"many" => self.add_many(alloc, entry, verdicts, answer),
-            _ => Ok(()),
+        match step_named(entry.role()) {
+            Step::List => self.list(alloc, entry.about(), value),
+            Step::PutUnder => self.put_under(value),
+            Step::PutReceived => self.put_received(value),
+            Step::PutScored => self.put_scored(value),
+            Step::Ask => self.ask(alloc, value, verdicts, answer),
+            Step::AddScore { last } => self.add_score(alloc, entry, last, verdicts, answer),
+            Step::AddMany => self.add_many(alloc, entry, verdicts, answer),
+            Step::Nothing => Ok(()),
         }
     }
 
     fn list(&mut self, alloc: Global, marks: &[u8], raw: &[u8]) -> Result<(), CaseFault> {
-        let place = self.listing.messages.len();
-        let message = Listed {
-            row: row_of(marks, place, raw.len()),
-            header: read_header(alloc, raw)?,
-            raw: Bytes::copy_of(alloc, raw)?,
-            parent: None,
-            root: place,
-            duplicate: marks.contains(&b'u'),
-        };
+        let message = listed(alloc, marks, self.listing.messages.len(), raw)?;
         self.listing.messages.push(message)?;
         Ok(())
     }
@@ -149,46 +173,63 @@ impl Stage {
         read: Result<Expr, ExprError>,
     ) -> Result<(), CaseFault> {
         match read {
-            Ok(expr) => {
-                self.people.add(table, expr)?;
-                Ok(())
-            }
+            Ok(expr) => Ok(self.people.add(table, expr)?),
             Err(ExprError::NoMemory) => Err(CaseFault::NoMemory),
             Err(_) => Err(CaseFault::BadInput),
         }
     }
 
-    fn put_places(
+    // Puts the places of the messages that satisfy a pattern.
+    fn ask(
         &mut self,
         alloc: Global,
-        mut pattern: Pattern,
+        text: &[u8],
+        verdicts: &mut Verdicts,
         answer: &mut Answer,
     ) -> Result<(), CaseFault> {
         let mut places = Bytes::new(alloc);
+        self.write_places(alloc, text, verdicts, &mut places)?;
+        let places = places.as_slice().trim_ascii();
+        answer.put(b"at", if places.is_empty() { b"-" } else { places })
+    }
+
+    fn write_places(
+        &mut self,
+        alloc: Global,
+        text: &[u8],
+        verdicts: &mut Verdicts,
+        places: &mut Bytes,
+    ) -> Result<(), CaseFault> {
+        let mut pattern = read(alloc, text, verdicts)?;
+        self.write_each(alloc, &mut pattern, places)
+    }
+
+    fn write_each(
+        &mut self,
+        alloc: Global,
+        pattern: &mut Pattern,
+        places: &mut Bytes,
+    ) -> Result<(), CaseFault> {
         for place in 0..self.listing.messages.len() {
-            if is_at(alloc, &mut pattern, place, &self.listing, &mut self.people)? {
+            if is_at(alloc, pattern, place, &self.listing, &mut self.people)? {
                 places.append(format!(in alloc; " {place}")?.as_bytes())?;
             }
         }
-        let places = places.as_slice().trim_ascii();
-        answer.put(b"at", if places.is_empty() { b"-" } else { places })
+        Ok(())
     }
 
     fn add_score(
         &mut self,
         alloc: Global,
         entry: &Entry,
-        pattern: Pattern,
         last: bool,
+        verdicts: &mut Verdicts,
         answer: &mut Answer,
     ) -> Result<(), CaseFault> {
         let value = signed_number(entry.about())?;
+        let pattern = read(alloc, entry.value.as_slice(), verdicts)?;
         self.is_scored = true;
-        match self.scores.add(pattern, value, last) {
-            Ok(()) => answer.put_text(b"added", "yes"),
-            Err(ScoreError::NoMemory) => Err(CaseFault::NoMemory),
-            Err(error) => answer.put(b"added", format!(in alloc; "{error}")?.as_bytes()),
-        }
+        put_added(alloc, self.scores.add(pattern, value, last), answer)
     }
 
     fn add_many(
@@ -200,8 +241,7 @@ impl Stage {
     ) -> Result<(), CaseFault> {
         let mut added = 0usize;
         for _entry in 0..read_number(entry.about())? {
-            let pattern = read(alloc, entry.value.as_slice(), verdicts)?;
-            if self.scores.add(pattern, 1, false).is_ok() {
+            if self.add_one(alloc, entry.value.as_slice(), verdicts)? {
                 added = added.saturating_add(1);
             }
         }
@@ -209,18 +249,67 @@ impl Stage {
         answer.put_count(b"added", added)
     }
 
+    fn add_one(
+        &mut self,
+        alloc: Global,
+        text: &[u8],
+        verdicts: &mut Verdicts,
+    ) -> Result<bool, CaseFault> {
+        let pattern = read(alloc, text, verdicts)?;
+        Ok(self.scores.add(pattern, 1, false).is_ok())
+    }
+
+    // Puts what each message scores, where scores were added.
     fn put_scores(&mut self, alloc: Global, answer: &mut Answer) -> Result<(), CaseFault> {
+        if !self.is_scored {
+            return Ok(());
+        }
         for place in 0..self.listing.messages.len() {
-            let score = score_at(
-                alloc,
-                &mut self.scores,
-                place,
-                &self.listing,
-                &mut self.people,
-            )?;
-            answer.put(b"score", format!(in alloc; "{score}")?.as_bytes())?;
+            self.put_score(alloc, place, answer)?;
         }
         Ok(())
+    }
+
+    fn put_score(
+        &mut self,
+        alloc: Global,
+        place: usize,
+        answer: &mut Answer,
+    ) -> Result<(), CaseFault> {
+        let score = score_at(
+            alloc,
+            &mut self.scores,
+            place,
+            &self.listing,
+            &mut self.people,
+        )?;
+        answer.put(b"score", format!(in alloc; "{score}")?.as_bytes())
+    }
+}
+
+// A message with these marks, without a parent.
+fn listed(alloc: Global, marks: &[u8], place: usize, raw: &[u8]) -> Result<Listed, NoMemory> {
+    let copy = Bytes::copy_of(alloc, raw)?;
+    let header = read_header(alloc, raw)?;
+    Ok(Listed {
+        row: row_of(marks, place, raw.len()),
+        header,
+        raw: copy,
+        parent: None,
+        root: place,
+        duplicate: marks.contains(&b'u'),
+    })
+}
+
+fn put_added(
+    alloc: Global,
+    added: Result<(), ScoreError>,
+    answer: &mut Answer,
+) -> Result<(), CaseFault> {
+    match added {
+        Ok(()) => answer.put_text(b"added", "yes"),
+        Err(ScoreError::NoMemory) => Err(CaseFault::NoMemory),
+        Err(error) => answer.put(b"added", format!(in alloc; "{error}")?.as_bytes()),
     }
 }
 
@@ -294,9 +383,7 @@ fn row_of(marks: &[u8], place: usize, size: usize) -> Row {
             aged: marks.contains(&b'a'),
             replied: marks.contains(&b'r'),
             flagged: marks.contains(&b'f'),
-            passed: false,
-            draft: false,
-            trashed: false,
+            ..Flags::NONE
         },
         deleted: marks.contains(&b'd'),
         tagged: marks.contains(&b't'),

@@ -1,10 +1,11 @@
 //! Cases of texts of patterns.
 
-ghost use Rattle.std.specs.Prelude.{pos, ◌≤ℤ◌, IfOk};
+ghost use Rattle.std.specs.Prelude.{pos, neg_ℤ, ◌≤ℤ◌, IfOk};
 
 use case_files::{Answer, Case, CaseFault, Subject};
 use mail_base::{Bytes, Names};
-use patterns::{Asked, Operation, Pattern, PatternError, Sought, read_pattern};
+use patterns::{Asked, Field, Operation, Pattern, PatternError, Sought, read_pattern};
+use patterns_match::Relation;
 use people::{RegexBuild, Verdicts};
 use std::alloc::Global;
 
@@ -19,25 +20,58 @@ impl Subject for PatternTexts {
         &[b"text", b"moment", b"east", b"west", b"size"]
     }
 
-    fn answer(&self, alloc: Global, case: &Case) -> Result<Answer, CaseFault> {
-        let mut answer = Answer::new(alloc);
-        let mut sizes = Names::new(alloc);
-        if let Some(size) = case.find(b"size") {
-            sizes.push(Bytes::copy_of(alloc, size)?)?;
-        }
-        let mut verdicts = Verdicts::new(alloc, Box::new(alloc, RegexBuild::new(sizes))?);
+    fn answer(&self, alloc: Global, case: &Case, answer: &mut Answer) -> Result<(), CaseFault> {
         let text = case.need(b"text")?;
         let moment = bounded(case, b"moment", 253_000_000_000)?;
-        let east = bounded(case, b"east", 86_400)?;
-        let west = bounded(case, b"west", 86_400)?;
-        let offset = if west > 0 { -west } else { east };
-        match read_pattern(alloc, text, moment, offset as i32, &mut verdicts) {
-            Ok(pattern) => put_asked(alloc, &pattern, &mut answer)?,
-            Err(PatternError::NoMemory) => return Err(CaseFault::NoMemory),
-            Err(error) => answer.put(b"error", format!(in alloc; "{error}")?.as_bytes())?,
-        }
-        Ok(answer)
+        let offset = offset_of(case)?;
+        let builder = Box::new(alloc, RegexBuild::new(sizes_of(alloc, case)?))?;
+        let mut verdicts = Verdicts::new(alloc, builder);
+        put_read(
+            alloc,
+            read_pattern(alloc, text, moment, offset, &mut verdicts),
+            answer,
+        )
     }
+}
+
+fn sizes_of(alloc: Global, case: &Case) -> Result<Names, CaseFault> {
+    let mut sizes = Names::new(alloc);
+    if let Some(size) = case.find(b"size") {
+        sizes.push(Bytes::copy_of(alloc, size)?)?;
+    }
+    Ok(sizes)
+}
+
+// How far the clock is before UTC, or behind it.
+fn offset_of(case: &Case) -> Result<i32, CaseFault>
+    ensures low { IfOk result (λ n. neg_ℤ (pos 86_400) ≤ℤ n) }
+    ensures high { IfOk result (λ n. n ≤ℤ pos 86_400) }
+{
+    let east = bounded(case, b"east", 86_400)?;
+    let west = bounded(case, b"west", 86_400)?;
+    Ok(if west > 0 {
+        -(west as i32)
+    } else {
+        east as i32
+    })
+}
+
+fn put_read(
+    alloc: Global,
+    read: Result<Pattern, PatternError>,
+    answer: &mut Answer,
+) -> Result<(), CaseFault> {
+    match read {
+        Ok(pattern) => put_asked(alloc, &pattern, answer),
+        Err(error) => put_error(alloc, error, answer),
+    }
+}
+
+fn put_error(alloc: Global, error: PatternError, answer: &mut Answer) -> Result<(), CaseFault> {
+    if let PatternError::NoMemory = error {
+        return Err(CaseFault::NoMemory);
+    }
+    answer.put(b"error", format!(in alloc; "{error}")?.as_bytes())
 }
 
 // A number of the case up to a greatest one, or 0.
@@ -53,11 +87,16 @@ fn bounded(case: &Case, key: &[u8], most: i64) -> Result<i64, CaseFault>
 }
 
 fn put_asked(alloc: Global, pattern: &Pattern, answer: &mut Answer) -> Result<(), CaseFault> {
-    let mut line = Bytes::copy_of(alloc, b"")?;
-    for operation in pattern.operations.as_slice() {
-        put_operation(alloc, operation, &mut line)?;
-    }
+    let mut line = Bytes::new(alloc);
+    put_operations(alloc, pattern, &mut line)?;
     answer.put(b"asks", line.as_slice().trim_ascii())
+}
+
+fn put_operations(alloc: Global, pattern: &Pattern, line: &mut Bytes) -> Result<(), CaseFault> {
+    for operation in pattern.operations.as_slice() {
+        put_operation(alloc, operation, line)?;
+    }
+    Ok(())
 }
 
 fn put_operation(
@@ -66,35 +105,48 @@ fn put_operation(
     line: &mut Bytes,
 ) -> Result<(), CaseFault> {
     match operation {
-        Operation::Ask(asked) => put_leaf(alloc, asked, line)?,
-        Operation::SkipUnless(_) | Operation::SkipIf(_) | Operation::Others(_, _) => {}
-        Operation::Negate => line.append(b" not")?,
-        Operation::Both => line.append(b" and")?,
-        Operation::Either => line.append(b" or")?,
-        Operation::Group => line.append(b" group")?,
-        Operation::Related(relation) => {
-            line.append(format!(in alloc; " {relation:?}")?.as_bytes())?;
-        }
+        Operation::Ask(asked) => put_leaf(alloc, asked, line),
+        Operation::Related(relation) => put_relation(alloc, *relation, line),
+        Operation::SkipUnless(_) | Operation::SkipIf(_) | Operation::Others(_, _) => Ok(()),
+        Operation::Negate => put_word(b" not", line),
+        Operation::Both => put_word(b" and", line),
+        Operation::Either => put_word(b" or", line),
+        Operation::Group => put_word(b" group", line),
     }
+}
+
+fn put_word(word: &[u8], line: &mut Bytes) -> Result<(), CaseFault> {
+    line.append(word)?;
     Ok(())
+}
+
+fn put_relation(alloc: Global, relation: Relation, line: &mut Bytes) -> Result<(), CaseFault> {
+    put_word(format!(in alloc; " {relation:?}")?.as_bytes(), line)
 }
 
 fn put_leaf(alloc: Global, asked: &Asked, line: &mut Bytes) -> Result<(), CaseFault> {
     match asked {
-        Asked::Tells(mark) => line.append(format!(in alloc; " {mark:?}")?.as_bytes())?,
-        Asked::Searches(field, Sought::Plain(text)) => {
-            line.append(format!(in alloc; " {field:?}=")?.as_bytes())?;
-            line.append(text.as_slice())?;
-        }
-        Asked::Searches(field, Sought::Expression(_)) => {
-            line.append(format!(in alloc; " {field:?}")?.as_bytes())?;
-        }
+        Asked::Tells(mark) => put_word(format!(in alloc; " {mark:?}")?.as_bytes(), line),
+        Asked::Searches(field, sought) => put_search(alloc, *field, sought, line),
         Asked::Dated(day, range) => {
-            line.append(format!(in alloc; " {day:?} {range:?}")?.as_bytes())?;
+            put_word(format!(in alloc; " {day:?} {range:?}")?.as_bytes(), line)
         }
         Asked::Counts(number, range) => {
-            line.append(format!(in alloc; " {number:?} {range:?}")?.as_bytes())?;
+            put_word(format!(in alloc; " {number:?} {range:?}")?.as_bytes(), line)
         }
+    }
+}
+
+fn put_search(
+    alloc: Global,
+    field: Field,
+    sought: &Sought,
+    line: &mut Bytes,
+) -> Result<(), CaseFault> {
+    put_word(format!(in alloc; " {field:?}")?.as_bytes(), line)?;
+    if let Sought::Plain(text) = sought {
+        put_word(b"=", line)?;
+        put_word(text.as_slice(), line)?;
     }
     Ok(())
 }

@@ -18,21 +18,28 @@ impl Subject for FolderKinds {
         ]
     }
 
-    fn answer(&self, alloc: Global, case: &Case) -> Result<Answer, CaseFault> {
-        let mut answer = Answer::new(alloc);
+    fn answer(&self, alloc: Global, case: &Case, answer: &mut Answer) -> Result<(), CaseFault> {
         let mut dev = Device::new(Box::new(alloc, disk_of(alloc, case)?)?);
-        let mut empty = Kind::Mbox;
-        for entry in case.entries.as_slice() {
-            if entry.key.as_slice() == b"path".as_slice() {
-                let path = text_of(entry.value.as_slice())?;
-                let kind = kind_of(alloc, &mut dev, path, empty);
-                put_kind(alloc, &mut answer, kind)?;
-            } else if entry.key.as_slice() == b"empty".as_slice() {
-                empty = kind_named(entry.value.as_slice());
-            }
-        }
-        Ok(answer)
+        put_kinds(alloc, answer, &mut dev, case)
     }
+}
+
+fn put_kinds(
+    alloc: Global,
+    answer: &mut Answer,
+    dev: &mut Device,
+    case: &Case,
+) -> Result<(), CaseFault> {
+    let mut empty = Kind::Mbox;
+    for entry in case.entries.as_slice() {
+        if entry.key.as_slice() == b"path".as_slice() {
+            let path = text_of(entry.value.as_slice())?;
+            put_kind(alloc, answer, kind_of(alloc, dev, path, empty))?;
+        } else if entry.key.as_slice() == b"empty".as_slice() {
+            empty = kind_named(entry.value.as_slice());
+        }
+    }
+    Ok(())
 }
 
 fn put_kind(
@@ -41,10 +48,9 @@ fn put_kind(
     kind: Result<Kind, ScanError>,
 ) -> Result<(), CaseFault> {
     match kind {
-        Ok(kind) => answer.put_text(b"kind", kind_name(kind))?,
-        Err(error) => answer.put_text(b"kind", format!(in alloc; "{error}")?.as_str())?,
+        Ok(kind) => answer.put_text(b"kind", kind_name(kind)),
+        Err(error) => answer.put_text(b"kind", format!(in alloc; "{error}")?.as_str()),
     }
-    Ok(())
 }
 
 // The kind of a name as `-m` takes it; another name is an mbox's.

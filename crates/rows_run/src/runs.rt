@@ -3,7 +3,7 @@
 
 use crate::clock::LateClock;
 use case_disks::{disk_of, numbers_of, text_of, words_of};
-use case_files::{Answer, Case, CaseFault, Subject};
+use case_files::{Answer, Case, CaseFault, Entry, Subject};
 use disk_model::{Device, Disk};
 use folder_core::{Archive, Drivers};
 use mail_base::{Bytes, Lines, MemoryClock, MemorySink, MemorySource, Names, Words};
@@ -35,16 +35,13 @@ impl Subject for WholeRuns {
         ]
     }
 
-    fn answer(&self, alloc: Global, case: &Case) -> Result<Answer, CaseFault> {
+    fn answer(&self, alloc: Global, case: &Case, answer: &mut Answer) -> Result<(), CaseFault> {
         let words = words_of(alloc, case)?;
         let mut dev = Device::new(Box::new(alloc, disk_of(alloc, case)?)?);
         let mut streams = streams_of(alloc, case)?;
-        let end = end_of_run(alloc, &words, &mut dev, &mut streams)?;
-        let mut answer = Answer::new(alloc);
-        put_end(&mut answer, &end, &streams)?;
-        put_screens(alloc, &mut answer, streams.out.written().as_slice())?;
-        put_nodes(alloc, &mut answer, case, &mut dev)?;
-        Ok(answer)
+        put_run(alloc, answer, &words, &mut dev, &mut streams)?;
+        put_screens(alloc, answer, streams.out.written().as_slice())?;
+        put_nodes(alloc, answer, case, &mut dev)
     }
 }
 
@@ -58,16 +55,24 @@ struct Streams {
 }
 
 fn streams_of(alloc: Global, case: &Case) -> Result<Streams, CaseFault> {
-    let keys = Bytes::copy_of(alloc, case.find(b"keys").unwrap_or(b""))?;
-    let failing_keys = numbers_of(alloc, case, b"failing keys")?;
-    let failing_out = numbers_of(alloc, case, b"failing out")?;
-    let failing_errs = numbers_of(alloc, case, b"failing errs")?;
     Ok(Streams {
-        keys: MemorySource::new(keys, failing_keys),
-        out: MemorySink::new(alloc, OUT_ROOM, failing_out)?,
-        errs: MemorySink::new(alloc, ERRS_ROOM, failing_errs)?,
+        keys: keys_of(alloc, case)?,
+        out: sink_of(alloc, case, OUT_ROOM, b"failing out")?,
+        errs: sink_of(alloc, case, ERRS_ROOM, b"failing errs")?,
         clock: clock_of(alloc, case)?,
     })
+}
+
+fn keys_of(alloc: Global, case: &Case) -> Result<MemorySource, CaseFault> {
+    let keys = Bytes::copy_of(alloc, case.find(b"keys").unwrap_or(b""))?;
+    let fails = numbers_of(alloc, case, b"failing keys")?;
+    Ok(MemorySource::new(keys, fails))
+}
+
+// A sink with so much room, of which the writes under a key fail.
+fn sink_of(alloc: Global, case: &Case, room: usize, fails: &[u8]) -> Result<MemorySink, CaseFault> {
+    let fails = numbers_of(alloc, case, fails)?;
+    Ok(MemorySink::new(alloc, room, fails)?)
 }
 
 fn clock_of(alloc: Global, case: &Case) -> Result<LateClock, CaseFault> {
@@ -78,20 +83,14 @@ fn clock_of(alloc: Global, case: &Case) -> Result<LateClock, CaseFault> {
     })
 }
 
-/// How a run ended: its exit status, and what it met.
-#[derive(Drop)]
-struct End {
-    status: u8,
-    archive: Archive,
-    events: Events,
-}
-
-fn end_of_run(
+// Makes a run, and puts how it ended.
+fn put_run(
     alloc: Global,
+    answer: &mut Answer,
     words: &Words,
     dev: &mut Device,
     streams: &mut Streams,
-) -> Result<End, CaseFault> {
+) -> Result<(), CaseFault> {
     let mut drivers = Drivers::new(alloc);
     if drivers.add(Box::new(alloc, MboxDriver::new())?).is_err() {
         return Err(CaseFault::NoMemory);
@@ -120,22 +119,18 @@ fn end_of_run(
         &mut streams.clock,
         &mut trace,
     );
-    let Trace {
-        archive,
-        events,
-        ..
-    } = trace;
-    Ok(End {
-        status: status.number(),
-        archive,
-        events,
-    })
+    put_end(answer, status.number(), &trace, streams)
 }
 
-fn put_end(answer: &mut Answer, end: &End, streams: &Streams) -> Result<(), CaseFault> {
-    answer.put_count(b"status", usize::from(end.status))?;
-    answer.put_count(b"letters", end.archive.len())?;
-    for event in end.events.as_slice() {
+fn put_end(
+    answer: &mut Answer,
+    status: u8,
+    trace: &Trace,
+    streams: &Streams,
+) -> Result<(), CaseFault> {
+    answer.put_count(b"status", usize::from(status))?;
+    answer.put_count(b"letters", trace.archive.len())?;
+    for event in trace.events.as_slice() {
         if let Event::Pressed { moment, .. } = event {
             answer.put_number(b"pressed", *moment)?;
         }
@@ -155,11 +150,20 @@ fn put_screens(alloc: Global, answer: &mut Answer, out: &[u8]) -> Result<(), Cas
             [b'\n', rest @ ..] if place > 0 => rest,
             _ => page,
         };
-        let key = format!(in alloc; "screen {number}")?;
-        answer.put(key.as_bytes(), page)?;
+        put_screen(alloc, answer, number, page)?;
         put_rows(alloc, answer, number, page)?;
     }
     Ok(())
+}
+
+fn put_screen(
+    alloc: Global,
+    answer: &mut Answer,
+    number: usize,
+    page: &[u8],
+) -> Result<(), CaseFault> {
+    let key = format!(in alloc; "screen {number}")?;
+    answer.put(key.as_bytes(), page)
 }
 
 fn put_rows(
@@ -185,12 +189,21 @@ fn put_nodes(
 ) -> Result<(), CaseFault> {
     for entry in case.entries.as_slice() {
         if entry.role() == b"after".as_slice() {
-            let key = entry.key.as_slice();
-            match dev.disk.read_all(alloc, text_of(entry.about())?, u64::MAX) {
-                Ok(read) => answer.put(key, read.bytes.as_slice())?,
-                Err(error) => answer.put_text(key, format!(in alloc; "{error}")?.as_str())?,
-            }
+            put_node(alloc, answer, entry, dev)?;
         }
     }
     Ok(())
+}
+
+fn put_node(
+    alloc: Global,
+    answer: &mut Answer,
+    entry: &Entry,
+    dev: &mut Device,
+) -> Result<(), CaseFault> {
+    let key = entry.key.as_slice();
+    match dev.disk.read_all(alloc, text_of(entry.about())?, u64::MAX) {
+        Ok(read) => answer.put(key, read.bytes.as_slice()),
+        Err(error) => answer.put_text(key, format!(in alloc; "{error}")?.as_str()),
+    }
 }

@@ -22,26 +22,40 @@ impl Subject for Scans {
         ]
     }
 
-    fn answer(&self, alloc: Global, case: &Case) -> Result<Answer, CaseFault> {
-        let mut answer = Answer::new(alloc);
+    fn answer(&self, alloc: Global, case: &Case, answer: &mut Answer) -> Result<(), CaseFault> {
         let mut dev = Device::new(Box::new(alloc, disk_of(alloc, case)?)?);
         let mut archive = Archive::new(alloc);
-        for entry in case.entries.as_slice() {
-            let path = entry.value.as_slice();
-            if entry.key.as_slice() == b"scan".as_slice() {
-                put_mailbox(alloc, &mut answer, &mut dev, text_of(path)?, &mut archive)?;
-            } else if entry.key.as_slice() == b"maildir".as_slice() {
-                put_maildir(alloc, &mut answer, &mut dev, text_of(path)?, &mut archive)?;
-            } else if entry.key.as_slice() == b"mh".as_slice() {
-                put_mh(alloc, &mut answer, &mut dev, text_of(path)?, &mut archive)?;
-            }
-        }
-        answer.put_count(b"letters", archive.len())?;
-        for letter in archive.as_slice() {
-            put_letter(alloc, &mut answer, letter)?;
-        }
-        Ok(answer)
+        put_scans(alloc, answer, &mut dev, case, &mut archive)?;
+        put_letters(alloc, answer, &archive)
     }
+}
+
+fn put_scans(
+    alloc: Global,
+    answer: &mut Answer,
+    dev: &mut Device,
+    case: &Case,
+    archive: &mut Archive,
+) -> Result<(), CaseFault> {
+    for entry in case.entries.as_slice() {
+        let path = entry.value.as_slice();
+        if entry.key.as_slice() == b"scan".as_slice() {
+            put_mailbox(alloc, answer, dev, text_of(path)?, archive)?;
+        } else if entry.key.as_slice() == b"maildir".as_slice() {
+            put_maildir(alloc, answer, dev, text_of(path)?, archive)?;
+        } else if entry.key.as_slice() == b"mh".as_slice() {
+            put_mh(alloc, answer, dev, text_of(path)?, archive)?;
+        }
+    }
+    Ok(())
+}
+
+fn put_letters(alloc: Global, answer: &mut Answer, archive: &Archive) -> Result<(), CaseFault> {
+    answer.put_count(b"letters", archive.len())?;
+    for letter in archive.as_slice() {
+        put_letter(alloc, answer, letter)?;
+    }
+    Ok(())
 }
 
 fn put_mailbox(
@@ -87,10 +101,22 @@ fn put_scan(
     known: &Known,
     found: Result<Found, ScanError>,
 ) -> Result<(), CaseFault> {
+    put_came(alloc, answer, found)?;
+    put_known(alloc, answer, known)
+}
+
+fn put_came(
+    alloc: Global,
+    answer: &mut Answer,
+    found: Result<Found, ScanError>,
+) -> Result<(), CaseFault> {
     match found {
-        Ok(found) => answer.put_count(b"came", found.came.len())?,
-        Err(error) => answer.put_text(b"refused", format!(in alloc; "{error}")?.as_str())?,
+        Ok(found) => answer.put_count(b"came", found.came.len()),
+        Err(error) => answer.put_text(b"refused", format!(in alloc; "{error}")?.as_str()),
     }
+}
+
+fn put_known(alloc: Global, answer: &mut Answer, known: &Known) -> Result<(), CaseFault> {
     for listed in known.listing().as_slice() {
         put_listed(alloc, answer, listed)?;
     }

@@ -106,7 +106,7 @@ fn the_system_tells_the_time(rt: HostRuntime) -> Result<(), Fail> {
     Ok(())
 }
 
-/// Takes each folder for no mailbox of MMDF, and has no memory for those of other kinds.
+/// Has no memory for any folder: what tells of a path needs a look at it.
 #[derive(Drop)]
 struct FakeDriver {
     kind: Kind,
@@ -126,10 +126,7 @@ impl Driver for FakeDriver {
         _known: &mut Known,
         _archive: &mut Archive,
     ) -> Result<Found, ScanError> {
-        match self.kind {
-            Kind::Mmdf => Err(ScanError::NotMailbox(0)),
-            _ => Err(ScanError::NoMemory),
-        }
+        Err(ScanError::NoMemory)
     }
 }
 
@@ -151,15 +148,13 @@ fn each_kind_has_one_driver(rt: HostRuntime) -> Result<(), Fail> {
     let disk = MemoryDisk::new(alloc, tree, Script::new(alloc), Numbers::new(alloc), None)?;
     let mut dev = Device::new(Box::new(alloc, disk)?);
     let mut archive = Archive::new(alloc);
-    for (kind, wanted) in [
-        (Kind::Mmdf, ScanError::NotMailbox(0)),
-        (Kind::Mbox, ScanError::NoMemory),
-    ] {
+    for kind in [Kind::Mmdf, Kind::Mbox] {
         let mut known = Known::new(alloc, "a", kind)?;
         assert!(rt; drivers.has(kind));
         let found = drivers.scan(alloc, kind, &mut dev, &mut known, &mut archive);
-        assert_eq!(rt; found.err(), Some(wanted), "{kind:?}");
+        assert_eq!(rt; found.err(), Some(ScanError::NoMemory), "{kind:?}");
     }
+    assert!(rt; !drivers.has(Kind::Mh));
     Ok(())
 }
 

@@ -1,6 +1,6 @@
 //! Cases of all short lists of messages, each compared with a plain program.
 
-ghost use Rattle.std.specs.Prelude.{◌≡◌, false, true, IfOk, OnOk};
+ghost use Rattle.std.specs.Prelude.{◌≡◌, false, true, OnOk};
 
 use crate::plain::{Above, Sketch, parent, root};
 use crate::threads_calls::options_of;
@@ -21,17 +21,17 @@ impl Subject for AllLists {
         &[b"options", b"messages"]
     }
 
-    fn answer(&self, alloc: Global, case: &Case) -> Result<Answer, CaseFault> {
+    fn answer(&self, alloc: Global, case: &Case, answer: &mut Answer) -> Result<(), CaseFault> {
         let length = case.number(b"messages")?.unwrap_or(0);
-        let lists = Lists {
-            options: options_of(case),
-            headers: all_headers(alloc)?,
-        };
-        let mut answer = Answer::new(alloc);
         let count = list_count(length);
         answer.put_number(b"lists", i64::from(count))?;
-        answer.put_count(b"wrong", lists.wrong_count(alloc, length, count)?)?;
-        Ok(answer)
+        let mut headers = Vec::new(alloc);
+        push_headers(alloc, &mut headers)?;
+        let lists = Lists {
+            options: options_of(case),
+            headers: headers.as_slice(),
+        };
+        answer.put_count(b"wrong", lists.wrong_count(alloc, length, count)?)
     }
 }
 
@@ -59,12 +59,11 @@ fn header_of(alloc: Global, sketch: Sketch) -> Result<Header, NoMemory> {
     read_header(alloc, text.as_bytes())
 }
 
-fn all_headers(alloc: Global) -> Result<Vec<Header>, NoMemory> {
-    let mut headers = Vec::new(alloc);
+fn push_headers(alloc: Global, headers: &mut Vec<Header>) -> Result<(), NoMemory> {
     for number in 0..KINDS {
         headers.push(header_of(alloc, sketch_of(number))?)?;
     }
-    Ok(headers)
+    Ok(())
 }
 
 fn list_count(length: u64) -> u32 {
@@ -95,14 +94,14 @@ fn sketches_of(alloc: Global, numbers: &[u32]) -> Result<Vec<Sketch>, NoMemory> 
 }
 
 /// What all lists share.
-#[derive(Drop)]
-struct Lists {
+#[derive(Clone, Copy)]
+struct Lists<'a> {
     options: ThreadOptions,
-    headers: Vec<Header>,
+    headers: &'a [Header],
 }
 
-impl Lists {
-    fn wrong_count(&self, alloc: Global, length: u64, count: u32) -> Result<usize, CaseFault> {
+impl Lists<'_> {
+    fn wrong_count(self, alloc: Global, length: u64, count: u32) -> Result<usize, CaseFault> {
         let mut wrong = 0usize;
         for list in 0..count {
             let numbers = numbers_of(alloc, length, list)?;
@@ -111,26 +110,35 @@ impl Lists {
         Ok(wrong)
     }
 
-    fn wrong_in(&self, alloc: Global, numbers: &[u32]) -> Result<usize, CaseFault> {
+    fn wrong_in(self, alloc: Global, numbers: &[u32]) -> Result<usize, CaseFault> {
         let sketches = sketches_of(alloc, numbers)?;
-        let mut threads = self.threads_of(alloc, numbers)?;
-        threads.finish()?;
+        let mut threads = Threads::new(alloc, self.options);
+        self.finish(&mut threads, numbers)?;
         Ok(wrong_messages(self.options, &sketches, &threads))
     }
 
-    fn threads_of(&self, alloc: Global, numbers: &[u32]) -> Result<Threads, CaseFault>
-        ensures { IfOk result (λ t. t.is_finished ≡ false) }
+    fn finish(self, threads: &mut Threads, numbers: &[u32]) -> Result<(), CaseFault>
+        requires { threads.old.is_finished ≡ false }
+        ensures { OnOk result (threads.new.is_finished ≡ true) }
     {
-        let mut threads = Threads::new(alloc, self.options);
-        let mut place = 0u32;
-        for number in numbers {
-            self.add(&mut threads, place, *number)?;
-            place = place.saturating_add(1);
-        }
-        Ok(threads)
+        self.add_all(threads, numbers)?;
+        threads.finish()?;
+        Ok(())
     }
 
-    fn add(&self, threads: &mut Threads, place: u32, number: u32) -> Result<(), CaseFault>
+    fn add_all(self, threads: &mut Threads, numbers: &[u32]) -> Result<(), CaseFault>
+        requires { threads.old.is_finished ≡ false }
+        ensures { OnOk result (threads.new.is_finished ≡ false) }
+    {
+        let mut place = 0u32;
+        for number in numbers {
+            self.add(threads, place, *number)?;
+            place = place.saturating_add(1);
+        }
+        Ok(())
+    }
+
+    fn add(self, threads: &mut Threads, place: u32, number: u32) -> Result<(), CaseFault>
         requires { threads.old.is_finished ≡ false }
         ensures { OnOk result (threads.new.is_finished ≡ false) }
     {

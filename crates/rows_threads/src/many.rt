@@ -3,8 +3,8 @@
 ghost use Rattle.std.specs.Prelude.{◌≡◌, false, true, OnOk};
 
 use case_files::{Answer, Case, CaseFault, Subject};
-use headers::read_header;
-use mail_base::Id;
+use headers::{Header, read_header};
+use mail_base::{Id, NoMemory};
 use std::alloc::Global;
 use threads::{ThreadOptions, Threads};
 
@@ -45,35 +45,38 @@ impl Subject for Many {
         &[b"messages", b"shape"]
     }
 
-    fn answer(&self, alloc: Global, case: &Case) -> Result<Answer, CaseFault> {
-        let mut answer = Answer::new(alloc);
+    fn answer(&self, alloc: Global, case: &Case, answer: &mut Answer) -> Result<(), CaseFault> {
         let Ok(count) = u32::try_from(case.number(b"messages")?.unwrap_or(0)) else {
             return Err(CaseFault::BadInput);
         };
-        answer.put_count(
-            b"wrong",
-            wrong_parents(alloc, Shape::of_case(case)?, count)?,
-        )?;
-        Ok(answer)
+        let shape = Shape::of_case(case)?;
+        let mut threads = Threads::new(
+            alloc,
+            ThreadOptions {
+                strict: true,
+                reply_only: true,
+                duplicates: true,
+            },
+        );
+        answer.put_count(b"wrong", wrong_parents(alloc, &mut threads, shape, count)?)
     }
 }
 
-fn wrong_parents(alloc: Global, shape: Shape, count: u32) -> Result<usize, CaseFault> {
-    let mut threads = Threads::new(
-        alloc,
-        ThreadOptions {
-            strict: true,
-            reply_only: true,
-            duplicates: true,
-        },
-    );
+fn wrong_parents(
+    alloc: Global,
+    threads: &mut Threads,
+    shape: Shape,
+    count: u32,
+) -> Result<usize, CaseFault>
+    requires { threads.old.is_finished ≡ false }
+{
     for number in 1..count {
-        add(alloc, &mut threads, shape, number)?;
+        add(alloc, threads, shape, number)?;
     }
     threads.finish()?;
     let mut wrong = 0usize;
     for number in 1..count {
-        if !is_right(&threads, shape, number) {
+        if !is_right(threads, shape, number) {
             wrong = wrong.saturating_add(1);
         }
     }
@@ -84,15 +87,20 @@ fn add(alloc: Global, threads: &mut Threads, shape: Shape, number: u32) -> Resul
     requires { threads.old.is_finished ≡ false }
     ensures { OnOk result (threads.new.is_finished ≡ false) }
 {
-    let above = shape.above(number);
-    let text = format!(in alloc; "Message-ID: <{number}@x>\nReferences: <{above}@x>\n\n")?;
-    let header = read_header(alloc, text.as_bytes())?;
     let id = Id(number);
     if threads.holds(id) {
         return Err(CaseFault::BadInput);
     }
-    threads.add(id, u64::from(number), b"", 0, &header)?;
-    Ok(())
+    let header = header_of(alloc, number, shape.above(number))?;
+    match threads.add(id, u64::from(number), b"", 0, &header) {
+        Ok(()) => Ok(()),
+        Err(NoMemory) => Err(CaseFault::NoMemory),
+    }
+}
+
+fn header_of(alloc: Global, number: u32, above: u32) -> Result<Header, NoMemory> {
+    let text = format!(in alloc; "Message-ID: <{number}@x>\nReferences: <{above}@x>\n\n")?;
+    read_header(alloc, text.as_bytes())
 }
 
 fn is_right(threads: &Threads, shape: Shape, number: u32) -> bool

@@ -21,14 +21,25 @@ impl Subject for ThreadCalls {
         &[b"options", b"message", b"siblings"]
     }
 
-    fn answer(&self, alloc: Global, case: &Case) -> Result<Answer, CaseFault> {
-        let mut answer = Answer::new(alloc);
-        let mut threads = added(alloc, case)?;
-        threads.finish()?;
-        tell(alloc, case, &threads, &mut answer)?;
-        tell_order(alloc, case, &threads, &mut answer)?;
-        Ok(answer)
+    fn answer(&self, alloc: Global, case: &Case, answer: &mut Answer) -> Result<(), CaseFault> {
+        let mut threads = Threads::new(alloc, options_of(case));
+        put_threads(alloc, case, &mut threads, answer)
     }
+}
+
+// Puts the messages of a case into threads, and tells how they stand there.
+fn put_threads(
+    alloc: Global,
+    case: &Case,
+    threads: &mut Threads,
+    answer: &mut Answer,
+) -> Result<(), CaseFault>
+    requires { threads.old.is_finished ≡ false }
+{
+    add_all(alloc, threads, case)?;
+    threads.finish()?;
+    tell(alloc, case, threads, answer)?;
+    tell_order(alloc, case, threads, answer)
 }
 
 fn has_word(case: &Case, word: &[u8]) -> bool {
@@ -45,14 +56,14 @@ pub fn options_of(case: &Case) -> ThreadOptions {
     }
 }
 
-fn added(alloc: Global, case: &Case) -> Result<Threads, CaseFault>
-    ensures { IfOk result (λ t. t.is_finished ≡ false) }
+fn add_all(alloc: Global, threads: &mut Threads, case: &Case) -> Result<(), CaseFault>
+    requires { threads.old.is_finished ≡ false }
+    ensures { OnOk result (threads.new.is_finished ≡ false) }
 {
-    let mut threads = Threads::new(alloc, options_of(case));
     for entry in case.entries.as_slice() {
-        add(alloc, &mut threads, entry)?;
+        add(alloc, threads, entry)?;
     }
-    Ok(threads)
+    Ok(())
 }
 
 fn first_number(entry: &Entry) -> Result<u64, CaseFault> {
@@ -81,13 +92,15 @@ fn add(alloc: Global, threads: &mut Threads, entry: &Entry) -> Result<(), CaseFa
     }
     let id = id_of(entry)?;
     let order = last_number(entry)?;
-    let received = i64::try_from(order).unwrap_or(0);
-    let header = read_header(alloc, entry.value.as_slice())?;
     if threads.holds(id) {
         return Err(CaseFault::BadInput);
     }
-    threads.add(id, order, b"", received, &header)?;
-    Ok(())
+    let received = i64::try_from(order).unwrap_or(0);
+    let header = read_header(alloc, entry.value.as_slice())?;
+    match threads.add(id, order, b"", received, &header) {
+        Ok(()) => Ok(()),
+        Err(NoMemory) => Err(CaseFault::NoMemory),
+    }
 }
 
 fn tell(alloc: Global, case: &Case, threads: &Threads, answer: &mut Answer) -> Result<(), CaseFault>

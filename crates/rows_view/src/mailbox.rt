@@ -1,7 +1,7 @@
 //! A mailbox in memory that is scanned into a view.
 
 ghost use Rattle.std.specs.Prelude.{[], map, IfOk};
-ghost use Rattle.folder_core.specs.Letters.{plain_letter};
+ghost use Rattle.folder_letters.specs.Letters.{plain_letter};
 ghost use Rattle.index_view.specs.View.{IsOf, MayTake};
 
 use case_files::CaseFault;

@@ -1,7 +1,7 @@
 //! The questions of a case, each answered under its own key.
 
 ghost use Rattle.std.specs.Prelude.{◌≡◌, map, OnOk};
-ghost use Rattle.folder_core.specs.Letters.{plain_letter};
+ghost use Rattle.folder_letters.specs.Letters.{plain_letter};
 ghost use Rattle.index_view.specs.View.{IsOf};
 
 use crate::scene::Scene;
@@ -11,7 +11,7 @@ use crate::texts::{changes_text, id_text, ids_text, parent_text, row_text};
 use case_files::{Answer, CaseFault, Entry, read_number};
 use expando::{Format, read_format};
 use index_view::View;
-use mail_base::{Bytes, Kind, split_once};
+use mail_base::{Bytes, Kind, Line, NoMemory, split_once};
 use std::alloc::Global;
 
 /// Puts what a view answers to an entry.
@@ -154,16 +154,25 @@ fn shown_lines(scene: Scene<'_>, about: &[u8], view: &View) -> Result<Bytes, Cas
     let (cols, format) = behind_word(rest)?;
     let rows = short_number(rows)?;
     let cols = short_number(cols)?;
-    let format = format_of(scene.alloc, format)?;
     if cols < 2 {
         return Err(CaseFault::BadInput);
     }
+    let format = format_of(scene.alloc, format)?;
     let alloc = scene.alloc;
     let lines = view.lines(alloc, scene.archive, &format, TO_CHARS, 0, rows, cols)?;
+    text_of(alloc, lines.as_slice())
+}
+
+fn text_of(alloc: Global, lines: &[Line]) -> Result<Bytes, CaseFault> {
     let mut text = Bytes::new(alloc);
-    for line in lines.as_slice() {
+    append_lines(&mut text, lines)?;
+    Ok(text)
+}
+
+fn append_lines(text: &mut Bytes, lines: &[Line]) -> Result<(), NoMemory> {
+    for line in lines {
         text.append(line.as_slice())?;
         text.push(b'\n')?;
     }
-    Ok(text)
+    Ok(())
 }

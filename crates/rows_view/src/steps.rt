@@ -1,7 +1,7 @@
 //! The steps of a case that change a view.
 
 ghost use Rattle.std.specs.Prelude.{map, OnOk};
-ghost use Rattle.folder_core.specs.Letters.{plain_letter};
+ghost use Rattle.folder_letters.specs.Letters.{plain_letter};
 ghost use Rattle.index_view.specs.View.{IsOf};
 
 use crate::questions::ask;

@@ -89,12 +89,16 @@ fn put_flags(text: &mut Bytes, sign: &[u8], flags: Flags) -> Result<(), CaseFaul
 /// Messages, or `-`.
 pub fn ids_text(scene: Scene<'_>, ids: &[Id]) -> Result<Bytes, CaseFault> {
     let mut text = Bytes::new(scene.alloc);
-    for id in ids {
-        put_between(&mut text, b" ")?;
-        scene.put_name(*id, &mut text)?;
-    }
-    put_where(&mut text, ids.is_empty(), b"-")?;
+    put_ids(scene, ids, &mut text)?;
     Ok(text)
+}
+
+fn put_ids(scene: Scene<'_>, ids: &[Id], text: &mut Bytes) -> Result<(), CaseFault> {
+    for id in ids {
+        put_between(text, b" ")?;
+        scene.put_name(*id, text)?;
+    }
+    put_where(text, ids.is_empty(), b"-")
 }
 
 /// A message, or `-`.
@@ -121,30 +125,40 @@ pub fn parent_text(scene: Scene<'_>, parent: Option<Parent>) -> Result<Bytes, Ca
 
 /// What a row shows: its number, its flags, its marks, its score and its size.
 pub fn row_text(alloc: Global, row: Row) -> Result<Bytes, CaseFault> {
+    let mut text = Bytes::new(alloc);
+    put_row(alloc, row, &mut text)?;
+    Ok(text)
+}
+
+fn put_row(alloc: Global, row: Row, text: &mut Bytes) -> Result<(), CaseFault> {
     let Row {
         number,
         score,
         size,
         ..
     } = row;
-    let mut text = Bytes::copy_of(alloc, format!(in alloc; "number {number}")?.as_bytes())?;
-    put_flags(&mut text, b" ", row.flags)?;
-    put_where(&mut text, row.deleted, b" deleted")?;
-    put_where(&mut text, row.tagged, b" tagged")?;
-    put_where(&mut text, row.collapsed, b" shut")?;
+    text.append(format!(in alloc; "number {number}")?.as_bytes())?;
+    put_flags(text, b" ", row.flags)?;
+    put_where(text, row.deleted, b" deleted")?;
+    put_where(text, row.tagged, b" tagged")?;
+    put_where(text, row.collapsed, b" shut")?;
     text.append(format!(in alloc; " score {score} size {size}")?.as_bytes())?;
-    Ok(text)
+    Ok(())
 }
 
 /// What is to become of messages, or `-`.
 pub fn changes_text(scene: Scene<'_>, changes: &[Changed1]) -> Result<Bytes, CaseFault> {
     let mut text = Bytes::new(scene.alloc);
-    for changed in changes {
-        put_between(&mut text, b"; ")?;
-        put_change(scene, *changed, &mut text)?;
-    }
-    put_where(&mut text, changes.is_empty(), b"-")?;
+    put_changes(scene, changes, &mut text)?;
     Ok(text)
+}
+
+fn put_changes(scene: Scene<'_>, changes: &[Changed1], text: &mut Bytes) -> Result<(), CaseFault> {
+    for changed in changes {
+        put_between(text, b"; ")?;
+        put_change(scene, *changed, text)?;
+    }
+    put_where(text, changes.is_empty(), b"-")
 }
 
 fn put_change(scene: Scene<'_>, changed: Changed1, text: &mut Bytes) -> Result<(), CaseFault> {

@@ -1,7 +1,7 @@
 //! Cases of command lines: what their words choose, or the first faulty one.
 
 use case_files::{Answer, Case, CaseFault, Subject};
-use mail_base::{Bytes, Kind, Words};
+use mail_base::{Bytes, Kind, NoMemory, Words};
 use mutt_words::{Options, WordsError, read_words};
 use std::alloc::Global;
 
@@ -14,25 +14,24 @@ impl Subject for CommandLines {
         &[b"word"]
     }
 
-    fn answer(&self, alloc: Global, case: &Case) -> Result<Answer, CaseFault> {
-        let mut answer = Answer::new(alloc);
-        match read_words(alloc, &words_of(alloc, case)?) {
-            Ok(options) => put_options(&options, &mut answer)?,
-            Err(WordsError::Usage(word)) => answer.put(b"usage", word.as_slice())?,
-            Err(WordsError::NoMemory) => return Err(CaseFault::NoMemory),
+    fn answer(&self, alloc: Global, case: &Case, answer: &mut Answer) -> Result<(), CaseFault> {
+        let mut words = Words::new(alloc);
+        push_words(alloc, case, &mut words)?;
+        match read_words(alloc, &words) {
+            Ok(options) => put_options(&options, answer),
+            Err(WordsError::Usage(word)) => answer.put(b"usage", word.as_slice()),
+            Err(WordsError::NoMemory) => Err(CaseFault::NoMemory),
         }
-        Ok(answer)
     }
 }
 
-fn words_of(alloc: Global, case: &Case) -> Result<Words, CaseFault> {
-    let mut words = Words::new(alloc);
+fn push_words(alloc: Global, case: &Case, words: &mut Words) -> Result<(), NoMemory> {
     for entry in case.entries.as_slice() {
         if entry.key.as_slice() == b"word".as_slice() {
             words.push(Bytes::copy_of(alloc, entry.value.as_slice())?)?;
         }
     }
-    Ok(words)
+    Ok(())
 }
 
 fn put_options(options: &Options, answer: &mut Answer) -> Result<(), CaseFault> {

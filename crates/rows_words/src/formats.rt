@@ -5,7 +5,7 @@ ghost use Rattle.std.specs.Option.{option_map_or};
 ghost use Rattle.mail_base.specs.Shown.{utf8_text};
 
 use case_files::{Answer, Case, CaseFault, Entry, Subject};
-use expando::{FormatError, Values, read_format, render};
+use expando::{Format, FormatError, Values, read_format, render};
 use mail_base::{Bytes, Line, NoMemory, Series, append_utf8, behind};
 use std::alloc::Global;
 
@@ -19,22 +19,31 @@ impl Subject for Formats {
         &[b"format", b"letters", b"cols", b"value"]
     }
 
-    fn answer(&self, alloc: Global, case: &Case) -> Result<Answer, CaseFault> {
-        let mut answer = Answer::new(alloc);
+    fn answer(&self, alloc: Global, case: &Case, answer: &mut Answer) -> Result<(), CaseFault> {
         let text = case.need(b"format")?;
-        match read_format(alloc, text, case.need(b"letters")?) {
-            Ok(format) => {
-                let values = Texts::of_case(alloc, case)?;
-                let cols = case.number(b"cols")?.unwrap_or(80);
-                let cols = u16::try_from(cols).unwrap_or(u16::MAX);
-                let line = render(alloc, &format, &values, cols)?;
-                answer.put(b"line", line.as_slice())?;
-            }
-            Err(FormatError::BadFormat(place)) => answer.put_count(b"bad", place)?,
-            Err(FormatError::NoMemory) => return Err(CaseFault::NoMemory),
+        let letters = case.need(b"letters")?;
+        match read_format(alloc, text, letters) {
+            Ok(format) => put_line(alloc, case, &format, answer),
+            Err(FormatError::BadFormat(place)) => answer.put_count(b"bad", place),
+            Err(FormatError::NoMemory) => Err(CaseFault::NoMemory),
         }
-        Ok(answer)
     }
+}
+
+fn put_line(
+    alloc: Global,
+    case: &Case,
+    format: &Format,
+    answer: &mut Answer,
+) -> Result<(), CaseFault> {
+    let cols = case.number(b"cols")?.unwrap_or(80);
+    let line = line_of(alloc, case, format, u16::try_from(cols).unwrap_or(u16::MAX))?;
+    answer.put(b"line", line.as_slice())
+}
+
+fn line_of(alloc: Global, case: &Case, format: &Format, cols: u16) -> Result<Line, NoMemory> {
+    let values = Texts::of_case(alloc, case)?;
+    render(alloc, format, &values, cols)
 }
 
 /// The texts of all letters.
@@ -47,7 +56,7 @@ impl Texts {
     fn of_case(alloc: Global, case: &Case) -> Result<Texts, NoMemory> {
         let mut texts = Series::new(alloc);
         for letter in 0..=u8::MAX {
-            texts.push(Bytes::copy_of(alloc, text_in(case, letter))?)?;
+            push_text(alloc, case, letter, &mut texts)?;
         }
         Ok(Texts { texts })
     }
@@ -61,6 +70,15 @@ impl Texts {
             None => b"",
         }
     }
+}
+
+fn push_text(
+    alloc: Global,
+    case: &Case,
+    letter: u8,
+    texts: &mut Series<Bytes>,
+) -> Result<(), NoMemory> {
+    texts.push(Bytes::copy_of(alloc, text_in(case, letter))?)
 }
 
 /// The text of a letter in a case, which is empty where none is given.

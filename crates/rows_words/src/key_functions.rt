@@ -13,18 +13,16 @@ impl Subject for KeyFunctions {
         &[b"name"]
     }
 
-    fn answer(&self, alloc: Global, case: &Case) -> Result<Answer, CaseFault> {
-        let mut answer = Answer::new(alloc);
+    fn answer(&self, alloc: Global, case: &Case, answer: &mut Answer) -> Result<(), CaseFault> {
         let Some(function) = function_named(case.need(b"name")?) else {
             answer.put_flag(b"found", false)?;
-            return Ok(answer);
+            return Ok(());
         };
         answer.put_flag(b"found", true)?;
         answer.put(b"name_of", function.name())?;
         answer.put_flag(b"index", Menu::Index.has(function))?;
         answer.put_flag(b"pager", Menu::Pager.has(function))?;
         answer.put_flag(b"attach", Menu::Attach.has(function))?;
-        answer.put_flag(b"generic", Menu::Generic.has(function))?;
-        Ok(answer)
+        answer.put_flag(b"generic", Menu::Generic.has(function))
     }
 }

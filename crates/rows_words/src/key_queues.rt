@@ -17,16 +17,23 @@ impl Subject for KeyQueues {
         &[b"push", b"typed", b"put", b"take", b"count", b"clear"]
     }
 
-    fn answer(&self, alloc: Global, case: &Case) -> Result<Answer, CaseFault> {
-        let mut answer = Answer::new(alloc);
+    fn answer(&self, alloc: Global, case: &Case, answer: &mut Answer) -> Result<(), CaseFault> {
         let mut queue = KeyQueue::new(alloc);
-        for entry in case.entries.as_slice() {
-            run(alloc, &mut queue, &mut answer, entry)?;
-        }
-        answer.put(b"waiting", waiting_keys(alloc, &queue)?.as_slice())?;
-        answer.put_count(b"replaced", usize::from(queue.replaced()))?;
-        Ok(answer)
+        run_all(alloc, &mut queue, answer, case)
     }
+}
+
+fn run_all(
+    alloc: Global,
+    queue: &mut KeyQueue,
+    answer: &mut Answer,
+    case: &Case,
+) -> Result<(), CaseFault> {
+    for entry in case.entries.as_slice() {
+        run(alloc, queue, answer, entry)?;
+    }
+    answer.put(b"waiting", waiting_keys(alloc, queue)?.as_slice())?;
+    answer.put_count(b"replaced", usize::from(queue.replaced()))
 }
 
 fn run(
@@ -39,7 +46,7 @@ fn run(
     match entry.role() {
         b"push" => push(alloc, queue, value),
         b"typed" => typed(alloc, queue, value),
-        b"put" => Ok(queue.put_before(&read_keys(alloc, value, true)?)?),
+        b"put" => put(alloc, queue, value),
         b"take" => take(alloc, queue, answer, value),
         b"count" => count(queue, answer, value),
         b"clear" => {
@@ -59,6 +66,12 @@ fn push(alloc: Global, queue: &mut KeyQueue, word: &[u8]) -> Result<(), CaseFaul
     Ok(())
 }
 
+fn put(alloc: Global, queue: &mut KeyQueue, word: &[u8]) -> Result<(), CaseFault> {
+    let keys = read_keys(alloc, word, true)?;
+    queue.put_before(&keys)?;
+    Ok(())
+}
+
 fn typed(alloc: Global, queue: &mut KeyQueue, word: &[u8]) -> Result<(), CaseFault> {
     for key in read_keys(alloc, word, false)?.as_slice() {
         queue.typed(*key)?;
@@ -74,13 +87,17 @@ fn take(
 ) -> Result<(), CaseFault> {
     for _time in 0..read_number(times)? {
         let mut shown = Bytes::new(alloc);
-        match queue.take_first() {
-            Some(key) => append_key(&mut shown, key)?,
-            None => shown.append(b"none")?,
-        }
+        append_taken(&mut shown, queue.take_first())?;
         answer.put(b"taken", shown.as_slice())?;
     }
     Ok(())
+}
+
+fn append_taken(shown: &mut Bytes, taken: Option<Key>) -> Result<(), CaseFault> {
+    match taken {
+        Some(key) => append_key(shown, key),
+        None => Ok(shown.append(b"none")?),
+    }
 }
 
 fn count(queue: &mut KeyQueue, answer: &mut Answer, times: &[u8]) -> Result<(), CaseFault> {

@@ -15,19 +15,27 @@ impl Subject for KeyStreams {
         &[b"bytes", b"fails"]
     }
 
-    fn answer(&self, alloc: Global, case: &Case) -> Result<Answer, CaseFault> {
-        let mut answer = Answer::new(alloc);
+    fn answer(&self, alloc: Global, case: &Case, answer: &mut Answer) -> Result<(), CaseFault> {
         let bytes = case.need(b"bytes")?;
         let fails = fails_of(alloc, case)?;
         let most = bytes.len().saturating_add(fails.len());
         let mut source = MemorySource::new(Bytes::copy_of(alloc, bytes)?, fails);
-        let mut reader = KeyReader::new();
-        let ended = put_keys(alloc, &mut answer, &mut reader, &mut source, most)?;
-        if !ended {
-            answer.put_flag(b"ended", is_at_end(&mut reader, &mut source))?;
-        }
-        Ok(answer)
+        put_stream(alloc, answer, &mut source, most)
     }
+}
+
+/// Puts at most so many keys, and whether the stream ends behind them.
+fn put_stream(
+    alloc: Global,
+    answer: &mut Answer,
+    source: &mut MemorySource,
+    most: usize,
+) -> Result<(), CaseFault> {
+    let mut reader = KeyReader::new();
+    if put_keys(alloc, answer, &mut reader, source, most)? {
+        return Ok(());
+    }
+    answer.put_flag(b"ended", is_at_end(&mut reader, source))
 }
 
 fn fails_of(alloc: Global, case: &Case) -> Result<Numbers, CaseFault> {

@@ -2,7 +2,7 @@
 
 use crate::key_texts::append_key;
 use case_files::{Answer, Case, CaseFault, Subject};
-use keymap::read_keys;
+use keymap::{Key, read_keys};
 use mail_base::Bytes;
 use std::alloc::Global;
 
@@ -15,16 +15,19 @@ impl Subject for KeyWords {
         &[b"word", b"functions"]
     }
 
-    fn answer(&self, alloc: Global, case: &Case) -> Result<Answer, CaseFault> {
-        let mut answer = Answer::new(alloc);
+    fn answer(&self, alloc: Global, case: &Case, answer: &mut Answer) -> Result<(), CaseFault> {
         let functions = case.find(b"functions") == Some(b"yes".as_slice());
         let keys = read_keys(alloc, case.need(b"word")?, functions)?;
-        answer.put_count(b"keys", keys.len())?;
-        for key in keys.as_slice() {
-            let mut shown = Bytes::new(alloc);
-            append_key(&mut shown, *key)?;
-            answer.put(b"key", shown.as_slice())?;
-        }
-        Ok(answer)
+        put_keys(alloc, keys.as_slice(), answer)
     }
+}
+
+fn put_keys(alloc: Global, keys: &[Key], answer: &mut Answer) -> Result<(), CaseFault> {
+    answer.put_count(b"keys", keys.len())?;
+    for key in keys {
+        let mut shown = Bytes::new(alloc);
+        append_key(&mut shown, *key)?;
+        answer.put(b"key", shown.as_slice())?;
+    }
+    Ok(())
 }

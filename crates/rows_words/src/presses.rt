@@ -2,7 +2,7 @@
 
 use crate::key_texts::{menu_named, need_function};
 use case_files::{Answer, Case, CaseFault, Entry, Subject};
-use keymap::{KeyQueue, Keymap, Menu, Press, read_keys};
+use keymap::{Key, KeyQueue, Keymap, Menu, Press, read_keys};
 use mail_base::NoMemory;
 use std::alloc::Global;
 
@@ -18,21 +18,19 @@ impl Subject for Presses {
         &[b"bind", b"macro", b"menu", b"typed", b"put"]
     }
 
-    fn answer(&self, alloc: Global, case: &Case) -> Result<Answer, CaseFault> {
+    fn answer(&self, alloc: Global, case: &Case, answer: &mut Answer) -> Result<(), CaseFault> {
         let mut table = Table::new(alloc)?;
-        table.run_all(case)?;
-        Ok(table.answer)
+        table.run_all(case, answer)
     }
 }
 
-/// A keymap with the keys that wait, and the answers so far.
+/// A keymap with the keys that wait, and what was pressed so far.
 #[derive(Drop)]
 struct Table {
     alloc: Global,
     menu: Menu,
     keymap: Keymap,
     queue: KeyQueue,
-    answer: Answer,
     presses: usize,
     last: &'static [u8],
 }
@@ -46,29 +44,28 @@ impl Table {
             menu: Menu::Index,
             keymap,
             queue: KeyQueue::new(alloc),
-            answer: Answer::new(alloc),
             presses: 0,
             last: b"",
         })
     }
 
     // Does what each line says, and puts how they ended.
-    fn run_all(&mut self, case: &Case) -> Result<(), CaseFault> {
+    fn run_all(&mut self, case: &Case, answer: &mut Answer) -> Result<(), CaseFault> {
         for entry in case.entries.as_slice() {
-            self.run(entry)?;
+            self.run(entry, answer)?;
         }
-        self.put_end()
+        self.put_end(answer)
     }
 
     // Does what a line says.
-    fn run(&mut self, entry: &Entry) -> Result<(), CaseFault> {
+    fn run(&mut self, entry: &Entry, answer: &mut Answer) -> Result<(), CaseFault> {
         let value = entry.value.as_slice();
         match entry.role() {
             b"menu" => self.menu = menu_named(value)?,
             b"bind" => self.bind(entry.about(), value)?,
             b"macro" => self.macro_key(entry.about(), value)?,
-            b"typed" => self.typed(value)?,
-            b"put" => self.put(value)?,
+            b"typed" => self.typed(value, answer)?,
+            b"put" => self.put(value, answer)?,
             _ => {}
         }
         Ok(())
@@ -98,23 +95,27 @@ impl Table {
         Ok(())
     }
 
-    fn typed(&mut self, word: &[u8]) -> Result<(), CaseFault> {
+    fn typed(&mut self, word: &[u8], answer: &mut Answer) -> Result<(), CaseFault> {
         let keys = read_keys(self.alloc, word, false)?;
-        for key in keys.as_slice() {
+        self.type_all(keys.as_slice(), answer)
+    }
+
+    fn type_all(&mut self, keys: &[Key], answer: &mut Answer) -> Result<(), CaseFault> {
+        for key in keys {
             self.queue.typed(*key)?;
-            self.press_all()?;
+            self.press_all(answer)?;
         }
         Ok(())
     }
 
-    fn put(&mut self, word: &[u8]) -> Result<(), CaseFault> {
+    fn put(&mut self, word: &[u8], answer: &mut Answer) -> Result<(), CaseFault> {
         let keys = read_keys(self.alloc, word, true)?;
         self.queue.put_before(&keys)?;
-        self.press_all()
+        self.press_all(answer)
     }
 
     // Presses the keys that wait; each press takes at least one of them.
-    fn press_all(&mut self) -> Result<(), CaseFault> {
+    fn press_all(&mut self, answer: &mut Answer) -> Result<(), CaseFault> {
         let menu = self.menu;
         if menu == Menu::Generic {
             return Err(CaseFault::BadInput);
@@ -126,16 +127,16 @@ impl Table {
             let press = self.keymap.press(menu, &mut self.queue)?;
             self.last = shown_press(press);
             self.presses = self.presses.saturating_add(1);
-            self.answer.put(b"press", self.last)?;
+            answer.put(b"press", self.last)?;
         }
         Ok(())
     }
 
     // Puts how the lines ended.
-    fn put_end(&mut self) -> Result<(), CaseFault> {
-        self.answer.put_count(b"presses", self.presses)?;
-        self.answer.put(b"last", self.last)?;
-        self.answer.put_count(b"waiting", self.queue.len())
+    fn put_end(&self, answer: &mut Answer) -> Result<(), CaseFault> {
+        answer.put_count(b"presses", self.presses)?;
+        answer.put(b"last", self.last)?;
+        answer.put_count(b"waiting", self.queue.len())
     }
 }
 

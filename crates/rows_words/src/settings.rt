@@ -1,7 +1,7 @@
 //! Cases of the commands that change variables, and of the words that each command takes.
 
 use case_files::{Answer, Case, CaseFault, Subject};
-use mail_base::{Bytes, Line, Words};
+use mail_base::{Bytes, Line, NoMemory, Words};
 use rc_lang::{Command, RcError, RcFault, RcLine, Settings, read_rc};
 use std::alloc::Global;
 
@@ -15,28 +15,76 @@ impl Subject for SettingCommands {
         &[b"text", b"expand", b"query"]
     }
 
-    fn answer(&self, alloc: Global, case: &Case) -> Result<Answer, CaseFault> {
-        let mut answer = Answer::new(alloc);
+    fn answer(&self, alloc: Global, case: &Case, answer: &mut Answer) -> Result<(), CaseFault> {
         let mut settings = Settings::new(alloc)?;
-        for line in read_rc(alloc, case.find(b"text").unwrap_or(b""))?.as_slice() {
-            match run(alloc, &mut settings, line) {
-                Ok(None) => {}
-                Ok(Some(shown)) => answer.put(b"shown", shown.as_slice())?,
-                Err(error) => put_fault(alloc, &mut answer, line.line, &error)?,
-            }
+        put_all(alloc, answer, &mut settings, case)
+    }
+}
+
+fn put_all(
+    alloc: Global,
+    answer: &mut Answer,
+    settings: &mut Settings,
+    case: &Case,
+) -> Result<(), CaseFault> {
+    run_text(alloc, answer, settings, case.find(b"text").unwrap_or(b""))?;
+    expand_text(alloc, answer, settings, case.find(b"expand").unwrap_or(b""))?;
+    for entry in case.entries.as_slice() {
+        if entry.key.as_slice() == b"query".as_slice() {
+            put_value(alloc, answer, settings, entry.value.as_slice())?;
         }
-        for line in read_rc(alloc, case.find(b"expand").unwrap_or(b""))?.as_slice() {
-            match settings.expand(alloc, &line.words) {
-                Ok(words) => answer.put(b"words", shown_words(alloc, &words)?.as_slice())?,
-                Err(error) => put_fault(alloc, &mut answer, line.line, &error)?,
-            }
-        }
-        for entry in case.entries.as_slice() {
-            if entry.key.as_slice() == b"query".as_slice() {
-                put_value(alloc, &mut answer, &settings, entry.value.as_slice())?;
-            }
-        }
-        Ok(answer)
+    }
+    Ok(())
+}
+
+fn run_text(
+    alloc: Global,
+    answer: &mut Answer,
+    settings: &mut Settings,
+    text: &[u8],
+) -> Result<(), CaseFault> {
+    let lines = read_rc(alloc, text)?;
+    for line in lines.as_slice() {
+        put_run(alloc, answer, settings, line)?;
+    }
+    Ok(())
+}
+
+fn put_run(
+    alloc: Global,
+    answer: &mut Answer,
+    settings: &mut Settings,
+    line: &RcLine,
+) -> Result<(), CaseFault> {
+    match run(alloc, settings, line) {
+        Ok(None) => Ok(()),
+        Ok(Some(shown)) => answer.put(b"shown", shown.as_slice()),
+        Err(error) => put_fault(alloc, answer, line.line, &error),
+    }
+}
+
+fn expand_text(
+    alloc: Global,
+    answer: &mut Answer,
+    settings: &Settings,
+    text: &[u8],
+) -> Result<(), CaseFault> {
+    let lines = read_rc(alloc, text)?;
+    for line in lines.as_slice() {
+        put_expanded(alloc, answer, settings, line)?;
+    }
+    Ok(())
+}
+
+fn put_expanded(
+    alloc: Global,
+    answer: &mut Answer,
+    settings: &Settings,
+    line: &RcLine,
+) -> Result<(), CaseFault> {
+    match settings.expand(alloc, &line.words) {
+        Ok(words) => put_words(alloc, answer, &words),
+        Err(error) => put_fault(alloc, answer, line.line, &error),
     }
 }
 
@@ -67,9 +115,13 @@ fn put_fault(
     error: &RcError,
 ) -> Result<(), CaseFault> {
     let mut shown = Bytes::copy_of(alloc, line.to_string(alloc)?.as_bytes())?;
-    shown.append(b": ")?;
-    shown.append(error.text(alloc)?.as_slice())?;
+    append_fault(alloc, &mut shown, error)?;
     answer.put(b"fault", shown.as_slice())
+}
+
+fn append_fault(alloc: Global, shown: &mut Bytes, error: &RcError) -> Result<(), NoMemory> {
+    shown.append(b": ")?;
+    shown.append(error.text(alloc)?.as_slice())
 }
 
 fn put_value(
@@ -85,12 +137,17 @@ fn put_value(
     }
 }
 
-fn shown_words(alloc: Global, words: &Words) -> Result<Bytes, CaseFault> {
+fn put_words(alloc: Global, answer: &mut Answer, words: &Words) -> Result<(), CaseFault> {
     let mut shown = Bytes::new(alloc);
+    append_words(&mut shown, words)?;
+    answer.put(b"words", shown.as_slice())
+}
+
+fn append_words(shown: &mut Bytes, words: &Words) -> Result<(), NoMemory> {
     for word in words.as_slice() {
         shown.append(b"[")?;
         shown.append(word.as_slice())?;
         shown.append(b"]")?;
     }
-    Ok(shown)
+    Ok(())
 }

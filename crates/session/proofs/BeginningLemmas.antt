@@ -9,7 +9,7 @@ use Rattle.mail_base.specs.Series.{Held, plain_texts}
 use Rattle.mail_base.specs.declared.kind.Kind.{Kind}
 use Rattle.mail_base.specs.declared.series.NoMemory.{NoMemory}
 use Rattle.disk_model.specs.Seen.{Seen}
-use Rattle.folder_core.specs.Letters.{Mail}
+use Rattle.folder_letters.specs.Letters.{Mail}
 use Rattle.patterns.specs.Causes.{Keeps}
 use Rattle.people.specs.Judged.{PlainJudged}
 use Rattle.folder_core.specs.declared.error.ScanError.TheVariants as scan

@@ -4,8 +4,8 @@ use Rattle.std.proofs.lemmas.List.{append-nil}
 use Rattle.mail_base.specs.Series.{Held, plain_texts}
 use Rattle.mail_base.specs.declared.kind.Kind.{Kind}
 use Rattle.disk_model.specs.Seen.{Seen}
-use Rattle.folder_core.specs.Letters.{Mail, plain_letter}
-use Rattle.folder_core.specs.declared.letter.Letter.{Letter}
+use Rattle.folder_letters.specs.Letters.{Mail, plain_letter}
+use Rattle.folder_letters.specs.declared.letter.Letter.{Letter}
 use Rattle.keymap.specs.declared.key.Key.{Key}
 use Rattle.patterns.specs.Causes.{Keeps}
 use Rattle.session_events.specs.Events.{FileRead, FileRefused, FolderOpened, FolderRefused}

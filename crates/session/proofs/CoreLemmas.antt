@@ -1,6 +1,6 @@
 -- Cores whose desk is another stand as it is said.
 use Rattle.std.proofs.Common.{◌≡◌, ◌∙◌, List, ap, sym}
-use Rattle.folder_core.specs.Letters.{Mail}
+use Rattle.folder_letters.specs.Letters.{Mail}
 use Rattle.session_index.specs.Desk.{Holds, PlainDesk, PlainWanted, ToEnd, Unasked}
 use Rattle.session_index.specs.declared.desk.Desk.{Desk}
 use Rattle.session.specs.Answers.{granted, heeded, heeded_by}

@@ -2,7 +2,7 @@
 use Rattle.std.proofs.Common.{◌≡◌, ◌≤◌, ℕ, ℤ, List, [], None, ap, arith, sym, subst}
 use Rattle.std.proofs.lemmas.Option.{none-some}
 use Rattle.disk_model.specs.Seen.{Seen}
-use Rattle.folder_core.specs.Letters.{Mail}
+use Rattle.folder_letters.specs.Letters.{Mail}
 use Rattle.index_view.specs.View.{IsOf, PlainView}
 use Rattle.keymap.specs.Queue.{most_replacements}
 use Rattle.keymap.specs.declared.key.Key.{Key}

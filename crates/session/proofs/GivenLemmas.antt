@@ -1,6 +1,6 @@
 -- What was given stays given while verdicts are kept.
 use Rattle.std.proofs.Common.{◌≡◌, List, refl, ◌∙◌, ap, subst, sym}
-use Rattle.folder_core.specs.Letters.{Mail}
+use Rattle.folder_letters.specs.Letters.{Mail}
 use Rattle.people.specs.Judged.{PlainJudged}
 use Rattle.patterns.specs.Causes.{Keeps}
 use Rattle.session_state.specs.declared.stage.Stage.{Stage}

@@ -1,6 +1,6 @@
 -- How the index learns one thing after the other.
 use Rattle.std.proofs.Common.{◌≡◌, ◌∙◌, List, [], ◌∷◌, ap, refl, sym}
-use Rattle.folder_core.specs.Letters.{Mail}
+use Rattle.folder_letters.specs.Letters.{Mail}
 use Rattle.session_index.specs.Effects.{with_index}
 use Rattle.session_index.specs.Index.{PlainIndex}
 use Rattle.session_state.specs.Lessons.{Kept, Named, Person, PlainLesson, Scored}

@@ -1,42 +1,27 @@
 -- The first folder is taken in.
-use Rattle.std.proofs.Common.{◌≡◌, ◌∙◌, List, [], false, ap, length, map, refl}
+use Rattle.std.proofs.Common.{◌≡◌, ◌∙◌, List, [], ap, arith, length, map}
 use Rattle.mail_base.specs.declared.kind.Id.{Id}
-use Rattle.mail_base.specs.declared.kind.Kind.TheVariants.{Mbox}
-use Rattle.folder_core.specs.Known.{KnownFolder}
-use Rattle.folder_core.specs.Letters.{Mail}
-use Rattle.folder_core.specs.Scanned.{ids_from}
-use Rattle.folder_core.specs.declared.listing.Found.{Found}
-use Rattle.folder_core.specs.declared.listing.Listed.{Listed}
+use Rattle.folder_letters.specs.Letters.{Mail}
+use Rattle.folder_letters.specs.Listings.{ids_from}
+use Rattle.folder_letters.specs.declared.listing.Found.{Found}
+use Rattle.folder_letters.specs.declared.listing.Listed.{Listed}
 use Rattle.index_view.specs.Laws.{FirstFolderIsTaken}
 use Rattle.index_view.specs.View.{MayTake}
 use Rattle.session_index.specs.Desk.{PlainDesk}
 use Rattle.session_index.specs.Opening.{taken_in}
 use Rattle.session.specs.Opening.{first_found, held}
 
-abbrev nothing_known : KnownFolder
-nothing_known = record {
-  path = [];
-  kind = Mbox;
-  listing = [];
-  bytes = [];
-  stamps = [];
-  held = false;
-}
-
 pub may_open : FirstFolderIsTaken → (mails : List Mail) (found : Found)
     → found.gone.items ≡ [] → found.reflagged.items ≡ []
     → map (λ listed. listed.id) found.came.items ≡ ids_from 0 found.came.items
     → length mails ≡ length found.came.items → MayTake mails [] found
-may_open law mails found gone reflagged ids each =
-    law found [] mails nothing_known (record nothing_known { listing = found.came.items }) (record {
-      none_gone = gone;
-      none_reflagged = reflagged;
-      ids = ids;
-      added = mails;
-      archived = refl;
-      each = each;
-      kept = refl;
-    })
+may_open law mails found gone reflagged ids each = law found mails (record {
+  none_gone = gone;
+  none_reflagged = reflagged;
+  first = 0;
+  ids = ids;
+  within = omega arith;
+})
 
 module _ (mails : List Mail) (found : Found) (came : List Listed)
     (gone : found.gone.items ≡ []) (reflagged : found.reflagged.items ≡ [])

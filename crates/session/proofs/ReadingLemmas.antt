@@ -1,6 +1,6 @@
 -- How the keys go on behind files of commands, and what waits to act.
 use Rattle.std.proofs.Common.{◌≡◌, ◌∙◌, ℕ, ℤ, List, [], ◌∷◌, ap, refl, sym}
-use Rattle.folder_core.specs.Letters.{Mail}
+use Rattle.folder_letters.specs.Letters.{Mail}
 use Rattle.keymap.specs.declared.key.Key.{Key}
 use Rattle.session_state.specs.Frames.{PlainFrame}
 use Rattle.session_state.specs.Rules.{PlainRules}

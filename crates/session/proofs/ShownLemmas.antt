@@ -2,7 +2,7 @@
 use Rattle.std.proofs.Common.{◌≡◌, ◌≤◌, ◌-◌, ◌++◌, ◌∷◌, [], ℕ, List, ap, arith, drop, length}
 use Rattle.std.proofs.Common.{length-append, map, replicate}
 use Rattle.std.proofs.lemmas.List.{length-map, length-replicate, length-take}
-use Rattle.folder_core.specs.Letters.{Mail}
+use Rattle.folder_letters.specs.Letters.{Mail}
 use Rattle.index_view.specs.Answers.{PlainAnswers}
 use Rattle.index_view.specs.Lines.{marked_line, page, page_start}
 use Rattle.index_view.specs.View.{IsOf, PlainView, visible_of}

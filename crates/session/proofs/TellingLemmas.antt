@@ -11,7 +11,7 @@ use Rattle.disk_model.specs.Looking.{HasLooked, LooksOnly}
 use Rattle.disk_model.specs.Seen.{Seen}
 use Rattle.disk_model.specs.Tree.{TreeNode}
 use Rattle.disk_model.proofs.Looking.{looks_same, looks_then}
-use Rattle.folder_core.specs.Letters.{Mail}
+use Rattle.folder_letters.specs.Letters.{Mail}
 use Rattle.keymap.specs.declared.key.Key.{Key}
 use Rattle.session_events.specs.declared.event.Marks.{Marks}
 use Rattle.session_events.specs.Events.{AreFiles, Happening, FileRead, FileRefused, IsFile}
@@ -171,6 +171,12 @@ module _ (Has : Kind → Type 0) where
             tells.on,
             ap (λ (c : Counts). c.mark) tells.before,
             ap (λ (c : Counts). c.mark) tells.after,
+          );
+          faults_on = omega (
+            arith,
+            tells.faults,
+            ap (λ (c : Counts). c.faults) tells.before,
+            ap (λ (c : Counts). c.faults) tells.after,
           );
           cause = tells.cause;
         })
@@ -338,6 +344,7 @@ module _ (Has Other : Kind → Type 0) where
     mark = h.mark;
     faults = h.faults;
     on = h.on;
+    faults_on = h.faults_on;
     cause = file_cause event marks is h.cause;
   }
 

@@ -2,9 +2,9 @@
 use Rattle.std.specs.Prelude.{◌==◌, ◌||◌, ◌++◌, ℕ, Bool, true, false, List, [], ◌∷◌, Option, None}
 use Rattle.std.specs.Prelude.{Some, codes, length, if◌then◌else◌}
 use Rattle.std.specs.Str.{bytes_eq}
-use Rattle.folder_core.specs.Letters.{Mail}
+use Rattle.folder_letters.specs.Letters.{Mail}
 use Rattle.index_items.specs.Kept.{kept}
-use Rattle.index_view.specs.Limit.{PlainLimit}
+use Rattle.patterns_match.specs.Pattern.{PlainPattern}
 use Rattle.patterns_match.specs.Scores.{PlainEntry}
 use Rattle.people.specs.People.{with_alias, with_expr}
 use Rattle.prompts.specs.declared.asking.Asking.{Asking}
@@ -32,6 +32,7 @@ use Rattle.session_screen.specs.declared.window.Window.{Window}
 abbrev pub is_no_limit : List ℕ → Bool
 is_no_limit text = (length text == 0) || bytes_eq text (codes "all")
 
+-- the last line tells that a text is no pattern
 abbrev pub bad_pattern : List ℕ → CoreState → CoreState
 bad_pattern text c = with_desk (record c.desk { message = codes "bad pattern: " ++ text }) c
 
@@ -41,19 +42,22 @@ limit_kept asking.Limit text c = record c { limit = Some text }
 limit_kept _ text c = c
 
 -- a text that is this pattern, or none, is answered
-abbrev pub pattern_answered : List Mail → Asking → List ℕ → Option PlainLimit → CoreState
+abbrev pub pattern_answered : List Mail → Asking → List ℕ → Option PlainPattern → CoreState
     → CoreState
 pattern_answered mails asking text None c = bad_pattern text c
 pattern_answered mails asking text (Some pattern) c =
     limit_kept asking text (with_desk (answered mails asking pattern c.desk) c)
 
+-- nothing is limited any more
 abbrev pub without_limit : List Mail → CoreState → CoreState
 without_limit mails c = record c { desk = limited mails None c.desk; limit = None }
 
+-- a text is read as a pattern, and answered
 abbrev pub text_read : Ground → Asking → List ℕ → CoreState → CoreState
 text_read g asking text c = pattern_answered g.given.mails asking text
     (reading_of g.given.verdicts (instant_of g.window g.moment) text) c
 
+-- a text that is to limit
 abbrev pub limit_answered : Ground → List ℕ → CoreState → CoreState
 limit_answered g text c =
     if is_no_limit text then without_limit g.given.mails c else text_read g asking.Limit text c
@@ -74,6 +78,7 @@ abbrev pub ran_to : Script → CoreState → CoreState
 ran_to script c =
     shown_on script.told.shown (record c { rules = script.rules; frames = script.frames })
 
+-- the index by these entries of scores
 abbrev pub with_scores : List Mail → List PlainEntry → PlainIndex → PlainIndex
 with_scores mails entries i = given_index mails (record i.facts { scores = entries }) i
 
@@ -86,6 +91,7 @@ with_lesson mails (Named name value) i =
 with_lesson mails (Scored entry) i = with_scores mails (i.facts.scores ++ entry ∷ []) i
 with_lesson mails (Kept keeps) i = with_scores mails (kept keeps i.facts.scores) i
 
+-- what commands tell is learnt, one after the other
 abbrev pub with_lessons : List Mail → List PlainLesson → PlainIndex → PlainIndex
 with_lessons mails [] i = i
 with_lessons mails (lesson ∷ lessons) i = with_lessons mails lessons (with_lesson mails lesson i)
@@ -109,6 +115,7 @@ commanded g text c = caught_up g.given.mails (ran_to (typed_script (instant_of g
 
 -- Texts.
 
+-- a text is answered to a prompt
 abbrev pub text_answered : Ground → Asking → List ℕ → CoreState → CoreState
 text_answered g asking.Limit text c = limit_answered g text c
 text_answered g asking.Command text c = commanded g text c
@@ -116,6 +123,7 @@ text_answered g asking text c = text_read g asking text c
 
 -- Orders.
 
+-- the variables have these values
 abbrev pub with_settings : List PlainValue → CoreState → CoreState
 with_settings values c = record c { rules = record c.rules { settings = values } }
 
@@ -124,6 +132,7 @@ abbrev pub sorted : List Mail → Bool → ℕ → CoreState → CoreState
 sorted mails reversed key c =
     tuned mails (with_settings (outcome c.rules.settings (sort_words reversed key)).values c)
 
+-- a key is answered to a prompt of one key
 abbrev pub choice_made : List Mail → Window → Asking → ℕ → CoreState → CoreState
 choice_made mails window asking.Sort key c = sorted mails false key c
 choice_made mails window asking.ReverseSort key c = sorted mails true key c
@@ -136,6 +145,7 @@ choice_made mails window asking key c =
 abbrev pub granted : CoreState → CoreState
 granted c = with_desk (record c.desk { wanted = Unasked }) c
 
+-- what is wanted is taken up
 abbrev pub heeded_by : Ground → PlainWanted → CoreState → CoreState
 heeded_by g Unasked c = c
 heeded_by g ToEnd c = c

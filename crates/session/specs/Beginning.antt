@@ -3,10 +3,10 @@ use Rattle.std.specs.Prelude.{◌≡◌, ℕ, ℤ, List, [], ◌∷◌, ◌++◌
 use Rattle.mail_base.specs.Faults.{Rose}
 use Rattle.mail_base.specs.declared.kind.Kind.{Kind}
 use Rattle.disk_model.specs.Seen.{Seen}
-use Rattle.folder_core.specs.Letters.{Mail}
+use Rattle.folder_letters.specs.Letters.{Mail}
 use Rattle.folder_core.specs.declared.error.ScanError.TheVariants.{ArchiveFull, Fault}
 use Rattle.folder_core.specs.declared.error.ScanError.TheVariants.{NoMemory as NoRoom}
-use Rattle.folder_core.specs.declared.listing.Listed.{Listed}
+use Rattle.folder_letters.specs.declared.listing.Listed.{Listed}
 use Rattle.session_state.specs.Rules.{answer_line}
 use Rattle.session_state.specs.declared.stage.Stage.TheVariants.{Pushing}
 use Rattle.session_events.specs.declared.event.Marks.{Marks}

@@ -3,7 +3,7 @@ use Rattle.std.specs.Prelude.{◌≡◌, ◌<◌, ◌++◌, ◌∷◌, [], ℕ, 
 use Rattle.mail_base.specs.Series.{Held, plain_texts}
 use Rattle.mail_base.specs.declared.kind.Kind.{Kind}
 use Rattle.disk_model.specs.Seen.{Seen}
-use Rattle.folder_core.specs.Letters.{Mail, plain_letter}
+use Rattle.folder_letters.specs.Letters.{Mail, plain_letter}
 use Rattle.keymap.specs.declared.key.Key.{Key}
 use Rattle.patterns.specs.Causes.{Keeps}
 use Rattle.people.specs.Judged.{PlainJudged}
@@ -22,9 +22,11 @@ use Rattle.session.specs.Steps.{AddsFiles, GoesOn, IsLent, IsNext, IsSettled, Is
 use Rattle.session.specs.Steps.{ReadsFiles, Sources, Stands, StaysTold, Waits}
 use Rattle.session.specs.declared.session_type.Session.{Session}
 
+-- the letters of a trace
 abbrev pub letters_in : {X : Type 0} {Is : X → Type 0} → Trace X Is → List Mail
 letters_in trace = map plain_letter trace.archive.items
 
+-- the events of a trace
 abbrev pub events_in : {X : Type 0} {Is : X → Type 0} → Trace X Is → List Happening
 events_in trace = plain_events trace.events.items
 
@@ -103,6 +105,7 @@ abbrev pub StartsIn : {X : Type 0} {Is : X → Type 0} → (Kind → Type 0) →
 StartsIn Has first moment session trace before now = (given : Given) → IsGivenIn trace given
     → Starts Has given first moment (events_in trace) (state_in session trace) before now
 
+-- a start failed, by each list of verdicts that keeps those of the trace
 abbrev pub FailsIn : {X : Type 0} {Is : X → Type 0} → (Kind → Type 0) → State → ℤ → StartError
     → Trace X Is → Seen → Seen → Type 0
 FailsIn Has first moment why trace before now = (given : Given) → IsGivenIn trace given

@@ -1,6 +1,6 @@
 -- What keys act on, and what they are lent.
 use Rattle.std.specs.Prelude.{◌≡◌, ℕ, ℤ, Bool, false, List, [], Option, None, option_map}
-use Rattle.folder_core.specs.Letters.{Mail}
+use Rattle.folder_letters.specs.Letters.{Mail}
 use Rattle.index_view.specs.View.{IsOf, PlainView, first_view}
 use Rattle.people.specs.People.{no_people}
 use Rattle.people.specs.Judged.{PlainJudged}
@@ -24,6 +24,7 @@ pub record CoreState : Type 0 where
   pub limit : Option (List ℕ)
   pub frames : List PlainFrame
 
+-- what keys act on, as contracts see it
 abbrev pub plain_core : Core → CoreState
 plain_core core = record {
   rules = core.rules;
@@ -65,6 +66,7 @@ pub record Ground : Type 0 where
   pub window : Window
   pub moment : ℤ
 
+-- the same with another desk
 abbrev pub with_desk : PlainDesk → CoreState → CoreState
 with_desk d c = record c { desk = d }
 
@@ -76,6 +78,7 @@ said notice c = with_desk (said_on notice c.desk) c
 abbrev pub instant_of : Window → ℤ → Instant
 instant_of window moment = record { seconds = moment; offset = window.offset }
 
+-- what keys are given beside what they act on
 abbrev pub ground_of : List Mail → List PlainJudged → Window → ℤ → Ground
 ground_of mails verdicts window moment = record {
   given = given_of mails verdicts;

@@ -1,14 +1,16 @@
 -- What the definitions of a run are given beside its events: the letters that were met, and the
 -- verdicts on expressions.
 use Rattle.std.specs.Prelude.{◌≡◌, List}
-use Rattle.folder_core.specs.Letters.{Mail}
+use Rattle.folder_letters.specs.Letters.{Mail}
 use Rattle.patterns.specs.Causes.{Keeps}
 use Rattle.people.specs.Judged.{PlainJudged}
 
+-- letters and verdicts
 pub record Given : Type 0 where
   pub mails : List Mail
   pub verdicts : List PlainJudged
 
+-- these letters and verdicts
 abbrev pub given_of : List Mail → List PlainJudged → Given
 given_of mails verdicts = record { mails = mails; verdicts = verdicts }
 

@@ -45,12 +45,14 @@ stage_wanted Unasked = None
 stage_wanted (ToAnswer asking text) = None
 stage_wanted (ToChoose asking choice) = None
 
+-- the stage to which an answer of keys leads, if they do not go on
 abbrev pub stage_after : Press → PlainWanted → Option Stage
 stage_after press.Wait wanted = Some Idle
 stage_after press.Loop wanted = Some Idle
 stage_after press.Unbound wanted = stage_wanted wanted
 stage_after (press.Function function) wanted = stage_wanted wanted
 
+-- the keys stop at a stage, or go on
 abbrev pub stop_by : Option Stage → ℕ → List Key → (CoreState → TurnState) → CoreState → TurnState
 stop_by None replaced keys rest c = rest c
 stop_by (Some stage) replaced keys rest c = stopped stage replaced keys c
@@ -81,6 +83,7 @@ abbrev pub read_first : List PlainFrame → ℕ → List Key → (CoreState → 
 read_first [] replaced keys rest c = rest c
 read_first (frame ∷ frames) replaced keys rest c = stopped Reading replaced keys c
 
+-- the keys behind an answer to a prompt: a file that it named is read first
 abbrev pub behind_prompt : ℕ → List Key → (CoreState → TurnState) → CoreState → TurnState
 behind_prompt replaced keys rest c = read_first c.frames replaced keys rest c
 
@@ -130,6 +133,7 @@ abbrev pub settled : Ground → CoreState → PlainQueue → TurnState
 settled g c queue =
     run_keys g (most_replacements - queue.replaced) queue.replaced queue.items c
 
+-- a turn of keys at a stage, with these that wait
 abbrev pub turn_of : Stage → CoreState → PlainQueue → TurnState
 turn_of stage c queue =
     record { core = c; queue = queue.items; replaced = queue.replaced; stage = stage }

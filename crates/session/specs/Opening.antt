@@ -1,13 +1,14 @@
 -- What an opened folder makes of the index.
 use Rattle.std.specs.Prelude.{List, []}
-use Rattle.folder_core.specs.Letters.{Mail}
-use Rattle.folder_core.specs.declared.listing.Found.{Found}
-use Rattle.folder_core.specs.declared.listing.Listed.{Listed}
+use Rattle.folder_letters.specs.Letters.{Mail}
+use Rattle.folder_letters.specs.declared.listing.Found.{Found}
+use Rattle.folder_letters.specs.declared.listing.Listed.{Listed}
 use Rattle.mail_base.specs.Series.{Held}
 use Rattle.session_index.specs.Opening.{begun, taken_in}
 use Rattle.session.specs.Answers.{learnt, tuned}
 use Rattle.session.specs.Core.{CoreState, with_desk}
 
+-- a list without room
 abbrev pub held : {X : Type 0} → List X → Held X
 held items = record { items = items; room = 0 }
 
@@ -15,9 +16,11 @@ held items = record { items = items; room = 0 }
 abbrev pub first_found : List Listed → Found
 first_found came = record { gone = held []; reflagged = held []; came = held came }
 
+-- the cursor stands where a reader begins
 abbrev pub begun_in : List Mail → CoreState → CoreState
 begun_in mails c = with_desk (begun mails c.desk) c
 
+-- the messages of an opened folder are taken in
 abbrev pub found_in : List Mail → List Listed → CoreState → CoreState
 found_in mails came c = with_desk (taken_in mails (first_found came) c.desk) c
 

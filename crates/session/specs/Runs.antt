@@ -3,8 +3,8 @@ use Rattle.std.specs.Prelude.{◌≡◌, ℕ, ℤ, List, [], ◌∷◌, ◌++◌
 use Rattle.mail_base.specs.Series.{Held, plain_texts}
 use Rattle.mail_base.specs.declared.kind.Kind.{Kind}
 use Rattle.disk_model.specs.declared.answers.DiskError.{DiskError}
-use Rattle.folder_core.specs.Letters.{Mail}
-use Rattle.folder_core.specs.declared.listing.Listed.{Listed}
+use Rattle.folder_letters.specs.Letters.{Mail}
+use Rattle.folder_letters.specs.declared.listing.Listed.{Listed}
 use Rattle.keymap.specs.declared.key.Key.{Key}
 use Rattle.people.specs.Judged.{PlainJudged}
 use Rattle.session_events.specs.Events.{Happening, FileRead, FileRefused, KeyPressed, FolderOpened}
@@ -39,6 +39,7 @@ pub record State : Type 0 where
   pub moment : ℤ
   pub named : Option (List ℕ)
 
+-- a session with its notes, as contracts see it
 abbrev pub plain_session : Session → Held (Held ℕ) → State
 plain_session session notes = record {
   turn = record {
@@ -63,6 +64,7 @@ abbrev pub file_wish : List PlainFrame → Wish → Wish
 file_wish [] other = other
 file_wish (frame ∷ frames) other = Source frame.place.file
 
+-- what a state wishes, by its stage
 abbrev pub wish_at : Stage → State → ℤ → Wish
 wish_at Unopened s moment = file_wish s.turn.core.frames
     (Open (folder_path s.turn.core.rules.settings s.named))
@@ -76,17 +78,21 @@ wish_at Over s moment = Nothing
 abbrev pub wish : State → ℤ → Wish
 wish s moment = wish_at s.turn.stage s moment
 
+-- an event answers what the state wishes
 abbrev pub Answers : State → Happening → Type 0
 Answers s event = wish s (moment_of event) ≡ answered event
 
 -- What an event makes of the state.
 
+-- a state at a stage
 abbrev pub at_stage : Stage → State → State
 at_stage stage s = record s { turn = record s.turn { stage = stage } }
 
+-- a state whose keys act on this
 abbrev pub with_core : CoreState → State → State
 with_core c s = record s { turn = record s.turn { core = c } }
 
+-- a state behind commands, whose faults are noted
 abbrev pub with_script : Script → State → State
 with_script script s = with_core (ran_to script s.turn.core)
     (record s { notes = s.notes ++ script.told.notes })
@@ -95,6 +101,7 @@ with_script script s = with_core (ran_to script s.turn.core)
 abbrev pub quiet : CoreState → CoreState
 quiet c = with_desk (record c.desk { message = [] }) c
 
+-- a state before a key, by its stage
 abbrev pub taken_at : Stage → State → State
 taken_at Idle s = record s { turn = record s.turn { core = quiet s.turn.core; stage = Ready } }
 taken_at Unopened s = s
@@ -103,6 +110,7 @@ taken_at Ready s = s
 taken_at Reading s = s
 taken_at Over s = s
 
+-- a state before a key: the last line is empty
 abbrev pub taken : State → State
 taken s = taken_at s.turn.stage s
 
@@ -127,6 +135,7 @@ putting s = waiting (put_all s.turn.core.rules.put)
 abbrev pub pushed : Given → State → State
 pushed given s = acting given (putting s)
 
+-- a folder was opened in which these messages stand
 abbrev pub opened_by : List Mail → List ℕ → Kind → ℤ → List Listed → State → State
 opened_by mails path kind moment came s = record s {
   turn = record s.turn { core = opened mails came s.turn.core; stage = Pushing };
@@ -165,6 +174,7 @@ read_at Ready given s = s
 read_at Reading given s = reading_on given s
 read_at Over given s = s
 
+-- the state behind a file: where no other is to be read, the index learns and keys go on
 abbrev pub read_on : Given → State → State
 read_on given s = read_at s.turn.stage given s
 
@@ -191,6 +201,7 @@ after given s (FolderOpened path kind moment came marks) =
     pushed given (arrived given s (FolderOpened path kind moment came marks))
 after given s (FolderRefused path why marks) = arrived given s (FolderRefused path why marks)
 
+-- the state behind events
 abbrev pub after_events : Given → State → List Happening → State
 after_events given s [] = s
 after_events given s (event ∷ events) = after_events given (after given s event) events
@@ -213,6 +224,7 @@ stage_screens given Ready s = []
 stage_screens given Reading s = []
 stage_screens given Over s = []
 
+-- the screens that a state shows
 abbrev pub shown : Given → State → List (List (List ℕ))
 shown given s = stage_screens given s.turn.stage s
 

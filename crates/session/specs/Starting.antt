@@ -19,6 +19,7 @@ pub record PlainSetup : Type 0 where
   pub read_only : Bool
   pub window : Window
 
+-- what the words have chosen, as contracts see it
 abbrev pub plain_setup : Setup → PlainSetup
 plain_setup setup = record {
   path = option_map (λ path. path.items) setup.path;

@@ -1,18 +1,33 @@
 //! How keys act.
 
+ghost use Rattle.std.specs.Prelude.{◌≡◌, IfOk};
+ghost use Rattle.mail_base.specs.Series.{plain_texts};
+ghost use Rattle.session.specs.Acting as spec;
+
 use crate::core_state::Core;
 use folder_core::Archive;
-use keymap::{Key, Press};
-use mail_base::NoMemory;
+use keymap::{Function, Key, Press};
+use mail_base::{Bytes, NoMemory, Words};
 use people::Verdicts;
 use rc_lang::Variable;
 use session_index::{Notice, Rule};
 use session_screen::{Window, is_set};
 use session_state::Moment;
+use std::alloc::Global;
+
+// The words of the command that turns a variable over.
+fn toggle_words(alloc: Global, name: &[u8]) -> Result<Words, NoMemory>
+    ensures { IfOk result (λ words. plain_texts words ≡ spec.toggle_words name.now) }
+{
+    let mut words = Words::new(alloc);
+    words.push(Bytes::copy_of(alloc, b"toggle")?)?;
+    words.push(Bytes::copy_of(alloc, name)?)?;
+    Ok(words)
+}
 
 impl Core {
     ghost use Rattle.std.specs.Prelude.{◌≡◌, ◌<◌, ℤ, List, map, OnOk};
-    ghost use Rattle.folder_core.specs.Letters.{plain_letter};
+    ghost use Rattle.folder_letters.specs.Letters.{plain_letter};
     ghost use Rattle.index_view.specs.View.{IsOf};
     ghost use Rattle.people.specs.Judged.{PlainJudged};
     ghost use Rattle.session.specs.Acting as spec;
@@ -34,6 +49,38 @@ impl Core {
         }
     }
 
+    // Turns over the variable that a function turns over, if any.
+    fn turn_over(&mut self, function: Function) -> Result<(), NoMemory>
+        ensures core { OnOk result
+            (plain_core self.new ≡ spec.turned_over function (plain_core self.old)) }
+        ensures view { self.new.desk.view ≡ self.old.desk.view }
+    {
+        match function {
+            Function::DisplayToggleWeed => {
+                let words = toggle_words(self.desk.alloc, b"weed")?;
+                self.rules.set_by(&words)
+            }
+            _ => Ok(()),
+        }
+    }
+
+    // Does what a function does to the index.
+    fn perform(
+        &mut self,
+        window: Window,
+        archive: &Archive,
+        function: Function,
+    ) -> Result<(), NoMemory>
+        requires window { IsWindow window }
+        requires is_of { IsOf (map plain_letter archive.now.items) self.old.desk.view }
+        ensures { OnOk result (Stands (map plain_letter archive.now.items)
+            (spec.performed_in window (map plain_letter archive.now.items) function
+            (plain_core self.old)) self.new) }
+    {
+        let rule = self.rule(window);
+        self.desk.perform(rule, archive, function)
+    }
+
     /// Does what keys have come to.
     #[tactic(auto, unfolding(crate::specs::Acting::acted))]
     pub fn act(&mut self, window: Window, archive: &Archive, press: Press) -> Result<(), NoMemory>
@@ -51,8 +98,8 @@ impl Core {
                 Ok(())
             }
             Press::Function(function) => {
-                let rule = self.rule(window);
-                self.desk.perform(rule, archive, function)
+                self.turn_over(function)?;
+                self.perform(window, archive, function)
             }
             Press::Loop => {
                 self.desk.say(Notice::MacroLoop);

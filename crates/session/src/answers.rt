@@ -10,7 +10,7 @@ use patterns_match::Pattern;
 use people::Verdicts;
 use prompts::Asking;
 use session_index::{Message, Wanted};
-use session_screen::{Window, options_of, sort_words, text_of};
+use session_screen::{Window, options_of, sort_words};
 use session_state::{Instant, Moment, Told, read_at, run_typed};
 use std::alloc::Global;
 
@@ -23,8 +23,8 @@ fn is_no_limit(text: &[u8]) -> bool
 
 impl Core {
     ghost use Rattle.std.specs.Prelude.{◌≡◌, Some, List, map, OnOk};
-    ghost use Rattle.folder_core.specs.Letters.{plain_letter};
-    ghost use Rattle.index_view.specs.Limit.{plain_limit};
+    ghost use Rattle.folder_letters.specs.Letters.{plain_letter};
+    ghost use Rattle.patterns_match.specs.Pattern.{plain_pattern};
     ghost use Rattle.index_view.specs.View.{IsOf};
     ghost use Rattle.people.specs.Judged.{PlainJudged};
     ghost use Rattle.session_index.specs.Desk.{plain_wanted};
@@ -45,7 +45,7 @@ impl Core {
     {
         let mut line = Line::new(self.desk.alloc);
         line.append("bad pattern: ")?;
-        line.append(text_of(text))?;
+        line.append(text.as_str())?;
         self.desk.message = Message::Text(line);
         Ok(())
     }
@@ -72,7 +72,7 @@ impl Core {
         requires { IsOf (map plain_letter archive.now.items) self.old.desk.view }
         ensures { OnOk result (Stands (map plain_letter archive.now.items)
             (spec.pattern_answered (map plain_letter archive.now.items) asking text.items
-            (Some (plain_limit pattern)) (plain_core self.old)) self.new) }
+            (Some (plain_pattern pattern)) (plain_core self.old)) self.new) }
     {
         self.desk.answer(archive, asking, pattern)?;
         self.keep_limit(asking, text);

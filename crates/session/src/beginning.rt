@@ -7,7 +7,7 @@ use folder_core::{Archive, Drivers, Listing};
 use keymap::KeyQueue;
 use mail_base::{Bytes, Kind, Lines, NoMemory, Words};
 use session_events::{Event, Setup, StartError, Trace, open_event};
-use session_screen::{Window, folder_path as path_in, new_kind as kind_in, text_of};
+use session_screen::{Window, folder_path as path_in, new_kind as kind_in};
 use session_state::{Moment, Stage, first_frames};
 use std::alloc::Global;
 
@@ -17,7 +17,7 @@ impl Session {
     ghost use Rattle.mail_base.specs.Series.{Held, plain_texts};
     ghost use Rattle.disk_model.specs.Seen.{Seen};
     ghost use Rattle.patterns.specs.Causes.{Keeps};
-    ghost use Rattle.folder_core.specs.Letters.{plain_letter};
+    ghost use Rattle.folder_letters.specs.Letters.{plain_letter};
     ghost use Rattle.session_screen.specs.Places.{folder_path, new_kind};
     ghost use Rattle.session.specs.Beginning.{AnswersNames};
     ghost use Rattle.session.specs.Calls.{FailsIn, IsSourced, IsUnopened, StartsIn, events_in};
@@ -213,7 +213,7 @@ impl Session {
         let path = path_in(self.alloc, settings, self.named_path())?;
         let name = Bytes::copy_of(self.alloc, path.as_slice())?;
         let empty = kind_in(settings);
-        let path = text_of(&path);
+        let path = path.as_str();
         Ok(open_event(self.alloc, dev, drivers, empty, path, name, moment, archive))
     }
 

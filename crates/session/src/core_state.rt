@@ -11,12 +11,22 @@ use std::alloc::Global;
 
 /// What keys act on: what muttrc has set, the index, the text of its limit, and the files of
 /// commands that are not at their ends.
-#[derive(Drop)]
 pub struct Core {
     pub rules: Rules,
     pub desk: Desk,
     pub limit: Option<Line>,
     pub frames: Vec<Frame>,
+}
+
+impl Drop for Core {
+    fn drop(self) {
+        let Core {
+            rules: _,
+            desk: _,
+            limit: _,
+            frames: _,
+        } = self;
+    }
 }
 
 impl Core {

@@ -1,7 +1,7 @@
 //! How the index learns what commands tell it.
 
 ghost use Rattle.std.specs.Prelude.{map, OnOk};
-ghost use Rattle.folder_core.specs.Letters.{plain_letter};
+ghost use Rattle.folder_letters.specs.Letters.{plain_letter};
 ghost use Rattle.index_view.specs.View.{IsOf};
 ghost use Rattle.patterns_match.specs.ScoreEntries.{held_entry};
 ghost use Rattle.session.specs.Answers as spec;
@@ -30,7 +30,7 @@ fn add_score(view: &mut View, archive: &Archive, entry: ScoreEntry) -> Result<()
 
 impl Core {
     ghost use Rattle.std.specs.Prelude.{◌≡◌, map, OnOk};
-    ghost use Rattle.folder_core.specs.Letters.{plain_letter};
+    ghost use Rattle.folder_letters.specs.Letters.{plain_letter};
     ghost use Rattle.index_view.specs.View.{IsOf};
     ghost use Rattle.session.specs.Answers as spec;
     ghost use Rattle.session.specs.Core.{Stands, plain_core};

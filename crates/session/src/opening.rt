@@ -8,7 +8,7 @@ use session_index::first_found;
 
 impl Core {
     ghost use Rattle.std.specs.Prelude.{map, OnOk};
-    ghost use Rattle.folder_core.specs.Letters.{plain_letter};
+    ghost use Rattle.folder_letters.specs.Letters.{plain_letter};
     ghost use Rattle.session_events.specs.Happened.{IsFresh};
     ghost use Rattle.session.specs.Core.{IsEmpty, Stands, plain_core};
     ghost use Rattle.session.specs.Opening.{opened};

@@ -1,7 +1,7 @@
 //! The screen: the page of the index that holds the cursor, the status line and the last line.
 
 ghost use Rattle.std.specs.Prelude.{◌≡◌, length, map, IfOk};
-ghost use Rattle.folder_core.specs.Letters.{plain_letter};
+ghost use Rattle.folder_letters.specs.Letters.{plain_letter};
 ghost use Rattle.index_view.specs.View.{IsOf};
 ghost use Rattle.mail_base.specs.Series.{plain_texts};
 ghost use Rattle.session.specs.Core.{plain_core};
@@ -10,10 +10,11 @@ ghost use Rattle.session_index.specs.Desk.{message_text as text_of_message};
 ghost use Rattle.session_screen.specs.Window.{IsWindow};
 
 use crate::core_state::Core;
+use expando::cut;
 use folder_core::Archive;
 use mail_base::{Line, Lines, NoMemory};
 use session_index::Message;
-use session_screen::{Banner, Place, Window, cut, page_lines, status_line, text_of};
+use session_screen::{Banner, Place, Window, page_lines, status_line};
 use std::alloc::Global;
 
 // The text of the last line where no prompt stands.
@@ -23,7 +24,7 @@ fn message_text(message: &Message) -> &str
     match message {
         Message::Blank => "",
         Message::Says(notice) => notice.text(),
-        Message::Text(line) => text_of(line),
+        Message::Text(line) => line.as_str(),
     }
 }
 
@@ -34,7 +35,7 @@ fn last_line(alloc: Global, core: &Core, cols: usize) -> Result<Line, NoMemory>
     match &core.desk.prompt {
         Some(prompt) => {
             let shown = prompt.shown(alloc)?;
-            cut(alloc, text_of(&shown), cols)
+            cut(alloc, shown.as_str(), cols)
         }
         None => cut(alloc, message_text(&core.desk.message), cols),
     }

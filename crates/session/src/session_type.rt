@@ -20,7 +20,6 @@ use session_state::{Frame, Moment, Stage, Told, add_notes, read_first, skip_firs
 use std::alloc::Global;
 
 /// What a run stands on between its events.
-#[derive(Drop)]
 pub struct Session {
     pub alloc: Global,
     pub core: Core,
@@ -38,11 +37,29 @@ pub struct Session {
     pub named: Option<Bytes>,
 }
 
+impl Drop for Session {
+    fn drop(self) {
+        let Session {
+            alloc: _,
+            core: _,
+            queue: _,
+            stage: _,
+            window: _,
+            path: _,
+            kind: _,
+            listing: _,
+            checked: _,
+            moment: _,
+            named: _,
+        } = self;
+    }
+}
+
 impl Session {
     ghost use Rattle.std.specs.Prelude.{◌≡◌, ◌<◌, ◌++◌, ℕ, ℤ, List, OnOk, MatchOption};
     ghost use Rattle.std.specs.Prelude.{map};
     ghost use Rattle.mail_base.specs.Series.{Held, plain_texts};
-    ghost use Rattle.folder_core.specs.Letters.{plain_letter};
+    ghost use Rattle.folder_letters.specs.Letters.{plain_letter};
     ghost use Rattle.index_view.specs.View.{IsOf};
     ghost use Rattle.patterns.specs.Causes.{Keeps};
     ghost use Rattle.people.specs.Judged.{PlainJudged};

@@ -4,7 +4,6 @@ use crate::session_type::Session;
 use disk_model::Device;
 use mail_base::{Bytes, NoMemory};
 use session_events::{Event, Trace, source_event};
-use session_screen::text_of;
 
 impl Session {
     ghost use Rattle.std.specs.Prelude.{◌≡◌, ℕ, ℤ, false, IfOk, IfSome, MatchOption, OnOk};
@@ -35,7 +34,7 @@ impl Session {
             return Ok(None);
         };
         let name = Bytes::copy_of(self.alloc, file.as_slice())?;
-        Ok(Some(source_event(self.alloc, dev, text_of(file), name)))
+        Ok(Some(source_event(self.alloc, dev, file.as_str(), name)))
     }
 
     /// Reads all files of commands that are wished, each with those that it names.

@@ -2,7 +2,7 @@
 
 ghost use Rattle.std.specs.Prelude.{◌≡◌, ◌≢◌, ◌≤◌, ◌<◌, ◌^◌, ◌+◌, ℤ, None, List, [], nat_lt};
 ghost use Rattle.std.specs.Prelude.{IfOk, MatchOption, OnOk, length, map};
-ghost use Rattle.folder_core.specs.Letters.{plain_letter};
+ghost use Rattle.folder_letters.specs.Letters.{plain_letter};
 ghost use Rattle.index_view.specs.View.{IsOf};
 ghost use Rattle.keymap.specs.Queue.{most_replacements};
 ghost use Rattle.people.specs.Judged.{PlainJudged};

@@ -11,7 +11,7 @@ use Rattle.disk_model.proofs.Looking.{looked_longer}
 use Rattle.disk_model.proofs.Marks.{tree_at-longer}
 use Rattle.folder_core.specs.Kinds.{IsKindSeen, KindSeen, WasKind, kind_at}
 use Rattle.folder_core.specs.Known.{KnownFolder}
-use Rattle.folder_core.specs.Letters.{Mail}
+use Rattle.folder_letters.specs.Letters.{Mail}
 use Rattle.folder_core.specs.Reads.{format_of}
 use Rattle.folder_core.specs.Scanned.{Saw}
 use Rattle.folder_core.proofs.SeenLemmas.{goes_as, goes_then, longer_later}
@@ -19,7 +19,7 @@ use Rattle.folder_core.specs.declared.error.ScanError.{ScanError}
 use Rattle.folder_core.specs.declared.error.ScanError.TheVariants.{Missing, NotMailbox, TooMany}
 use Rattle.folder_core.specs.declared.error.ScanError.TheVariants.{TooLarge, Unfinished}
 use Rattle.folder_core.specs.declared.error.ScanError.TheVariants.{ArchiveFull, Fault, NoMemory}
-use Rattle.folder_core.specs.declared.listing.Found.{Found}
+use Rattle.folder_letters.specs.declared.listing.Found.{Found}
 use Rattle.session_events.specs.declared.event.OpenFault.TheVariants.{Folder}
 use Rattle.session_events.specs.Happened.{WasNotListed, WasOpened, WasRefused}
 

@@ -2,7 +2,7 @@
 use Rattle.std.specs.Prelude.{ℕ, ℤ, List, [], ◌∷◌, map}
 use Rattle.mail_base.specs.declared.kind.Kind.{Kind}
 use Rattle.disk_model.specs.declared.answers.DiskError.{DiskError}
-use Rattle.folder_core.specs.declared.listing.Listed.{Listed}
+use Rattle.folder_letters.specs.declared.listing.Listed.{Listed}
 use Rattle.keymap.specs.declared.key.Key.{Key}
 use Rattle.session_events.specs.declared.event.Event.{Event}
 use Rattle.session_events.specs.declared.event.Event.TheVariants.{Sourced, NotSourced, Pressed}
@@ -20,6 +20,7 @@ pub data Happening : Type 0 where
       → (marks : Marks) → Happening
   FolderRefused : (path : List ℕ) → (why : OpenFault) → (marks : Marks) → Happening
 
+-- an event as contracts see it
 abbrev pub plain_event : Event → Happening
 plain_event (Sourced path text marks) = FileRead path.items text.items marks
 plain_event (NotSourced path why marks) = FileRefused path.items why marks
@@ -40,6 +41,7 @@ IsFile (KeyPressed key moment) = ⊥
 IsFile (FolderOpened path kind moment came marks) = ⊥
 IsFile (FolderRefused path why marks) = ⊥
 
+-- all of these are events of files
 abbrev pub AreFiles : List Happening → Type 0
 AreFiles [] = Unit {0}
 AreFiles (event ∷ events) = IsFile event × AreFiles events

@@ -11,12 +11,13 @@ use Rattle.disk_model.specs.declared.answers.DiskError.TheVariants as disk
 use Rattle.disk_model.specs.declared.answers.Stat.{Stat}
 use Rattle.folder_core.specs.Kinds.{IsKindSeen, WasKind}
 use Rattle.folder_core.specs.Known.{KnownFolder}
-use Rattle.folder_core.specs.Letters.{Mail}
+use Rattle.folder_letters.specs.Letters.{Mail}
 use Rattle.folder_core.specs.Reads.{format_of}
-use Rattle.folder_core.specs.Scanned.{IsFound, ids_from}
+use Rattle.folder_core.specs.Scanned.{IsFound}
+use Rattle.folder_letters.specs.Listings.{ids_from}
 use Rattle.folder_core.specs.declared.error.ScanError.{ScanError}
 use Rattle.folder_core.specs.declared.error.ScanError.TheVariants.{ArchiveFull, Fault, NoMemory}
-use Rattle.folder_core.specs.declared.listing.Listed.{Listed}
+use Rattle.folder_letters.specs.declared.listing.Listed.{Listed}
 use Rattle.session_events.specs.Events.{Happening, FileRead, FileRefused, KeyPressed, FolderOpened}
 use Rattle.session_events.specs.Events.{FolderRefused}
 use Rattle.session_events.specs.declared.event.Marks.{Marks}
@@ -118,32 +119,39 @@ IsTrueAt Has empty archive event (Some marks) past =
     Happened Has empty archive event (past_at past marks.mark_before)
     (past_at past marks.mark_after)
 
--- Each event begins at the mark and with the faults with which the one before it ended.
+-- Each event begins at the mark and with the faults with which the one before it ended, and neither
+-- falls.
 pub record Counts : Type 0 where
   pub mark : ℕ
   pub faults : ℕ
 
+-- the mark and the faults behind an event
 abbrev pub counts_after : Counts → Option Marks → Counts
 counts_after counts None = counts
 counts_after counts (Some marks) = record { mark = marks.mark_after; faults = marks.faults_after }
 
+-- an event begins where the one before it ended
 pub record Begins (Has : Kind → Type 0) (counts : Counts) (event : Happening)
     (marks : Marks) : Type 0 where
   pub mark : marks.mark_before ≡ counts.mark
   pub faults : marks.faults_before ≡ counts.faults
   pub on : marks.mark_before ≤ marks.mark_after
+  pub faults_on : marks.faults_before ≤ marks.faults_after
   pub cause : HasCause Has event marks
 
+-- an event in which the device was used begins so
 abbrev pub IsCounted : (Kind → Type 0) → Counts → Happening → Option Marks → Type 0
 IsCounted Has counts event None = Unit {0}
 IsCounted Has counts event (Some marks) = Begins Has counts event marks
 
+-- each event begins where the one before it ended
 abbrev pub AllCounted : (Kind → Type 0) → Counts → List Happening → Type 0
 AllCounted Has counts [] = Unit {0}
 AllCounted Has counts (event ∷ events) =
     IsCounted Has counts event (marks_of event)
     × AllCounted Has (counts_after counts (marks_of event)) events
 
+-- the mark and the faults behind events
 abbrev pub counts_at : Counts → List Happening → Counts
 counts_at counts [] = counts
 counts_at counts (event ∷ events) = counts_at (counts_after counts (marks_of event)) events

@@ -1,7 +1,7 @@
 //! The opening of a folder, with its event.
 
 ghost use Rattle.std.specs.Prelude.{◌≡◌, [], Any, map};
-ghost use Rattle.folder_core.specs.Letters.{plain_letter};
+ghost use Rattle.folder_letters.specs.Letters.{plain_letter};
 ghost use Rattle.session_events.specs.Events.{plain_event};
 ghost use Rattle.session_events.specs.Happened.{IsListed};
 ghost use Rattle.session_events.specs.Opening.{IsOpening, ReadsFolder};

@@ -1,7 +1,7 @@
 -- Where no act changes what is seen, acts one after the other are one change.
 use Rattle.std.proofs.Common.{◌≡◌, ◌∙◌, List, [], ◌∷◌, None, Option, Some, ap, refl, slice_get}
 use Rattle.std.proofs.Common.{subst, sym}
-use Rattle.folder_core.specs.Letters.{Mail}
+use Rattle.folder_letters.specs.Letters.{Mail}
 use Rattle.mail_base.specs.declared.kind.Id.{Id}
 use Rattle.index_items.specs.Acts.{acted_all as all_acted_items}
 use Rattle.index_items.specs.declared.act.Act.{Act}

@@ -10,7 +10,7 @@ use Rattle.patterns_match.specs.Trees.{Leaf, Tells, Searches, Dated, Counts, Tre
 use Rattle.patterns_match.specs.Trees.{Or, Group, Related}
 use Rattle.patterns_match.specs.declared.letter.Mark.{Mark}
 use Rattle.patterns_match.specs.declared.letter.Mark.TheVariants as mark
-use Rattle.index_view.specs.Limit.{PlainLimit}
+use Rattle.patterns_match.specs.Pattern.{PlainPattern}
 use Rattle.index_view.proofs.OneLemmas.{IsOwn}
 use Rattle.index_view.proofs.StillLemmas.{bare}
 use Rattle.session_index.specs.Hiding.{is_alone, limit_is_alone}
@@ -68,7 +68,7 @@ module _ (people : PlainPeople) (offset : ℤ) (ms ns : List Message)
   tree_alike (Group t) h = tree_alike t h
   tree_alike (Related r t) h = absurd (false≢true h)
 
-pub limit_own : (limit : Option PlainLimit) → limit_is_alone limit ≡ true → IsOwn limit
+pub limit_own : (limit : Option PlainPattern) → limit_is_alone limit ≡ true → IsOwn limit
 limit_own None h people ms ns same p here = refl
 limit_own (Some limit) h people ms ns same p here =
     tree_alike people limit.offset ms ns same p here limit.tree h

@@ -2,11 +2,11 @@
 use Rattle.std.proofs.Common.{◌≡◌, ◌∙◌, Bool, List, None, Option, Some, ap, false, refl, subst, sym}
 use Rattle.std.proofs.Common.{true}
 use Rattle.std.specs.Prelude.{if◌then◌else◌, option_map}
-use Rattle.folder_core.specs.Letters.{Mail}
+use Rattle.folder_letters.specs.Letters.{Mail}
 use Rattle.mail_base.specs.declared.kind.Id.{Id}
 use Rattle.index_listed.specs.Cursor.{is_seen}
 use Rattle.index_view.specs.Answers.{PlainAnswers}
-use Rattle.index_view.specs.Limit.{PlainLimit, plain_limit}
+use Rattle.patterns_match.specs.Pattern.{PlainPattern, plain_pattern}
 use Rattle.index_view.specs.View.{IsOf, PlainView, facts_of, messages_over, moved_to, visible_of}
 use Rattle.index_view.proofs.ViewLemmas.{moved_of}
 use Rattle.patterns_match.specs.declared.pattern.Pattern.{Pattern}
@@ -72,7 +72,7 @@ module _ (mails : List Mail) (d : Desk) (is : IsOf mails d.view) where
       ap (λ (a : PlainAnswers). way m rule.page a d.view.cursor) is.answered
 
   -- where a search leads
-  pub search_leads : (pattern : PlainLimit)
+  pub search_leads : (pattern : PlainPattern)
       → search_way mails pattern d.view ≡ way_searched mails pattern (plain_desk d)
   search_leads pattern = ap (λ (a : PlainAnswers). way_found d.view.people pattern
       (messages_over mails (facts_of d.view)) a (place_of (seen a) d.view.cursor)) is.answered
@@ -111,16 +111,16 @@ module _ (mails : List Mail) (d : Desk) (is : IsOf mails d.view) (kept pattern :
 
   -- a search that stands there already is made again
   pub searches_again : d.search ≡ Some pattern
-      → went mails (search_way mails (plain_limit pattern) d.view) (plain_desk keeping)
-      ≡ searched mails (option_map plain_limit d.search) (plain_desk d)
+      → went mails (search_way mails (plain_pattern pattern) d.view) (plain_desk keeping)
+      ≡ searched mails (option_map plain_pattern d.search) (plain_desk d)
   searches_again stands =
-      (λ i. went mails (search_leads mails d is (plain_limit pattern) i)
+      (λ i. went mails (search_leads mails d is (plain_pattern pattern) i)
       (plain_desk (record d { search = (ap Some same ∙ sym stands) i })))
-      ∙ (λ i. searched mails (option_map plain_limit (sym stands i)) (plain_desk d))
+      ∙ (λ i. searched mails (option_map plain_pattern (sym stands i)) (plain_desk d))
 
   -- a search is kept and made
   pub searches_first :
-      went mails (search_way mails (plain_limit pattern) d.view) (plain_desk keeping)
-      ≡ searched_for mails (plain_limit pattern) (plain_desk d)
-  searches_first = λ i. went mails (search_leads mails d is (plain_limit pattern) i)
+      went mails (search_way mails (plain_pattern pattern) d.view) (plain_desk keeping)
+      ≡ searched_for mails (plain_pattern pattern) (plain_desk d)
+  searches_first = λ i. went mails (search_leads mails d is (plain_pattern pattern) i)
       (plain_desk (record d { search = Some (same i) }))

@@ -1,6 +1,6 @@
 -- Views that were given other facts show the index that was given them.
 use Rattle.std.proofs.Common.{◌≡◌, ◌∙◌, ap, List, refl}
-use Rattle.folder_core.specs.Letters.{Mail}
+use Rattle.folder_letters.specs.Letters.{Mail}
 use Rattle.index_view.specs.Answers.{Facts}
 use Rattle.index_listed.specs.Cursor.{moved, moved_by_shutting}
 use Rattle.index_view.specs.View.{Folded, IsOf, PlainView, Turned, answers_over, facts_of}

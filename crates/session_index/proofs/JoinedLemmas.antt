@@ -12,10 +12,10 @@ use Rattle.std.specs.List.{All, IsDistinct}
 use Rattle.std.specs.List.Sorted.{IsPermutation, IsSortedBy}
 use Rattle.std.specs.Ordering.{is_lt, nat_cmp, ordering_then}
 use Rattle.std.specs.declared.cmp.Ordering.{Ordering}
-use Rattle.folder_core.specs.Letters.{Mail}
-use Rattle.folder_core.specs.Ordered.{IsIn, in_order_by, put_by}
-use Rattle.folder_core.specs.declared.listing.Found.{Found}
-use Rattle.folder_core.proofs.OrderedLemmas.{in_order_permutation, in_order_same, sorted_falls}
+use Rattle.folder_letters.specs.Letters.{Mail}
+use Rattle.mail_base.specs.Ordered.{IsIn, in_order_by, put_by}
+use Rattle.folder_letters.specs.declared.listing.Found.{Found}
+use Rattle.mail_base.proofs.OrderedLemmas.{in_order_permutation, in_order_same, sorted_falls}
 use Rattle.index_items.specs.Found.{IsJoined, came_items, is_listed_before, kept_items, key_at}
 use Rattle.index_items.specs.Found.{order_at}
 use Rattle.index_items.specs.Items.{PlainItem, numbers}

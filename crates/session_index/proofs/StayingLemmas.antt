@@ -25,7 +25,8 @@ use Rattle.patterns_match.specs.declared.letter.Number.{Number}
 use Rattle.patterns_match.specs.declared.letter.Number.TheVariants as number
 use Rattle.patterns_match.specs.declared.relation.Relation.{Relation}
 use Rattle.patterns_match.specs.declared.relation.Relation.TheVariants.{Thread, Parent, Child}
-use Rattle.index_view.specs.Limit.{PlainLimit, all_within, is_within}
+use Rattle.index_view.specs.Limit.{all_within, is_within}
+use Rattle.patterns_match.specs.Pattern.{PlainPattern}
 use Rattle.index_view.proofs.StillLemmas.{AreBlind, IsBlind, bare, each_same}
 use Rattle.session_index.specs.Staying.{entries_stay, leaf_stays, limit_stays, mark_stays, stays}
 
@@ -151,7 +152,7 @@ module _ (people : PlainPeople) (offset : ℤ) (ms : List Message) where
       ∙ ap (λ n. list_any (λ other. are_related ms r p other && satisfies people offset ms t other)
       (range_with_len 0 n)) (length-map ms bare)
 
-within_bare : (limit : Option PlainLimit) → limit_stays limit ≡ true → (people : PlainPeople)
+within_bare : (limit : Option PlainPattern) → limit_stays limit ≡ true → (people : PlainPeople)
     (ms : List Message) → all_within people limit (map bare ms) ≡ all_within people limit ms
 within_bare None h people ms =
     ap (λ n. map (λ (p : ℕ). true) (range_with_len 0 n)) (length-map ms bare)
@@ -160,7 +161,7 @@ within_bare (Some limit) h people ms =
     (range_with_len 0 (length (map bare ms))) (tree_same people limit.offset ms limit.tree h)
     ∙ ap (λ n. map (is_within people (Some limit) ms) (range_with_len 0 n)) (length-map ms bare)
 
-pub limit_blind : (limit : Option PlainLimit) → limit_stays limit ≡ true → IsBlind limit
+pub limit_blind : (limit : Option PlainPattern) → limit_stays limit ≡ true → IsBlind limit
 limit_blind limit h people ms ns same =
     sym (within_bare limit h people ms) ∙ ap (all_within people limit) same
     ∙ within_bare limit h people ns

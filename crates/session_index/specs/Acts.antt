@@ -1,6 +1,6 @@
 -- What is done to messages.
 use Rattle.std.specs.Prelude.{List, [], ◌∷◌}
-use Rattle.folder_core.specs.Letters.{Mail}
+use Rattle.folder_letters.specs.Letters.{Mail}
 use Rattle.mail_base.specs.declared.kind.Id.{Id}
 use Rattle.index_items.specs.Acts.{acted as acted_item}
 use Rattle.index_items.specs.Alteration.{alter_at}

@@ -1,9 +1,9 @@
 -- What answers to prompts do.
 use Rattle.std.specs.Prelude.{[], ◌∷◌, ℕ, List, Option, None, Some, if◌then◌else◌, ◌==◌}
-use Rattle.folder_core.specs.Letters.{Mail}
+use Rattle.folder_letters.specs.Letters.{Mail}
 use Rattle.mail_base.specs.declared.kind.Id.{Id}
 use Rattle.index_view.specs.Answers.{picked}
-use Rattle.index_view.specs.Limit.{PlainLimit}
+use Rattle.patterns_match.specs.Pattern.{PlainPattern}
 use Rattle.index_view.specs.View.{messages_over}
 use Rattle.session_index.specs.Desk.{PlainDesk}
 use Rattle.session_index.specs.Effects.{done_to, run_effects, search_way, went, with_index}
@@ -20,25 +20,26 @@ use Rattle.session_index.specs.declared.effect.Scope.TheVariants.{Meant}
 use Rattle.session_index.specs.declared.rule.Rule.{Rule}
 
 -- the messages that are seen and satisfy a pattern
-abbrev pub matching : List Mail → PlainLimit → PlainIndex → List Id
+abbrev pub matching : List Mail → PlainPattern → PlainIndex → List Id
 matching mails pattern i =
     picked i.facts.people pattern (messages_over mails i.facts) (answers_of mails i)
 
-abbrev pub done_matching : List Mail → Act → PlainLimit → PlainDesk → PlainDesk
+-- this is done to all that a pattern finds
+abbrev pub done_matching : List Mail → Act → PlainPattern → PlainDesk → PlainDesk
 done_matching mails act pattern d = done_to mails act (matching mails pattern d.index) d
 
 -- another limit, or none
-abbrev pub limited : List Mail → Option PlainLimit → PlainDesk → PlainDesk
+abbrev pub limited : List Mail → Option PlainPattern → PlainDesk → PlainDesk
 limited mails limit d =
     with_index (given mails (record d.index.facts { limit = limit }) d.index) d
 
 -- a search is kept, and the cursor goes where it leads
-abbrev pub searched_for : List Mail → PlainLimit → PlainDesk → PlainDesk
+abbrev pub searched_for : List Mail → PlainPattern → PlainDesk → PlainDesk
 searched_for mails pattern d =
     went mails (search_way mails pattern d) (record d { search = Some pattern })
 
 -- a pattern is answered to a prompt
-abbrev pub answered : List Mail → Asking → PlainLimit → PlainDesk → PlainDesk
+abbrev pub answered : List Mail → Asking → PlainPattern → PlainDesk → PlainDesk
 answered mails asking.Delete pattern d = done_matching mails (Set mark.Deleted) pattern d
 answered mails asking.Undelete pattern d = done_matching mails (Clear mark.Deleted) pattern d
 answered mails asking.Tag pattern d = done_matching mails (Set mark.Tagged) pattern d
@@ -57,9 +58,11 @@ mark_of key =
     else (if key == 42 then Some mark.Tagged
     else (if key == 33 then Some mark.Flagged else None)))))
 
+-- the effects of what is done to the messages that are meant
 abbrev pub marking : Act → List Effect
 marking act = Do act Meant ∷ Resolve ∷ DropPrefix ∷ []
 
+-- the effects of a mark that was chosen
 abbrev pub chosen_effects : Asking → Option Mark → List Effect
 chosen_effects asking.SetFlag (Some m) = marking (Set m)
 chosen_effects asking.ClearFlag (Some m) = marking (Clear m)

@@ -1,7 +1,7 @@
 -- What keys act on: the index, the last line, a prompt, a search.
 use Rattle.std.specs.Prelude.{◌≡◌, [], ℕ, Bool, List, Option, option_map}
-use Rattle.folder_core.specs.Letters.{Mail}
-use Rattle.index_view.specs.Limit.{PlainLimit, plain_limit}
+use Rattle.folder_letters.specs.Letters.{Mail}
+use Rattle.patterns_match.specs.Pattern.{PlainPattern, plain_pattern}
 use Rattle.index_view.specs.View.{IsOf}
 use Rattle.session_index.specs.Index.{PlainIndex, index_of}
 use Rattle.session_index.specs.Notices.{notice_text}
@@ -20,11 +20,12 @@ pub data PlainWanted : Type 0 where
   ToAnswer : (asking : Asking) → (text : List ℕ) → PlainWanted
   ToChoose : (asking : Asking) → (choice : ℕ) → PlainWanted
 
+-- what keys act on, without the rooms of its lists
 pub record PlainDesk : Type 0 where
   pub index : PlainIndex
   pub message : List ℕ
   pub prompt : Option PlainPrompt
-  pub search : Option PlainLimit
+  pub search : Option PlainPattern
   pub prefix : Bool
   pub read_only : Bool
   pub wanted : PlainWanted
@@ -35,18 +36,20 @@ message_text Blank = []
 message_text (Says notice) = notice_text notice
 message_text (Text line) = line.items
 
+-- what is wanted, as contracts see it
 abbrev pub plain_wanted : Wanted → PlainWanted
 plain_wanted wanted.Unasked = Unasked
 plain_wanted wanted.ToEnd = ToEnd
 plain_wanted (wanted.ToAnswer asking text) = ToAnswer asking text.items
 plain_wanted (wanted.ToChoose asking choice) = ToChoose asking choice
 
+-- a desk as contracts see it
 abbrev pub plain_desk : Desk → PlainDesk
 plain_desk d = record {
   index = index_of d.view;
   message = message_text d.message;
   prompt = d.prompt;
-  search = option_map plain_limit d.search;
+  search = option_map plain_pattern d.search;
   prefix = d.prefix;
   read_only = d.read_only;
   wanted = plain_wanted d.wanted;

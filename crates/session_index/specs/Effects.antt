@@ -2,12 +2,12 @@
 use Rattle.std.specs.Prelude.{◌&&◌, ◌==◌, [], ◌∷◌, Bool, true, false, not, List, Option, None}
 use Rattle.std.specs.Prelude.{Some, length, if◌then◌else◌}
 use Rattle.std.specs.Option.{option_map_or}
-use Rattle.folder_core.specs.Letters.{Mail}
+use Rattle.folder_letters.specs.Letters.{Mail}
 use Rattle.keymap.specs.declared.function.Function.{Function}
 use Rattle.mail_base.specs.declared.kind.Id.{Id}
 use Rattle.index_order.specs.Order.{is_threads}
 use Rattle.index_listed.specs.Cursor.{is_seen}
-use Rattle.index_view.specs.Limit.{PlainLimit}
+use Rattle.patterns_match.specs.Pattern.{PlainPattern}
 use Rattle.index_view.specs.View.{messages_over}
 use Rattle.session_index.specs.Acts.{acted_all}
 use Rattle.session_index.specs.Desk.{PlainDesk, ToEnd}
@@ -41,6 +41,7 @@ use Rattle.session_index.specs.declared.way.Way.TheVariants.{To, Stays}
 abbrev pub said : Notice → PlainDesk → PlainDesk
 said notice d = record d { message = notice_text notice }
 
+-- a desk with another index
 abbrev pub with_index : PlainIndex → PlainDesk → PlainDesk
 with_index i d = record d { index = i }
 
@@ -58,6 +59,7 @@ abbrev pub went_quietly : List Mail → Way → PlainDesk → PlainDesk
 went_quietly mails (To id) d = with_index (at_id mails id d.index) d
 went_quietly mails (Stays notice) d = d
 
+-- where a motion leads
 abbrev pub way_of : Rule → List Mail → Motion → PlainDesk → Way
 way_of rule mails m d = way m rule.page (answers_of mails d.index) d.index.cursor
 
@@ -67,9 +69,11 @@ scope_ids mails scope.Meant d = meant d.prefix (answers_of mails d.index) d.inde
 scope_ids mails scope.Cursor d = ids_of d.index.cursor
 scope_ids mails scope.Thread d = thread_ids (answers_of mails d.index) d.index.cursor
 
+-- this is done to messages, one after the other
 abbrev pub done_to : List Mail → Act → List Id → PlainDesk → PlainDesk
 done_to mails act ids d = with_index (acted_all mails act ids d.index) d
 
+-- the cursor's message is tagged
 abbrev pub is_cursor_tagged : List Mail → PlainDesk → Bool
 is_cursor_tagged mails d =
     option_map_or (shows sought.Tagged (answers_of mails d.index)) d.index.cursor false
@@ -88,19 +92,22 @@ abbrev pub fold_done : List Mail → Bool → PlainDesk → PlainDesk
 fold_done mails all d =
     if_threaded (if all then all_folded mails d.index else thread_folded mails d.index) d
 
+-- a prompt stands
 abbrev pub asked : Asking → PlainDesk → PlainDesk
 asked asking d = record d { prompt = Some (record { asking = asking; typed = [] }) }
 
 -- where a search leads
-abbrev pub search_way : List Mail → PlainLimit → PlainDesk → Way
+abbrev pub search_way : List Mail → PlainPattern → PlainDesk → Way
 search_way mails pattern d = way_found d.index.facts.people pattern
     (messages_over mails d.index.facts) (answers_of mails d.index)
     (place_of (seen_of mails d.index) d.index.cursor)
 
-abbrev pub searched : List Mail → Option PlainLimit → PlainDesk → PlainDesk
+-- the search goes on, or a text is asked for
+abbrev pub searched : List Mail → Option PlainPattern → PlainDesk → PlainDesk
 searched mails None d = asked Search d
 searched mails (Some pattern) d = went mails (search_way mails pattern d) d
 
+-- the next function works on the tagged messages, where some are seen
 abbrev pub begun : List Id → PlainDesk → PlainDesk
 begun ids d = if length ids == 0 then said notice.NoTagged d else record d { prefix = true }
 

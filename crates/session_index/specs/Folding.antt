@@ -1,6 +1,6 @@
 -- How threads are shut and opened.
 use Rattle.std.specs.Prelude.{Bool, not, List, Option, None, Some, find, is_some}
-use Rattle.folder_core.specs.Letters.{Mail}
+use Rattle.folder_letters.specs.Letters.{Mail}
 use Rattle.mail_base.specs.declared.kind.Id.{Id}
 use Rattle.index_items.specs.Alteration.{alter_at, shut}
 use Rattle.index_view.specs.Answers.{PlainAnswers, row, thread_of}
@@ -15,6 +15,7 @@ abbrev pub folded_to : List Mail → Id → Bool → PlainIndex → PlainIndex
 folded_to mails root mark i =
     folded mails (record i.facts { items = alter_at root (shut mark) i.facts.items }) i
 
+-- the thread of a root is shut or opened, by its row
 abbrev pub folded_by : List Mail → Option Id → Option Row → PlainIndex → PlainIndex
 folded_by mails (Some root) (Some r) i = folded_to mails root (not r.collapsed) i
 folded_by mails _ _ i = i
@@ -24,6 +25,7 @@ abbrev pub folded_at : List Mail → Id → PlainIndex → PlainIndex
 folded_at mails id i =
     folded_by mails (thread_of (answers_of mails i) id) (row (answers_of mails i) id) i
 
+-- the thread of a message is shut or opened
 abbrev pub folded_from : List Mail → Option Id → PlainIndex → PlainIndex
 folded_from mails None i = i
 folded_from mails (Some id) i = folded_at mails id i

@@ -7,10 +7,11 @@ use Rattle.patterns_match.specs.Leaves.{every}
 use Rattle.patterns_match.specs.Trees.{Leaf, Tree}
 use Rattle.index_listed.specs.Page.{cursor_place}
 use Rattle.index_view.specs.Answers.{Facts, PlainAnswers, is_open}
-use Rattle.index_view.specs.Limit.{PlainLimit}
+use Rattle.patterns_match.specs.Pattern.{PlainPattern}
 use Rattle.session_index.specs.Shown.{seen}
 use Rattle.session_index.specs.Staying.{entries_stay}
 
+-- a term of any kind
 abbrev pub any_leaf : Leaf → Bool
 any_leaf leaf = true
 
@@ -18,7 +19,8 @@ any_leaf leaf = true
 abbrev pub is_alone : Tree → Bool
 is_alone tree = every any_leaf false tree
 
-abbrev pub limit_is_alone : Option PlainLimit → Bool
+-- the limit asks nothing of other messages
+abbrev pub limit_is_alone : Option PlainPattern → Bool
 limit_is_alone None = true
 limit_is_alone (Some limit) = is_alone limit.tree
 

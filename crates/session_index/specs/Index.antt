@@ -1,6 +1,6 @@
 -- The index as its user has it; what it shows is worked out from scratch.
 use Rattle.std.specs.Prelude.{◌≡◌, List, Option}
-use Rattle.folder_core.specs.Letters.{Mail}
+use Rattle.folder_letters.specs.Letters.{Mail}
 use Rattle.mail_base.specs.declared.kind.Id.{Id}
 use Rattle.people.specs.People.{Alias}
 use Rattle.index_view.specs.Answers.{Facts, PlainAnswers}

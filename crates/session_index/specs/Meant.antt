@@ -7,6 +7,7 @@ use Rattle.session_index.specs.Shown.{seen, shows}
 use Rattle.session_index.specs.Neighbours.{root_of}
 use Rattle.session_index.specs.declared.sought.Sought.TheVariants.{Tagged}
 
+-- the cursor's message, if it stands on one
 abbrev pub ids_of : Option Id → List Id
 ids_of None = []
 ids_of (Some id) = id ∷ []

@@ -23,6 +23,7 @@ use Rattle.session_index.specs.declared.sought.Sought.TheVariants as sought
 use Rattle.session_index.specs.declared.way.Way.{Way}
 use Rattle.session_index.specs.declared.way.Way.TheVariants.{To, Stays}
 
+-- to a message, or a text why not
 abbrev pub way_or : Notice → Option Id → Way
 way_or text None = Stays text
 way_or text (Some id) = To id
@@ -45,9 +46,11 @@ abbrev pub page_before : ℕ → ℕ → List Id → Option Id
 page_before size p ids =
     if nat_lt p size then None else slice_get ids (p / size * size - size)
 
+-- the first message of the next page
 abbrev pub page_behind : ℕ → ℕ → List Id → Option Id
 page_behind size p ids = slice_get ids (p / size * size + size)
 
+-- to the parent, where it is seen
 abbrev pub way_to_parent : List Id → Option Parent → Way
 way_to_parent ids None = Stays notice.NoParent
 way_to_parent ids (Some parent) =
@@ -72,6 +75,7 @@ way_from PreviousThread size a ids p id =
     way_or notice.NoThread (thread_beside true (root_of a) ids id)
 way_from ToParent size a ids p id = way_to_parent ids (parent_of a id)
 
+-- where a motion leads from a place, if the cursor has one
 abbrev pub way_at : Motion → ℕ → PlainAnswers → Id → Option ℕ → Way
 way_at motion size a id None = Stays notice.NoMessages
 way_at motion size a id (Some p) = way_from motion size a (seen a) p id

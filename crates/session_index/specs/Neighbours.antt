@@ -11,6 +11,7 @@ use Rattle.index_view.specs.Answers.{PlainAnswers, thread_of}
 abbrev pub root_of : PlainAnswers → Id → ℕ
 root_of a id = option_map_or (λ r. r.0) (thread_of a id) 0
 
+-- numbers with one more, each once
 abbrev pub with_number : List ℕ → ℕ → List ℕ
 with_number known n = if list_any (nat_eq n) known then known else known ++ n ∷ []
 
@@ -28,6 +29,7 @@ abbrev pub number_beside : Bool → List ℕ → ℕ → Option ℕ
 number_beside back all p =
     if back then (if nat_lt 0 p then slice_get all (p - 1) else None) else slice_get all (p + 1)
 
+-- the root before or behind another
 abbrev pub root_beside : Bool → List ℕ → ℕ → Option ℕ
 root_beside back all n = option_and_then (number_beside back all) (position (nat_eq n) all)
 

@@ -7,6 +7,7 @@ use Rattle.session_index.specs.declared.notice.Notice.TheVariants.{NoParent, Par
 use Rattle.session_index.specs.declared.notice.Notice.TheVariants.{NotFound, NotThreaded, ReadOnly}
 use Rattle.session_index.specs.declared.notice.Notice.TheVariants.{NotBound, MacroLoop}
 
+-- what the last line says (Mutt's manual, "Functions")
 abbrev pub notice_text : Notice → List ℕ
 notice_text NoMessages = codes "There are no messages."
 notice_text NoUndeleted = codes "No undeleted messages."

@@ -1,10 +1,10 @@
 -- What a listing that changed, and other options, make of the index.
 use Rattle.std.specs.Prelude.{◌-◌, ◌++◌, List, Option, None, Some, find, length, slice_get}
 use Rattle.std.specs.Option.{option_or}
-use Rattle.folder_core.specs.Letters.{Mail}
-use Rattle.folder_core.specs.declared.listing.Found.{Found}
+use Rattle.folder_letters.specs.Letters.{Mail}
+use Rattle.folder_letters.specs.declared.listing.Found.{Found}
 use Rattle.mail_base.specs.declared.kind.Id.{Id}
-use Rattle.folder_core.specs.Ordered.{in_order_by}
+use Rattle.mail_base.specs.Ordered.{in_order_by}
 use Rattle.index_items.specs.Found.{came_items, is_listed_before, kept_items}
 use Rattle.index_items.specs.Items.{PlainItem}
 use Rattle.index_order.specs.declared.view_options.ViewOptions.{ViewOptions}
@@ -36,6 +36,7 @@ abbrev pub first_of : PlainAnswers → List Id → Option Id
 first_of a ids = option_or (find (shows New a) ids)
     (option_or (find (shows Unread a) ids) (slice_get ids (length ids - 1)))
 
+-- the cursor at a message, if there is one
 abbrev pub at_first : List Mail → Option Id → PlainIndex → PlainIndex
 at_first mails None i = i
 at_first mails (Some id) i = at_id mails id i

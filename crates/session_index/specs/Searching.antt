@@ -1,11 +1,11 @@
 -- Searches among the messages that are seen.
 use Rattle.std.specs.Prelude.{[], ◌∷◌, ℕ, List, Option, None, Some, find, nat_eq}
 use Rattle.std.specs.Prelude.{if◌then◌else◌}
-use Rattle.folder_core.specs.Letters.{Mail}
+use Rattle.folder_letters.specs.Letters.{Mail}
 use Rattle.mail_base.specs.declared.kind.Id.{Id}
 use Rattle.index_listed.specs.Places.{place_in}
 use Rattle.index_view.specs.Answers.{PlainAnswers, id_passes}
-use Rattle.index_view.specs.Limit.{PlainLimit}
+use Rattle.patterns_match.specs.Pattern.{PlainPattern}
 use Rattle.index_view.specs.View.{PlainView, facts_of, messages_over}
 use Rattle.patterns_match.specs.Listings.{Message}
 use Rattle.people.specs.People.{PlainPeople}
@@ -16,21 +16,23 @@ use Rattle.session_index.specs.declared.way.Way.{Way}
 use Rattle.session_index.specs.declared.way.Way.TheVariants.{Stays}
 
 -- the next message that satisfies a pattern, from the one behind a place on, going round
-abbrev pub found_from : PlainPeople → PlainLimit → List Message → PlainAnswers → ℕ → Option Id
+abbrev pub found_from : PlainPeople → PlainPattern → List Message → PlainAnswers → ℕ → Option Id
 found_from people pattern messages a p =
     find (id_passes people pattern messages a) (round p (seen a))
 
-abbrev pub way_found : PlainPeople → PlainLimit → List Message → PlainAnswers → Option ℕ → Way
+-- where a search leads from a place, if the cursor has one
+abbrev pub way_found : PlainPeople → PlainPattern → List Message → PlainAnswers → Option ℕ → Way
 way_found people pattern messages a None = Stays notice.NoMessages
 way_found people pattern messages a (Some p) =
     way_or notice.NotFound (found_from people pattern messages a p)
 
+-- the place of the cursor in what is seen
 abbrev pub place_of : List Id → Option Id → Option ℕ
 place_of ids None = None
 place_of ids (Some id) = place_in ids id
 
 -- where a search leads
-abbrev pub search_way : List Mail → PlainLimit → PlainView → Way
+abbrev pub search_way : List Mail → PlainPattern → PlainView → Way
 search_way mails pattern v = way_found v.people pattern (messages_over mails (facts_of v))
     v.answers (place_of (seen v.answers) v.cursor)
 

@@ -1,6 +1,7 @@
 -- What is shown of messages, by their ids.
-use Rattle.std.specs.Prelude.{◌&&◌, Bool, false, not, List}
+use Rattle.std.specs.Prelude.{Bool, false, not, List}
 use Rattle.std.specs.Option.{option_map_or}
+use Rattle.mail_base.specs.Flags as flags
 use Rattle.mail_base.specs.declared.kind.Id.{Id}
 use Rattle.index_view.specs.Answers.{PlainAnswers, row}
 use Rattle.index_listed.specs.Seen.{visible_ids}
@@ -18,8 +19,8 @@ seen a = visible_ids a.sight
 abbrev pub is_so : Sought → Row → Bool
 is_so Undeleted r = not r.deleted
 is_so Deleted r = r.deleted
-is_so New r = not r.flags.seen && not r.flags.aged
-is_so Old r = not r.flags.seen && r.flags.aged
+is_so New r = flags.is_new r.flags
+is_so Old r = flags.is_old r.flags
 is_so Unread r = not r.flags.seen
 is_so Flagged r = r.flags.flagged
 is_so Tagged r = r.tagged

@@ -7,8 +7,9 @@ use Rattle.patterns_match.specs.Trees.{Leaf, Tells, Searches, Dated, Counts, Tre
 use Rattle.patterns_match.specs.declared.letter.Mark.{Mark}
 use Rattle.patterns_match.specs.declared.letter.Mark.TheVariants as mark
 use Rattle.index_view.specs.Answers.{Facts}
-use Rattle.index_view.specs.Limit.{PlainLimit}
+use Rattle.patterns_match.specs.Pattern.{PlainPattern}
 
+-- a term without an argument does not hang on flags and tags
 abbrev pub mark_stays : Mark → Bool
 mark_stays mark.Deleted = false
 mark_stays mark.Flagged = false
@@ -20,6 +21,7 @@ mark_stays mark.Tagged = false
 mark_stays mark.Unread = false
 mark_stays _ = true
 
+-- a term does not hang on flags and tags
 abbrev pub leaf_stays : Leaf → Bool
 leaf_stays (Tells mark) = mark_stays mark
 leaf_stays (Searches field plain text) = true
@@ -30,10 +32,12 @@ leaf_stays (Counts number range) = true
 abbrev pub stays : Tree → Bool
 stays tree = every leaf_stays true tree
 
-abbrev pub limit_stays : Option PlainLimit → Bool
+-- the limit does not hang on flags and tags
+abbrev pub limit_stays : Option PlainPattern → Bool
 limit_stays None = true
 limit_stays (Some limit) = stays limit.tree
 
+-- scores do not hang on flags and tags
 abbrev pub entries_stay : List PlainEntry → Bool
 entries_stay entries = list_all (λ e. stays e.tree) entries
 

@@ -2,7 +2,7 @@
 
 ghost use Rattle.std.specs.Prelude.{◌≡◌, map, nat_eq, true, IfOk, OnOk};
 ghost use Rattle.std.specs.List.{IsDistinct, count_by};
-ghost use Rattle.folder_core.specs.Letters.{plain_letter};
+ghost use Rattle.folder_letters.specs.Letters.{plain_letter};
 ghost use Rattle.index_listed.specs.Cursor.{is_seen};
 ghost use Rattle.index_listed.specs.Places.{numbers};
 ghost use Rattle.index_view.specs.View.{IsOf, facts_of, visible_of};
@@ -12,7 +12,7 @@ ghost use Rattle.session_index.specs.Index.{Shows, index_of};
 
 use crate::hiding::hide_alone;
 use crate::staying::is_still;
-use folder_core::Archive;
+use folder_letters::Archive;
 use index_items::Act;
 use index_listed::at_or_last;
 use index_view::View;

@@ -8,7 +8,7 @@ use crate::desk::Desk;
 use crate::effect::{Effect, Scope};
 use crate::rule::Rule;
 use crate::searching::search;
-use folder_core::Archive;
+use folder_letters::Archive;
 use index_items::{Act, Mark};
 use mail_base::NoMemory;
 use patterns_match::Pattern;
@@ -16,8 +16,8 @@ use prompts::Asking;
 
 impl Desk {
     ghost use Rattle.std.specs.Prelude.{◌≡◌, ◌<◌, map, option_map, OnOk};
-    ghost use Rattle.folder_core.specs.Letters.{plain_letter};
-    ghost use Rattle.index_view.specs.Limit.{plain_limit};
+    ghost use Rattle.folder_letters.specs.Letters.{plain_letter};
+    ghost use Rattle.patterns_match.specs.Pattern.{plain_pattern};
     ghost use Rattle.index_view.specs.View.{IsOf};
     ghost use Rattle.session_index.specs.Answering as spec;
     ghost use Rattle.session_index.specs.Desk.{Holds, plain_desk};
@@ -33,7 +33,7 @@ impl Desk {
         requires { IsOf (map plain_letter archive.now.items) self.old.view }
         ensures { OnOk result (Holds (map plain_letter archive.now.items)
             (spec.done_matching (map plain_letter archive.now.items) act
-            (plain_limit pattern.old) (plain_desk self.old)) self.new) }
+            (plain_pattern pattern.old) (plain_desk self.old)) self.new) }
     {
         let ids = self.view.pick(self.alloc, archive, pattern)?;
         act_on(self.alloc, &mut self.view, archive, act, ids.as_slice())
@@ -43,7 +43,7 @@ impl Desk {
     pub fn limit_to(&mut self, archive: &Archive, limit: Option<Pattern>) -> Result<(), NoMemory>
         requires { IsOf (map plain_letter archive.now.items) self.old.view }
         ensures { OnOk result (Holds (map plain_letter archive.now.items)
-            (spec.limited (map plain_letter archive.now.items) (option_map plain_limit limit)
+            (spec.limited (map plain_letter archive.now.items) (option_map plain_pattern limit)
             (plain_desk self.old)) self.new) }
     {
         self.view.set_limit(archive, limit)
@@ -53,7 +53,7 @@ impl Desk {
     fn search_for(&mut self, archive: &Archive, pattern: Pattern) -> Result<(), NoMemory>
         requires { IsOf (map plain_letter archive.now.items) self.old.view }
         ensures { OnOk result (Holds (map plain_letter archive.now.items)
-            (spec.searched_for (map plain_letter archive.now.items) (plain_limit pattern)
+            (spec.searched_for (map plain_letter archive.now.items) (plain_pattern pattern)
             (plain_desk self.old)) self.new) }
     {
         let mut pattern = pattern;
@@ -74,7 +74,7 @@ impl Desk {
     ) -> Result<(), NoMemory>
         requires { IsOf (map plain_letter archive.now.items) self.old.view }
         ensures { OnOk result (Holds (map plain_letter archive.now.items)
-            (spec.answered (map plain_letter archive.now.items) asking (plain_limit pattern)
+            (spec.answered (map plain_letter archive.now.items) asking (plain_pattern pattern)
             (plain_desk self.old)) self.new) }
     {
         let mut pattern = pattern;

@@ -8,7 +8,6 @@ use prompts::Prompt;
 use std::alloc::Global;
 
 /// What keys act on: a view of the folder's messages, the last line, a prompt, a search.
-#[derive(Drop)]
 pub struct Desk {
     pub alloc: Global,
     pub view: View,
@@ -19,4 +18,19 @@ pub struct Desk {
     pub prefix: bool,
     pub read_only: bool,
     pub wanted: Wanted,
+}
+
+impl Drop for Desk {
+    fn drop(self) {
+        let Desk {
+            alloc: _,
+            view: _,
+            message: _,
+            prompt: _,
+            search: _,
+            prefix: _,
+            read_only: _,
+            wanted: _,
+        } = self;
+    }
 }

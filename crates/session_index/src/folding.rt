@@ -1,13 +1,13 @@
 //! How the thread of the cursor's message is shut or opened.
 
 ghost use Rattle.std.specs.Prelude.{◌≡◌, map, OnOk};
-ghost use Rattle.folder_core.specs.Letters.{plain_letter};
+ghost use Rattle.folder_letters.specs.Letters.{plain_letter};
 ghost use Rattle.index_view.specs.View.{IsOf};
 ghost use Rattle.session_index.specs.Folding as spec;
 ghost use Rattle.session_index.specs.Index.{Shows, index_of};
 
 use crate::sought::{Sought, first_shown};
-use folder_core::Archive;
+use folder_letters::Archive;
 use index_view::View;
 use mail_base::{Id, NoMemory};
 

@@ -65,7 +65,7 @@ pub fn effects_of(function: Function) -> &'static [Effect]
         Function::EnterCommand => &[Effect::DropPrefix, Effect::Ask(Asking::Command)],
         Function::ToggleWrite => &[Effect::TurnWriting, Effect::DropPrefix],
         Function::Quit | Function::Exit => &[Effect::End],
-        Function::Noop => &[Effect::DropPrefix],
+        Function::DisplayToggleWeed | Function::Noop => &[Effect::DropPrefix],
         _ => &[Effect::Say(Notice::NotBound)],
     }
 }
@@ -120,6 +120,5 @@ pub fn writes(function: Function) -> bool
             | Function::ToggleNew
             | Function::SetFlag
             | Function::ClearFlag
-            | Function::SyncMailbox
     )
 }

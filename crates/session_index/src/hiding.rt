@@ -1,6 +1,6 @@
 //! Where acts on messages change of what is seen at most whether each of these messages is.
 
-ghost use Rattle.std.specs.Prelude.{◌≡◌, false, nat_eq};
+ghost use Rattle.std.specs.Prelude.{◌≡◌, ◌&&◌, false, nat_eq};
 ghost use Rattle.std.specs.List.{IsDistinct, list_all};
 ghost use Rattle.index_listed.specs.Places.{numbers};
 ghost use Rattle.index_view.specs.Answers.{is_open};
@@ -10,6 +10,7 @@ ghost use Rattle.patterns_match.specs.Leaves.{passes};
 ghost use Rattle.patterns_match.specs.Operations.{operation_map};
 ghost use Rattle.patterns_match.specs.Pattern.{pattern_tree};
 ghost use Rattle.session_index.specs.Hiding as spec;
+ghost use Rattle.session_index.specs.Shown.{seen};
 
 use crate::staying::entries_stay;
 use index_view::View;
@@ -96,12 +97,28 @@ fn looks_alone(view: &View) -> bool
     }
 }
 
+// All messages of the index, in order, of which no two have one id.
+fn ordered_ids(view: &View) -> &[Id]
+    ensures order { result.now ≡ view.now.answers.sight.order }
+    ensures apart { IsDistinct nat_eq (numbers result.now) }
+{
+    view.ordered().as_slice()
+}
+
+// These messages are seen, and those of the order stand in threads that are not shut.
+fn are_part_of_open(view: &View, order: &[Id], ids: &[Id]) -> bool
+    ensures { result ≡ list_all (is_open view.now.answers) order.now
+        && spec.is_part ids.now (seen view.now.answers) }
+{
+    are_open(view, order) && is_part(ids, view.visible().as_slice())
+}
+
 /// Whether acts on these messages, which have to be seen, can hide each of them, and do no more to
 /// what is seen. The ids of an index differ.
 pub fn hide_alone(view: &View, ids: &[Id]) -> bool
     ensures value { result ≡ spec.hide_alone (facts_of view.now) view.now.answers ids.now }
     ensures apart { IsDistinct nat_eq (numbers view.now.answers.sight.order) }
 {
-    let ordered = view.ordered().as_slice();
-    looks_alone(view) && are_open(view, ordered) && is_part(ids, view.visible().as_slice())
+    let order = ordered_ids(view);
+    looks_alone(view) && are_part_of_open(view, order, ids)
 }

@@ -6,7 +6,7 @@ ghost use Rattle.session_index.specs.Shown.{seen};
 
 use crate::desk::Desk;
 use crate::sought::{Sought, first_shown};
-use folder_core::{Archive, Found, Listing};
+use folder_letters::{Archive, Found, Listing};
 use index_view::{View, ViewOptions};
 use mail_base::{Id, Ids, NoMemory};
 use std::alloc::Global;
@@ -40,7 +40,7 @@ fn first_of(view: &View) -> Option<Id>
 
 impl Desk {
     ghost use Rattle.std.specs.Prelude.{map, List, OnOk};
-    ghost use Rattle.folder_core.specs.Letters.{Mail, plain_letter};
+    ghost use Rattle.folder_letters.specs.Letters.{Mail, plain_letter};
     ghost use Rattle.index_view.specs.View.{IsOf, MayTake};
     ghost use Rattle.session_index.specs.Desk.{Holds, plain_desk};
     ghost use Rattle.session_index.specs.Opening as spec;

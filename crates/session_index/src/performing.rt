@@ -14,7 +14,7 @@ use crate::searching::search;
 use crate::sought::{Sought, shows};
 use crate::wanted::Wanted;
 use crate::ways::go;
-use folder_core::Archive;
+use folder_letters::Archive;
 use index_items::{Act, Mark};
 use keymap::Function;
 use mail_base::{Ids, NoMemory};
@@ -22,7 +22,7 @@ use prompts::{Asking, Prompt};
 
 impl Desk {
     ghost use Rattle.std.specs.Prelude.{◌≡◌, ◌<◌, ◌&&◌, ◌==◌, List, length, map, IfOk, OnOk};
-    ghost use Rattle.folder_core.specs.Letters.{Mail, plain_letter};
+    ghost use Rattle.folder_letters.specs.Letters.{Mail, plain_letter};
     ghost use Rattle.index_view.specs.View.{IsOf};
     ghost use Rattle.session_index.specs.Desk.{Holds, plain_desk};
     ghost use Rattle.session_index.specs.Effects as spec;

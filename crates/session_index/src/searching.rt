@@ -4,8 +4,8 @@ ghost use Rattle.std.specs.Prelude.{◌≡◌, ◌<◌, ◌++◌, Bool, List, le
 ghost use Rattle.std.specs.Prelude.{slice_get, OnOk};
 ghost use Rattle.std.specs.List.{filter};
 ghost use Rattle.std.specs.Option.{option_or};
-ghost use Rattle.folder_core.specs.Letters.{plain_letter};
-ghost use Rattle.index_view.specs.Limit.{plain_limit};
+ghost use Rattle.folder_letters.specs.Letters.{plain_letter};
+ghost use Rattle.patterns_match.specs.Pattern.{plain_pattern};
 ghost use Rattle.index_view.specs.View.{IsOf, facts_of, messages_over};
 ghost use Rattle.mail_base.specs.declared.kind.Id.{Id};
 ghost use Rattle.session_index.specs.Motions.{gone, notice_of};
@@ -14,7 +14,7 @@ ghost use Rattle.session_index.specs.Shown.{seen};
 
 use crate::notice::Notice;
 use crate::places::place_of;
-use folder_core::Archive;
+use folder_letters::Archive;
 use index_view::View;
 use mail_base::{Id, NoMemory};
 use patterns_match::Pattern;
@@ -73,7 +73,7 @@ fn found_from(
     requires is_of { IsOf (map plain_letter archive.now.items) view.old }
     requires place { place < length (seen view.old.answers) }
     ensures found { IfOk result (λ found. found ≡ spec.found_from view.old.people
-        (plain_limit pattern.old)
+        (plain_pattern pattern.old)
         (messages_over (map plain_letter archive.now.items) (facts_of view.old))
         view.old.answers place) }
     ensures same { (view.new ≡ view.old) × (pattern.new ≡ pattern.old) }
@@ -93,11 +93,11 @@ pub fn search(
     pattern: &mut Pattern,
 ) -> Result<Option<Notice>, NoMemory>
     requires { IsOf (map plain_letter archive.now.items) view.old }
-    ensures way { IfOk result (λ notice. notice ≡ notice_of
-        (spec.search_way (map plain_letter archive.now.items) (plain_limit pattern.old) view.old)) }
+    ensures way { IfOk result (λ notice. notice ≡ notice_of (spec.search_way
+        (map plain_letter archive.now.items) (plain_pattern pattern.old) view.old)) }
     ensures gone { OnOk result (view.new ≡ gone
-        (spec.search_way (map plain_letter archive.now.items) (plain_limit pattern.old) view.old)
-        view.old) }
+        (spec.search_way
+        (map plain_letter archive.now.items) (plain_pattern pattern.old) view.old) view.old) }
     ensures pattern { pattern.new ≡ pattern.old }
     ensures err { OnErr result (view.new ≡ view.old) }
 {

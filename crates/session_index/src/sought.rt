@@ -29,8 +29,8 @@ fn is_so(sought: Sought, row: Row) -> bool
     match sought {
         Sought::Undeleted => !row.deleted,
         Sought::Deleted => row.deleted,
-        Sought::New => !flags.seen && !flags.aged,
-        Sought::Old => !flags.seen && flags.aged,
+        Sought::New => flags.is_new(),
+        Sought::Old => flags.is_old(),
         Sought::Unread => !flags.seen,
         Sought::Flagged => flags.flagged,
         Sought::Tagged => row.tagged,

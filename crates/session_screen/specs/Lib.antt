@@ -3,6 +3,5 @@ pub mod Places
 pub mod Tuning
 pub mod Sorting
 pub mod Formats
-pub mod Columns
 pub mod Status
 pub mod Screen

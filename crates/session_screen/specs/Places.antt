@@ -1,15 +1,16 @@
 -- Paths of folders, and what the variables say of them.
 use Rattle.std.specs.Prelude.{◌==◌, ◌||◌, ℕ, List, [], ◌∷◌, ◌++◌, Option, Some, None, codes}
-use Rattle.std.specs.Prelude.{if◌then◌else◌}
-use Rattle.std.specs.Str.{bytes_eq}
+use Rattle.std.specs.Prelude.{if◌then◌else◌, unwrap_or}
+use Rattle.mail_base.specs.Kind.{kind_named}
 use Rattle.mail_base.specs.Shown.{utf8_text}
 use Rattle.mail_base.specs.declared.kind.Kind.{Kind}
-use Rattle.mail_base.specs.declared.kind.Kind.TheVariants.{Mbox, Maildir, Mh, Mmdf}
+use Rattle.mail_base.specs.declared.kind.Kind.TheVariants.{Mbox}
 use Rattle.rc_lang.specs.Settings.{value_of}
 use Rattle.rc_lang.specs.Values.{PlainValue, Text}
 use Rattle.rc_lang.specs.declared.variable.Variable.{Variable}
 use Rattle.rc_lang.specs.declared.variable.Variable.TheVariants.{Folder, MboxType, Spoolfile}
 
+-- the text of a value
 abbrev pub text_in : Option PlainValue → List ℕ
 text_in (Some (Text text)) = text
 text_in _ = []
@@ -24,6 +25,7 @@ continued folder [] = []
 continued folder (c ∷ rest) =
     if c == 61 || c == 43 then folder ++ codes "/" ++ rest else c ∷ rest
 
+-- the named path, or that of the spool file
 abbrev pub named_or : Option (List ℕ) → List ℕ → List ℕ
 named_or None spoolfile = spoolfile
 named_or (Some path) spoolfile = path
@@ -33,13 +35,6 @@ abbrev pub folder_path : List PlainValue → Option (List ℕ) → List ℕ
 folder_path values named =
     utf8_text (continued (text_of values Folder) (named_or named (text_of values Spoolfile)))
 
--- the kind with the name
-abbrev pub kind_named : List ℕ → Kind
-kind_named name =
-    if bytes_eq name (codes "Maildir") then Maildir
-    else (if bytes_eq name (codes "MH") then Mh
-    else (if bytes_eq name (codes "MMDF") then Mmdf else Mbox))
-
 -- the kind of which new folders are
 abbrev pub new_kind : List PlainValue → Kind
-new_kind values = kind_named (text_of values MboxType)
+new_kind values = unwrap_or (kind_named (text_of values MboxType)) Mbox

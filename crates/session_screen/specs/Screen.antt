@@ -1,6 +1,6 @@
 -- The lines of the index (Mutt's manual, "index_format").
 use Rattle.std.specs.Prelude.{ℕ, ℤ, List}
-use Rattle.folder_core.specs.Letters.{Mail}
+use Rattle.folder_letters.specs.Letters.{Mail}
 use Rattle.index_view.specs.Lines.{PlainStyle, lines}
 use Rattle.index_view.specs.View.{PlainView}
 use Rattle.rc_lang.specs.Rules.{row_letters}
@@ -11,6 +11,7 @@ use Rattle.session_screen.specs.Places.{text_of}
 use Rattle.session_screen.specs.Window.{page_rows}
 use Rattle.session_screen.specs.declared.window.Window.{Window}
 
+-- how rows are made, by the variables
 abbrev pub style_of : List PlainValue → ℤ → PlainStyle
 style_of values offset = record {
   format = format_in row_letters values variable.IndexFormat;

@@ -21,6 +21,7 @@ pub record PlainBanner : Type 0 where
   pub read_only : Bool
   pub limit : Option (List ℕ)
 
+-- what the status line shows beside a view, as contracts see it
 abbrev pub plain_banner : Banner → PlainBanner
 plain_banner b = record {
   path = b.place.path.now;
@@ -33,6 +34,7 @@ plain_banner b = record {
 abbrev pub page_end : ℕ → PlainView → ℕ
 page_end rows v = min (page_start rows v + rows) (length (visible_of v))
 
+-- what the status line shows of a view
 abbrev pub summary_of : ℕ → List PlainValue → PlainBanner → PlainView → PlainSummary
 summary_of rows values banner v = record {
   path = banner.path;
@@ -53,6 +55,7 @@ summary_of rows values banner v = record {
   sort_aux = text_of values variable.SortAux;
 }
 
+-- the status line of a view
 abbrev pub status_line : Window → List PlainValue → PlainBanner → PlainView → List ℕ
 status_line window values banner v =
     status_row window.cols (summary_of (page_rows window) values banner v)

@@ -15,6 +15,7 @@ use Rattle.rc_lang.specs.declared.variable.Variable.{Variable}
 use Rattle.rc_lang.specs.declared.variable.Variable.TheVariants as variable
 use Rattle.session_screen.specs.Places.{text_of}
 
+-- the boolean of a value
 abbrev pub flag_in : Option PlainValue → Bool
 flag_in (Some (Flag flag)) = flag
 flag_in _ = false
@@ -42,15 +43,19 @@ abbrev pub aux_of : Sort → Sort
 aux_of Threads = DateSent
 aux_of sort = sort
 
+-- an order is turned round
 abbrev pub is_reversed : List ℕ → Bool
 is_reversed name = starts_with nat_eq name (codes "reverse-")
 
+-- threads are put in order by their last message
 abbrev pub is_last : List ℕ → Bool
 is_last name = starts_with nat_eq name (codes "last-")
 
+-- the order behind `reverse-`
 abbrev pub behind_reverse : List ℕ → List ℕ
 behind_reverse name = behind_front (codes "reverse-") name
 
+-- the order behind `last-`
 abbrev pub behind_last : List ℕ → List ℕ
 behind_last name = behind_front (codes "last-") name
 
@@ -69,6 +74,7 @@ options_by values sort aux = record {
   aux_last = is_last (behind_reverse aux);
 }
 
+-- what the variables say of the index
 abbrev pub options_of : List PlainValue → ViewOptions
 options_of values =
     options_by values (text_of values variable.Sort) (text_of values variable.SortAux)

@@ -1,7 +1,7 @@
 //! The lines of the index.
 
 ghost use Rattle.std.specs.Prelude.{◌≡◌, map, IfOk};
-ghost use Rattle.folder_core.specs.Letters.{plain_letter};
+ghost use Rattle.folder_letters.specs.Letters.{plain_letter};
 ghost use Rattle.index_view.specs.View.{IsOf};
 ghost use Rattle.mail_base.specs.Series.{plain_texts};
 ghost use Rattle.session_screen.specs.Screen as spec;
@@ -9,7 +9,7 @@ ghost use Rattle.session_screen.specs.Window.{IsWindow};
 
 use crate::formats::format_in;
 use crate::window::Window;
-use folder_core::Archive;
+use folder_letters::Archive;
 use index_view::View;
 use mail_base::{Lines, NoMemory};
 use rc_lang::{ROW_LETTERS, Settings, Variable};

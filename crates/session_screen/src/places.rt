@@ -31,7 +31,7 @@ pub fn folder_path(
 pub fn new_kind(settings: &Settings) -> Kind
     ensures { result ≡ spec.new_kind settings.now }
 {
-    kind_named(settings.text(Variable::MboxType))
+    Kind::named(settings.text(Variable::MboxType)).unwrap_or(Kind::Mbox)
 }
 
 fn continued(alloc: Global, folder: &[u8], path: &[u8]) -> Result<Bytes, NoMemory>
@@ -45,19 +45,5 @@ fn continued(alloc: Global, folder: &[u8], path: &[u8]) -> Result<Bytes, NoMemor
             Ok(whole)
         }
         _ => Bytes::copy_of(alloc, path),
-    }
-}
-
-fn kind_named(name: &[u8]) -> Kind
-    ensures { result ≡ spec.kind_named name.now }
-{
-    if name == b"Maildir".as_slice() {
-        Kind::Maildir
-    } else if name == b"MH".as_slice() {
-        Kind::Mh
-    } else if name == b"MMDF".as_slice() {
-        Kind::Mmdf
-    } else {
-        Kind::Mbox
     }
 }

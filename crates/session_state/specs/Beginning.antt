@@ -22,6 +22,7 @@ kind_command Maildir = codes "set mbox_type=Maildir"
 kind_command Mh = codes "set mbox_type=MH"
 kind_command Mmdf = codes "set mbox_type=MMDF"
 
+-- the command that sets the kind of new folders, if one is given
 abbrev pub kind_frames : Option Kind → List PlainFrame
 kind_frames None = []
 kind_frames (Some kind) = typed_frame (kind_command kind) ∷ []

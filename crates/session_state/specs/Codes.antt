@@ -6,6 +6,7 @@ use Rattle.patterns_match.specs.Trees.{And, Asks, Group, Leaf, Not, Or, Related,
 use Rattle.patterns_match.specs.declared.letter.Mark.TheVariants.{All}
 use Rattle.patterns_match.specs.declared.relation.Relation.{Relation}
 
+-- the parts of a tree, each behind those that it is of
 pub data Term : Type 0 where
   Asking : Leaf → Term
   Negating : Term
@@ -14,6 +15,7 @@ pub data Term : Type 0 where
   Grouping : Term
   Relating : Relation → Term
 
+-- a tree as a list of its parts
 abbrev pub terms_of : Tree → List Term
 terms_of (Asks leaf) = Asking leaf ∷ []
 terms_of (Not tree) = terms_of tree ++ Negating ∷ []
@@ -32,14 +34,17 @@ put_term Grouping (tree ∷ trees) = Group tree ∷ trees
 put_term (Relating relation) (tree ∷ trees) = Related relation tree ∷ trees
 put_term _ trees = trees
 
+-- the trees that parts leave
 abbrev pub put_terms : List Term → List Tree → List Tree
 put_terms [] trees = trees
 put_terms (term ∷ terms) trees = put_terms terms (put_term term trees)
 
+-- the first tree, or one that all messages satisfy
 abbrev pub first_tree : List Tree → Tree
 first_tree [] = Asks (Tells All)
 first_tree (tree ∷ trees) = tree
 
+-- the tree of a list of parts
 abbrev pub tree_from : List Term → Tree
 tree_from terms = first_tree (put_terms terms [])
 
@@ -71,10 +76,12 @@ terms_put (Related relation tree) terms trees =
     (append_assoc (terms_of tree) (Relating relation ∷ []) terms)
     ∙ terms_put tree (Relating relation ∷ terms) trees
 
+-- a tree is the tree of its parts
 pub tree_back : (tree : Tree) → tree_from (terms_of tree) ≡ tree
 tree_back tree =
     ap first_tree (ap (λ (ts : List Term). put_terms ts []) (sym (append-nil (terms_of tree)))
     ∙ terms_put tree [] [])
 
+-- trees have a code by that of their parts
 abbrev pub tree_code : Coded Term → Coded Tree
 tree_code term_code = code_by (List Term) (coded_list term_code) terms_of tree_from tree_back

@@ -57,6 +57,7 @@ word_at words n = unwrap_or (slice_get words n) []
 abbrev pub is_sequence : List Key → Bool
 is_sequence keys = nat_lt 0 (length keys) && nat_le (length keys) 8
 
+-- the keys of a word that may be bound
 abbrev pub sequence_of : List ℕ → Result (List Key) Fault
 sequence_of word =
     if is_sequence (word_keys false word) then Ok (word_keys false word)
@@ -68,6 +69,7 @@ text_of word =
     if nat_lt 0 (length (word_keys true word)) then Ok (word_keys true word)
     else Err (fault_of BadKey word)
 
+-- the menu with a name
 abbrev pub menu_named : List ℕ → Option Menu
 menu_named name =
     if bytes_eq name (codes "index") then Some Index
@@ -79,6 +81,7 @@ menu_named name =
 abbrev pub names_in : List ℕ → List (List ℕ)
 names_in word = slice_split (λ b. b == 44) word
 
+-- a list of one menu, if there is one
 abbrev pub menu_if : List ℕ → Option Menu → Result (List Menu) Fault
 menu_if word None = Err (fault_of UnknownMenu word)
 menu_if word (Some menu) = Ok (menu ∷ [])
@@ -87,6 +90,7 @@ menu_if word (Some menu) = Ok (menu ∷ [])
 unfoldable pub menu_of : List ℕ → List ℕ → Result (List Menu) Fault
 menu_of word name = menu_if word (menu_named name)
 
+-- the menus with these names
 abbrev pub menus_in : List ℕ → List (List ℕ) → Result (List Menu) Fault
 menus_in word [] = Ok []
 menus_in word (name ∷ names) = before_rest (menu_of word name) (menus_in word names)
@@ -102,9 +106,11 @@ function_if menus name (Some function) =
     if list_all (λ menu. has menu function) menus then Ok function
     else Err (fault_of UnknownFunction name)
 
+-- the function with a name, which all of the menus have
 abbrev pub function_of : List Menu → List ℕ → Result Function Fault
 function_of menus name = function_if menus name (function_named name)
 
+-- a key that calls a function, if there is one
 abbrev pub call_if : List ℕ → Option Function → Result (List Key) Fault
 call_if name None = Err (fault_of UnknownFunction name)
 call_if name (Some function) = Ok (Call function ∷ [])
@@ -132,21 +138,26 @@ pub record PlainMacro : Type 0 where
   pub keys : List Key
   pub text : List Key
 
+-- what `bind` asks, as contracts see it
 abbrev pub plain_bind : BindRequest → PlainBind
 plain_bind b = record { menus = b.menus.items; keys = b.keys.items; function = b.function }
 
+-- what `macro` asks, as contracts see it
 abbrev pub plain_macro : MacroRequest → PlainMacro
 plain_macro m = record { menus = m.menus.items; keys = m.keys.items; text = m.text.items }
 
+-- what `bind` asks, where the function is right
 abbrev pub bind_function : List Key → List Menu → Result Function Fault → Result PlainBind Fault
 bind_function keys menus (Ok function) =
     Ok (record { menus = menus; keys = keys; function = function })
 bind_function keys menus (Err fault) = Err fault
 
+-- the same, where the menus are right
 abbrev pub bind_menus : List Key → List ℕ → Result (List Menu) Fault → Result PlainBind Fault
 bind_menus keys name (Ok menus) = bind_function keys menus (function_of menus name)
 bind_menus keys name (Err fault) = Err fault
 
+-- the same, where the keys are right
 abbrev pub bind_keys : List ℕ → List ℕ → Result (List Key) Fault → Result PlainBind Fault
 bind_keys menus name (Ok keys) = bind_menus keys name (menus_of menus)
 bind_keys menus name (Err fault) = Err fault
@@ -155,14 +166,17 @@ bind_keys menus name (Err fault) = Err fault
 abbrev pub bind_of : List (List ℕ) → Result PlainBind Fault
 bind_of words = bind_keys (word_at words 1) (word_at words 3) (sequence_of (word_at words 2))
 
+-- what `macro` asks, where the menus are right
 abbrev pub macro_menus : List Key → List Key → Result (List Menu) Fault → Result PlainMacro Fault
 macro_menus keys text (Ok menus) = Ok (record { menus = menus; keys = keys; text = text })
 macro_menus keys text (Err fault) = Err fault
 
+-- the same, where the text is right
 abbrev pub macro_text : List Key → List ℕ → Result (List Key) Fault → Result PlainMacro Fault
 macro_text keys menus (Ok text) = macro_menus keys text (menus_of menus)
 macro_text keys menus (Err fault) = Err fault
 
+-- the same, where the keys are right
 abbrev pub macro_keys : List ℕ → List ℕ → Result (List Key) Fault → Result PlainMacro Fault
 macro_keys menus text (Ok keys) = macro_text keys menus (text_of text)
 macro_keys menus text (Err fault) = Err fault
@@ -184,9 +198,11 @@ pub record Ran : Type 0 where
   pub rules : PlainRules
   pub answer : Result PlainAnswer Fault
 
+-- a command that says nothing has set this
 abbrev pub done : PlainRules → Ran
 done rules = record { rules = rules; answer = Ok Quiet }
 
+-- a command has a fault, and sets nothing
 abbrev pub refused : Fault → PlainRules → Ran
 refused fault rules = record { rules = rules; answer = Err fault }
 
@@ -209,11 +225,13 @@ bound_all [] keys action map = map
 bound_all (menu ∷ menus) keys action map =
     bound_all menus keys action (bound_in map menu keys action)
 
+-- keys are bound to a function
 abbrev pub bound_by : Result PlainBind Fault → PlainRules → Ran
 bound_by (Ok b) rules =
     done (record rules { keymap = bound_all b.menus b.keys (Run b.function) rules.keymap })
 bound_by (Err fault) rules = refused fault rules
 
+-- keys are replaced by a text
 abbrev pub replaced_by : Result PlainMacro Fault → PlainRules → Ran
 replaced_by (Ok m) rules =
     done (record rules { keymap = bound_all m.menus m.keys (Replace m.text) rules.keymap })
@@ -224,6 +242,7 @@ abbrev pub put_by : Result (List Key) Fault → PlainRules → Ran
 put_by (Ok keys) rules = done (record rules { put = rules.put ++ keys ∷ [] })
 put_by (Err fault) rules = refused fault rules
 
+-- a file is still to be read
 abbrev pub sourcing : List ℕ → PlainRules → Ran
 sourcing path rules = record { rules = rules; answer = Ok (ToRead (utf8_text path)) }
 
@@ -283,11 +302,13 @@ obeyed time verdicts Score words rules =
 obeyed time verdicts Unscore words rules = unscored_by (drop 1 words) rules
 obeyed time verdicts _ words rules = done rules
 
+-- a command is carried out whose words have their values
 abbrev pub obeyed_texts : Instant → List PlainJudged → Command → PlainRules
     → Result (List (List ℕ)) Fault → Ran
 obeyed_texts time verdicts command rules (Ok texts) = obeyed time verdicts command texts rules
 obeyed_texts time verdicts command rules (Err fault) = refused fault rules
 
+-- a command is carried out
 abbrev pub obeyed_command : Instant → List PlainJudged → List (List PlainPiece) → PlainRules
     → Result Command Fault → Ran
 obeyed_command time verdicts words rules (Ok command) =
@@ -301,11 +322,13 @@ ran time verdicts words rules =
 
 -- For the code alone.
 
+-- what a command answers, as contracts see it
 abbrev pub plain_answer : Answer → PlainAnswer
 plain_answer answer.Quiet = Quiet
 plain_answer (answer.Source path) = ToRead path.items
 plain_answer (answer.Show line) = ToShow line.items
 
+-- what a command comes to, as contracts see it
 abbrev pub plain_obeyed : Obeyed → Result PlainAnswer Fault
 plain_obeyed (Answered a) = Ok (plain_answer a)
 plain_obeyed (Refused e) = Err (plain_error e)

@@ -14,7 +14,7 @@ use Rattle.patterns.specs.Readings.{reading_by}
 use Rattle.patterns_match.specs.Days.{day_number}
 use Rattle.patterns_match.specs.Trees.{Tree}
 use Rattle.people.specs.Judged.{PlainJudged}
-use Rattle.index_view.specs.Limit.{PlainLimit}
+use Rattle.patterns_match.specs.Pattern.{PlainPattern}
 use Rattle.patterns.specs.declared.pattern_error.PatternError.{PatternError}
 use Rattle.patterns.specs.declared.pattern_error.PatternError.TheVariants as error
 use Rattle.session_state.specs.declared.instant.Instant.{Instant}
@@ -26,6 +26,7 @@ is_civil year month day =
     && ((nat_le 1 month && nat_le month 12)
     && (nat_le 1 day && nat_le day (days_in_month year month)))
 
+-- the calendar has a date for which the test says so
 abbrev pub civil_holds : (year : ℤ) (month day : ℕ) → is_civil year month day ≡ true
     → IsCivilDate year month day
 civil_holds year month day is =
@@ -39,6 +40,7 @@ civil_holds year month day is =
       (leb-true _ _ days.0, leb-true _ _ days.1),
     )
 
+-- a date that the calendar has
 abbrev pub date_where : (year : ℤ) (month day : ℕ) → IsCivilDate year month day → Date
 date_where year month day is = record {
   year = year;
@@ -69,7 +71,7 @@ reading verdicts moment offset text =
     reading_by verdicts (pattern_of (days_of (date_on (day_number moment offset))) text)
 
 -- the same, with the offset by which days are counted
-abbrev pub reading_of : List PlainJudged → Instant → List ℕ → Option PlainLimit
+abbrev pub reading_of : List PlainJudged → Instant → List ℕ → Option PlainPattern
 reading_of verdicts time text = option_map
     (λ tree. record { tree = tree; offset = time.offset })
     (reading verdicts time.seconds time.offset text)

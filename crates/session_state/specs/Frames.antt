@@ -37,26 +37,33 @@ pub record PlainFrame : Type 0 where
   pub place : Place
   pub left : Option (List PlainLine)
 
+-- where a file stands among those that are read
 abbrev pub place_of : Frame → Place
 place_of frame = record { file = frame.file.items; origin = frame.origin; depth = frame.depth }
 
+-- the commands of a file that were not run yet
 abbrev pub commands_left : Frame → List PlainLine
 commands_left frame = map plain_line (drop frame.next frame.commands.items)
 
+-- the commands that are left of a file, once it is read
 abbrev pub left_of : Bool → List PlainLine → Option (List PlainLine)
 left_of is_read commands = if is_read then Some commands else None
 
+-- a file of commands as contracts see it
 abbrev pub plain_frame : Frame → PlainFrame
 plain_frame frame =
     record { place = place_of frame; left = left_of frame.is_read (commands_left frame) }
 
+-- files of commands as contracts see them
 abbrev pub plain_frames : Vec Frame Global → List PlainFrame
 plain_frames frames = map plain_frame frames.items
 
+-- a file that is still to be read
 abbrev pub unread : List ℕ → Origin → ℕ → PlainFrame
 unread file origin depth =
     record { place = record { file = file; origin = origin; depth = depth }; left = None }
 
+-- a file of which these commands are left
 abbrev pub with_left : List PlainLine → PlainFrame → PlainFrame
 with_left commands frame = record frame { left = Some commands }
 
@@ -71,6 +78,7 @@ abbrev pub ran_read : Instant → List PlainJudged → Option RcFault → PlainL
 ran_read time verdicts None line rules = ran time verdicts line.words rules
 ran_read time verdicts (Some fault) line rules = refused (fault_of fault []) rules
 
+-- a line of a file is run
 abbrev pub ran_line : Instant → List PlainJudged → PlainLine → PlainRules → Ran
 ran_line time verdicts line rules = ran_read time verdicts line.fault line rules
 
@@ -100,6 +108,7 @@ behind_line place line lines more rules told (Ok (ToRead path)) =
 behind_line place line lines more rules told (Err fault) =
     more rules (fault_told place.origin place.file (line_number place.origin line) fault told)
 
+-- the commands of a file are run, up to one that names a file
 abbrev pub file_run : Instant → List PlainJudged → Place → List PlainLine → PlainRules → PlainTold
     → Half
 file_run time verdicts place [] rules told =
@@ -136,9 +145,11 @@ behind_file place frames rest half (Some path) = record {
   told = half.told;
 }
 
+-- what was run of a file, and what comes behind it
 abbrev pub with_half : Place → List PlainFrame → (PlainRules → PlainTold → Script) → Half → Script
 with_half place frames rest half = behind_file place frames rest half half.source
 
+-- a file is run, and those behind it, up to one that is still to be read
 abbrev pub frame_run : Instant → List PlainJudged → PlainFrame → List PlainFrame
     → (PlainRules → PlainTold → Script) → Option (List PlainLine) → PlainRules → PlainTold
     → Script
@@ -189,6 +200,7 @@ abbrev pub is_quiet : Origin → Bool → Bool
 is_quiet Default is_missing = is_missing
 is_quiet _ is_missing = false
 
+-- that a file was not read is told
 abbrev pub skip_told : Place → DiskError → PlainTold → PlainTold
 skip_told place why told =
     if is_quiet place.origin (is_missing why) then told
@@ -201,6 +213,7 @@ skip_script time verdicts why [] rules told = record { rules = rules; frames = [
 skip_script time verdicts why (frame ∷ frames) rules told =
     frames_run time verdicts frames rules (skip_told frame.place why told)
 
+-- what commands have set and told so far, as contracts see it
 abbrev pub script_of : PlainRules → Vec Frame Global → Told → Script
 script_of rules frames told =
     record { rules = rules; frames = plain_frames frames; told = plain_told told }

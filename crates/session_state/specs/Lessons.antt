@@ -22,6 +22,7 @@ pub data PlainLesson : Type 0 where
   Scored : (entry : PlainEntry) → PlainLesson
   Kept : (keeps : List Bool) → PlainLesson
 
+-- what a command tells the index, as contracts see it
 abbrev pub plain_lesson : Lesson → PlainLesson
 plain_lesson (lesson.Person table expr) = Person table expr
 plain_lesson (lesson.Named name value) = Named name.items value.items

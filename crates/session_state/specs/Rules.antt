@@ -35,6 +35,7 @@ put_all (keys ∷ later) = put_all later ++ keys
 abbrev pub without_puts : PlainRules → PlainRules
 without_puts rules = record rules { put = [] }
 
+-- the line of a variable, if there is one
 abbrev pub line_of : List ℕ → Option PlainValue → List ℕ
 line_of name None = []
 line_of name (Some value) = shown_line name value

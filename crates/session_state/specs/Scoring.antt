@@ -6,7 +6,7 @@ use Rattle.std.specs.List.{filter, list_any}
 use Rattle.std.specs.Str.{bytes_eq}
 use Rattle.mail_base.specs.Decimal.{decimal_in}
 use Rattle.mail_base.specs.Shown.{utf8_text}
-use Rattle.index_view.specs.Limit.{PlainLimit}
+use Rattle.patterns_match.specs.Pattern.{PlainPattern}
 use Rattle.patterns_match.specs.Leaves.{may_score}
 use Rattle.patterns_match.specs.Scores.{PlainEntry}
 use Rattle.people.specs.Judged.{PlainJudged}
@@ -31,6 +31,7 @@ number_of (c ∷ rest) =
     else (if c == 43 then option_map pos (digits_of rest)
     else option_map pos (digits_of (c ∷ rest)))
 
+-- the value of a score
 abbrev pub valued : Bool → Option ℤ → Option ScoreValue
 valued last number = option_map (λ n. record { number = n; last = last }) number
 
@@ -42,7 +43,8 @@ value_of (c ∷ rest) =
 
 -- Entries.
 
-abbrev pub entry_with : PlainLimit → ScoreValue → PlainEntry
+-- an entry of a pattern with its value
+abbrev pub entry_with : PlainPattern → ScoreValue → PlainEntry
 entry_with pattern value = record {
   tree = pattern.tree;
   offset = pattern.offset;
@@ -50,7 +52,8 @@ entry_with pattern value = record {
   last = value.last;
 }
 
-abbrev pub entry_if : List ℕ → ScoreValue → Option PlainLimit → Result PlainEntry Fault
+-- the entry of a pattern, if the text is one and may score
+abbrev pub entry_if : List ℕ → ScoreValue → Option PlainPattern → Result PlainEntry Fault
 entry_if word value None = Err (fault_of BadPattern word)
 entry_if word value (Some pattern) =
     if may_score pattern.tree then Ok (entry_with pattern value)

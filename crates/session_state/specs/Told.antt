@@ -15,9 +15,11 @@ pub record PlainTold : Type 0 where
   pub notes : List (List ℕ)
   pub shown : Option (List ℕ)
 
+-- what commands tell, as contracts see it
 abbrev pub plain_told : Told → PlainTold
 plain_told told = record { notes = plain_texts told.notes; shown = plain_shown told.shown }
 
+-- nothing was told
 abbrev pub nothing_told : PlainTold
 nothing_told = record { notes = []; shown = None }
 
@@ -36,15 +38,18 @@ abbrev pub note_of : List ℕ → ℕ → Fault → List ℕ
 note_of file line fault =
     utf8_text (file ++ codes ":" ++ decimal line ++ codes ": " ++ fault_text fault)
 
+-- a fault with its file and line is told
 abbrev pub noted : List ℕ → ℕ → Fault → PlainTold → PlainTold
 noted file line fault told =
     record told { notes = told.notes ++ note_of file line fault ∷ [] }
 
 -- On the last line.
 
+-- the last line shows this
 abbrev pub showing : List ℕ → PlainTold → PlainTold
 showing line told = record told { shown = Some line }
 
+-- the last line shows a fault
 abbrev pub fault_shown : Fault → PlainTold → PlainTold
 fault_shown fault told = showing (utf8_text (fault_text fault)) told
 

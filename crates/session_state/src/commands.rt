@@ -18,13 +18,10 @@ use crate::rules::Rules;
 use crate::scoring;
 use keymap::{Keymap, Keys};
 use mail_base::{Bytes, Line, NoMemory, Words, append_utf8};
-use patterns_match::ScoreEntry;
+use patterns_match::{MOST_SCORES, ScoreEntry};
 use people::{PeopleTable, Verdicts};
 use rc_lang::{Command, RcError, RcFault, RcWords};
 use std::alloc::Global;
-
-/// How many entries of scores there may be.
-const MOST_ENTRIES: usize = 4_096;
 
 /// What a command answers that is carried out.
 #[derive(Drop)]
@@ -256,7 +253,7 @@ impl Rules {
     {
         let word = word_at(words, 2);
         match scoring::value_of(word) {
-            Some(value) if self.scores.len() < MOST_ENTRIES => {
+            Some(value) if self.scores.len() < MOST_SCORES => {
                 let text = word_at(words, 1);
                 let entry = scoring::entry_of(self.alloc, time, text, value, verdicts)?;
                 self.add_entry(text, entry)

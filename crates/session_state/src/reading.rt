@@ -1,7 +1,7 @@
 //! Patterns that are read at a moment.
 
 ghost use Rattle.std.specs.Prelude.{◌≡◌, List, option_map, IfOk};
-ghost use Rattle.index_view.specs.Limit.{plain_limit};
+ghost use Rattle.patterns_match.specs.Pattern.{plain_pattern};
 ghost use Rattle.patterns.specs.Causes.{Keeps};
 ghost use Rattle.people.specs.Judged.{PlainJudged};
 ghost use Rattle.session_state.specs.Days as spec;
@@ -33,7 +33,7 @@ pub fn read_at(
     ensures keeps { Keeps verdicts.old.kept verdicts.new.kept }
     ensures read { IfOk result (λ pattern. (later : List PlainJudged)
         → Keeps verdicts.new.kept later
-        → option_map plain_limit pattern ≡ spec.reading_of later time text.now.items) }
+        → option_map plain_pattern pattern ≡ spec.reading_of later time text.now.items) }
 {
     clocks_say_their_parts();
     match read_pattern(alloc, text.as_slice(), time.seconds, time.offset, verdicts) {

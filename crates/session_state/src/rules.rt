@@ -9,7 +9,6 @@ use std::marker::Model;
 
 /// The variables, the bindings, the texts of the patterns that score, the keys that commands have
 /// put, of each command apart, and what they tell the index.
-#[derive(Drop)]
 pub struct Rules {
     pub(crate) alloc: Global,
     pub(crate) settings: Settings,
@@ -38,6 +37,19 @@ impl Model for Rules {
       put = map (λ keys. keys.items) r.put.items;
       lessons = map plain_lesson r.lessons.items;
     } };
+}
+
+impl Drop for Rules {
+    fn drop(self) {
+        let Rules {
+            alloc: _,
+            settings: _,
+            keymap: _,
+            scores: _,
+            put: _,
+            lessons: _,
+        } = self;
+    }
 }
 
 impl Rules {

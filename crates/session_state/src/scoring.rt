@@ -1,7 +1,7 @@
 //! What `score` and `unscore` ask for (Mutt's manual, "score").
 
 ghost use Rattle.std.specs.Prelude.{◌≡◌, ◌∷◌, [], List, map, option_map, pos, IfOk};
-ghost use Rattle.index_view.specs.Limit.{plain_limit};
+ghost use Rattle.patterns_match.specs.Pattern.{plain_pattern};
 ghost use Rattle.patterns.specs.Causes.{Keeps};
 ghost use Rattle.patterns_match.specs.ScoreEntries.{held_entry};
 ghost use Rattle.people.specs.Judged.{PlainJudged};
@@ -12,13 +12,10 @@ ghost use Rattle.session_state.specs.Scoring as spec;
 use crate::instant::Instant;
 use crate::reading::read_at;
 use mail_base::{Bytes, Line, NoMemory, append_utf8, read_decimal};
-use patterns_match::{Pattern, ScoreEntry, ScoreError, Scores};
+use patterns_match::{GREATEST_SCORE, Pattern, ScoreEntry, ScoreError, Scores};
 use people::Verdicts;
 use rc_lang::{RcError, RcFault};
 use std::alloc::Global;
-
-/// The greatest number that an entry may have; the least is its negative.
-const GREATEST: u32 = 1_000_000;
 
 /// What an entry of scores counts; where `last`, it stands in place of the sum and ends it.
 #[derive(Clone, Copy, Debug, PartialEq, Eq)]
@@ -31,9 +28,9 @@ fn number_of(text: &[u8]) -> Option<i64>
     ensures { result ≡ spec.number_of text.now }
 {
     match text {
-        [b'-', digits @ ..] => Some(-i64::from(read_decimal(digits, 0, GREATEST)?)),
-        [b'+', digits @ ..] => Some(i64::from(read_decimal(digits, 0, GREATEST)?)),
-        digits => Some(i64::from(read_decimal(digits, 0, GREATEST)?)),
+        [b'-', digits @ ..] => Some(-i64::from(read_decimal(digits, 0, GREATEST_SCORE)?)),
+        [b'+', digits @ ..] => Some(i64::from(read_decimal(digits, 0, GREATEST_SCORE)?)),
+        digits => Some(i64::from(read_decimal(digits, 0, GREATEST_SCORE)?)),
     }
 }
 
@@ -57,7 +54,7 @@ fn entry_with(
     value: ScoreValue,
 ) -> Result<ScoreEntry, RcError>
     ensures { Answers held_entry result
-        (spec.entry_if word.now value (Some (plain_limit pattern))) }
+        (spec.entry_if word.now value (Some (plain_pattern pattern))) }
 {
     let mut scores = Scores::new(alloc);
     match scores.add(pattern, value.number, value.last) {

@@ -1,6 +1,7 @@
 //! What commands tell, on the fault stream or on the last line, by where they come from.
 
-ghost use Rattle.std.specs.Prelude.{◌≡◌, ◌++◌, IfOk, OnOk};
+ghost use Rattle.std.specs.Prelude.{◌≡◌, ◌++◌, IfOk, OnOk, codes};
+ghost use Rattle.std.specs.Fmt.{decimal};
 ghost use Rattle.mail_base.specs.Series.{plain_texts};
 ghost use Rattle.mail_base.specs.Shown.{utf8_text};
 ghost use Rattle.rc_lang_words.specs.Faults.{fault_text, plain_error};
@@ -20,16 +21,31 @@ pub struct Told {
     pub shown: Option<Line>,
 }
 
+// Adds the file, the line and the cause of a faulty command.
+fn append_note(
+    alloc: Global,
+    text: &mut Bytes,
+    file: &Line,
+    line: u32,
+    error: &RcError,
+) -> Result<(), NoMemory>
+    ensures { OnOk result (text.new.items ≡ text.old.items ++ file.now.items ++ codes ":"
+        ++ decimal line ++ codes ": " ++ fault_text (plain_error error.now)) }
+{
+    text.append(file.as_slice())?;
+    text.append(b":")?;
+    text.append(line.to_string(alloc)?.as_bytes())?;
+    text.append(b": ")?;
+    text.append(error.text(alloc)?.as_slice())
+}
+
 // The text of a faulty command for the fault stream.
 fn note_text(alloc: Global, file: &Line, line: u32, error: &RcError) -> Result<Line, NoMemory>
     ensures { IfOk result (λ note. note.items
         ≡ spec.note_of file.now.items line (plain_error error.now)) }
 {
-    let mut text = Bytes::copy_of(alloc, file.as_slice())?;
-    text.append(b":")?;
-    text.append(line.to_string(alloc)?.as_bytes())?;
-    text.append(b": ")?;
-    text.append(error.text(alloc)?.as_slice())?;
+    let mut text = Bytes::new(alloc);
+    append_note(alloc, &mut text, file, line, error)?;
     let mut note = Line::new(alloc);
     append_utf8(&mut note, text.as_slice())?;
     Ok(note)

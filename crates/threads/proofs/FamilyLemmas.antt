@@ -18,7 +18,8 @@ use Rattle.threads.specs.Families.{AreEntries, AreFamilies, ArePut, CanOrder, Ca
 use Rattle.threads.specs.Families.{lists, places}
 use Rattle.threads.specs.Links.{target}
 use Rattle.threads.specs.Message.{PlainMessage, no_message}
-use Rattle.threads.specs.Order.{IsStrictOrder, by_id, children, id_at, in_order_by, is_child}
+use Rattle.threads.specs.Order.{IsStrictOrder, by_id, children, id_at, is_child}
+use Rattle.mail_base.specs.Ordered.{in_order_by}
 use Rattle.threads.specs.Order.{is_root, roots, thread_order, tree_of}
 use Rattle.threads.specs.Walk.{Each}
 use Rattle.threads.specs.declared.order.Entry.{Entry}

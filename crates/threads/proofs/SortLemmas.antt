@@ -1,12 +1,15 @@
 -- A sorted list is the one that puts each element before the first that does not stand before it.
 use Rattle.std.proofs.Common.{◌≡◌, ◌+◌, ◌<◌, ◌≤◌, ℕ, zero, suc, Bool, true, false, List, [], ◌∷◌}
 use Rattle.std.proofs.Common.{length, map, refl, sym, ◌∙◌}
-use Rattle.std.proofs.Common.{ap, subst, arith, if◌then◌else◌, slice_index_or, slice_set}
-use Rattle.std.proofs.lemmas.List.Sorted.{IsPermutation-keeps, IsPermutation-map, All-permutation}
+use Rattle.std.proofs.Common.{ap, subst, arith, if◌then◌else◌}
+use Rattle.std.proofs.lemmas.List.Sorted.{IsPermutation-map, All-permutation}
 use Rattle.std.specs.Cmp.{IsStrictWeakOrder}
-use Rattle.std.specs.List.{filter, range_with_len, swap}
+use Rattle.std.specs.List.{filter, range_with_len}
 use Rattle.std.specs.List.Sorted.{IsPermutation, IsSortedBy}
-use Rattle.threads.specs.Order.{IsStrictOrder, by_id, id_at, in_order_by, put_by}
+use Rattle.threads.specs.Order.{IsStrictOrder, by_id, id_at}
+use Rattle.mail_base.proofs.OrderedLemmas.{NeverFalls, in_order_permutation, in_order_same}
+use Rattle.mail_base.proofs.OrderedLemmas.{sorted_falls}
+use Rattle.mail_base.specs.Ordered.{in_order_by, put_by}
 use Rattle.mail_base.specs.declared.kind.Id.{Id}
 use Rattle.threads.specs.Families.{AreEntries, entries, entry_at, places}
 use Rattle.threads.specs.Found.{AreDistinct}
@@ -14,127 +17,6 @@ use Rattle.threads.specs.Message.{PlainMessage}
 use Rattle.threads.specs.Walk.{Each}
 use Rattle.threads.specs.declared.order.Entry.{Entry}
 use Rattle.threads.proofs.OrderLemmas.{same_id}
-
-true_false : ◌≡◌ {A = Bool} true false → ⊥
-true_false e = cc
-
--- no element stands before the one in front of it
-abbrev pub NeverFalls : {X : Type 0} → (X → X → Bool) → List X → Type 0
-NeverFalls before [] = Unit {0}
-NeverFalls before (x ∷ []) = Unit {0}
-NeverFalls before (x ∷ y ∷ xs) = (before y x ≡ false) × NeverFalls before (y ∷ xs)
-
-pub sorted_falls : {X : Type 0} (before : X → X → Bool) (xs : List X) → IsSortedBy before xs
-    → NeverFalls before xs
-sorted_falls before [] sorted = tt
-sorted_falls before (x ∷ []) sorted = tt
-sorted_falls before (x ∷ y ∷ xs) sorted = (
-  sorted 0 x (omega arith) (omega arith),
-  sorted_falls before (y ∷ xs) (λ k d low high.
-      let same : suc k + 1 ≡ suc (k + 1) = omega arith in
-      subst (λ (n : ℕ). before (slice_index_or (x ∷ y ∷ xs) n d) (slice_index_or (y ∷ xs) k d)
-      ≡ false) same
-      (sorted (suc k) d (omega arith) (omega arith))),
-)
-
--- such a list is in order already
-pub in_order_same : {X : Type 0} (before : X → X → Bool) (xs : List X) → NeverFalls before xs
-    → in_order_by before xs ≡ xs
-in_order_same before [] falls = refl
-in_order_same before (x ∷ []) falls = refl
-in_order_same before (x ∷ y ∷ xs) falls =
-    ap (put_by before x) (in_order_same before (y ∷ xs) falls.1)
-    ∙ ap (λ (b : Bool). if b then y ∷ put_by before x xs else x ∷ y ∷ xs) falls.0
-
-module _ {X : Type 0} (before : X → X → Bool) (o : IsStrictWeakOrder before)
-    (same : (x y : X) → before x y ≡ false → before y x ≡ false → x ≡ y) where
-  between : (x y z : X) → before z x ≡ true → before z y ≡ false → before y x ≡ true
-  between x y z less above = by_test (before y x) refl
-    where
-      by_test : (b : Bool) → before y x ≡ b → before y x ≡ true
-      by_test true is = is
-      by_test false is = absurd (true_false (sym less ∙ o.chain z y x above is))
-
-  first_two : (x y : X) (rest : List X) → (if before y x then y ∷ x ∷ rest else x ∷ y ∷ rest)
-      ≡ (if before x y then x ∷ y ∷ rest else y ∷ x ∷ rest)
-  first_two x y rest = by_tests (before y x) (before x y) refl refl
-    where
-      by_tests : (p q : Bool) → before y x ≡ p → before x y ≡ q
-          → (if p then y ∷ x ∷ rest else x ∷ y ∷ rest) ≡ (if q then x ∷ y ∷ rest else y ∷ x ∷ rest)
-      by_tests true true p q = absurd (true_false (sym q ∙ o.one_way y x p))
-      by_tests true false p q = refl
-      by_tests false true p q = refl
-      by_tests false false p q = let e : x ≡ y = same x y q p in cc
-
-  -- two elements may be put in either order
-  pub put_put : (x y : X) (xs : List X)
-      → put_by before x (put_by before y xs) ≡ put_by before y (put_by before x xs)
-  put_put x y [] = first_two x y []
-  put_put x y (z ∷ xs) = by_tests (before z x) (before z y) refl refl (put_put x y xs)
-    where
-      at_first : (w : X) (b : Bool) (tail : List X) → before z w ≡ b
-          → put_by before w (z ∷ tail) ≡ (if b then z ∷ put_by before w tail else w ∷ z ∷ tail)
-      at_first w b tail is =
-          ap (λ (t : Bool). if t then z ∷ put_by before w tail else w ∷ z ∷ tail) is
-
-      at_other : (w v : X) (b : Bool) (tail : List X) → before v w ≡ b
-          → put_by before w (v ∷ tail) ≡ (if b then v ∷ put_by before w tail else w ∷ v ∷ tail)
-      at_other w v b tail is =
-          ap (λ (t : Bool). if t then v ∷ put_by before w tail else w ∷ v ∷ tail) is
-
-      by_tests : (p q : Bool) → before z x ≡ p → before z y ≡ q
-          → put_by before x (put_by before y xs) ≡ put_by before y (put_by before x xs)
-          → put_by before x (if q then z ∷ put_by before y xs else y ∷ z ∷ xs)
-          ≡ put_by before y (if p then z ∷ put_by before x xs else x ∷ z ∷ xs)
-      by_tests true true p q again =
-          at_first x true (put_by before y xs) p ∙ ap (λ (l : List X). z ∷ l) again
-          ∙ sym (at_first y true (put_by before x xs) q)
-      by_tests true false p q again =
-          at_other x y true (z ∷ xs) (between x y z p q)
-          ∙ ap (λ (l : List X). y ∷ l) (at_first x true xs p)
-          ∙ sym (at_first y false (put_by before x xs) q)
-      by_tests false true p q again =
-          at_first x false (put_by before y xs) p
-          ∙ sym (at_other y x true (z ∷ xs) (between y x z q p)
-          ∙ ap (λ (l : List X). x ∷ l) (at_first y true xs q))
-      by_tests false false p q again =
-          ap (λ (l : List X). if before y x then y ∷ l else x ∷ y ∷ z ∷ xs) (at_first x false xs p)
-          ∙ first_two x y (z ∷ xs)
-          ∙ sym (ap (λ (l : List X). if before x y then x ∷ l else y ∷ x ∷ z ∷ xs)
-          (at_first y false xs q))
-
-  one_put : (xs : List X) (j : ℕ) (x d : X) → j < length xs
-      → put_by before (slice_index_or xs j d) (in_order_by before (slice_set xs j x))
-      ≡ put_by before x (in_order_by before xs)
-  one_put [] j x d low = absurd (omega arith)
-  one_put (y ∷ xs) zero x d low = put_put y x (in_order_by before xs)
-  one_put (y ∷ xs) (suc j) x d low =
-      put_put (slice_index_or xs j d) y (in_order_by before (slice_set xs j x))
-      ∙ ap (put_by before y) (one_put xs j x d (omega arith))
-      ∙ put_put y x (in_order_by before xs)
-
-  exchanged : (xs : List X) (i j : ℕ) (d : X) → i < length xs → j < length xs
-      → in_order_by before
-      (slice_set (slice_set xs i (slice_index_or xs j d)) j (slice_index_or xs i d))
-      ≡ in_order_by before xs
-  exchanged [] i j d first second = absurd (omega arith)
-  exchanged (x ∷ xs) zero zero d first second = refl
-  exchanged (x ∷ xs) zero (suc j) d first second = one_put xs j x d (omega arith)
-  exchanged (x ∷ xs) (suc i) zero d first second = one_put xs i x d (omega arith)
-  exchanged (x ∷ xs) (suc i) (suc j) d first second =
-      ap (put_by before x) (exchanged xs i j d (omega arith) (omega arith))
-
-  swapped : (xs : List X) (i j : ℕ) → i < length xs → j < length xs
-      → in_order_by before (swap xs i j) ≡ in_order_by before xs
-  swapped [] i j first second = absurd (omega arith)
-  swapped (x ∷ xs) i j first second = exchanged (x ∷ xs) i j x first second
-
-  -- the order does not hang on how the elements lay
-  pub in_order_permutation : (xs ys : List X) → IsPermutation xs ys
-      → in_order_by before ys ≡ in_order_by before xs
-  in_order_permutation xs ys moved =
-      IsPermutation-keeps xs (λ (l : List X). in_order_by before l ≡ in_order_by before xs) refl
-      (λ l i j first second is. swapped l i j first second ∙ is) ys moved
 
 -- A part of a list in order is in order.
 

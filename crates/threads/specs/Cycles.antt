@@ -28,6 +28,7 @@ abbrev pub cut_link : (ℕ → ℕ → Bool) → List (Option Step) → ℕ → 
 cut_link is_before links place =
     if heads_cycle is_before links place then None else slice_index_or links place None
 
+-- links of which each cycle is cut
 abbrev pub without_cycles : (ℕ → ℕ → Bool) → List (Option Step) → List (Option Step)
 without_cycles is_before links =
     map (cut_link is_before links) (range_with_len 0 (length links))

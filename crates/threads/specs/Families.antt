@@ -18,9 +18,11 @@ use Rattle.threads.specs.declared.step.Step.{Step}
 abbrev pub entry_at : List PlainMessage → ℕ → Entry
 entry_at messages place = record { place = place; id = id_at messages place }
 
+-- an entry for each message
 abbrev pub entries : List PlainMessage → List Entry
 entries messages = map (entry_at messages) (range_with_len 0 (length messages))
 
+-- the places of entries
 abbrev pub places : List Entry → List ℕ
 places entries = map (λ e. e.place) entries
 

@@ -11,6 +11,7 @@ use Rattle.threads.specs.declared.options.ThreadOptions.{ThreadOptions}
 use Rattle.threads.specs.declared.step.Step.{Step}
 use Rattle.threads.specs.declared.threads.Found.{Found}
 
+-- no two messages have one id
 abbrev pub AreDistinct : List PlainMessage → Type 0
 AreDistinct messages = IsDistinct nat_eq (numbers messages)
 
@@ -37,9 +38,11 @@ cut_at_roots links roots =
     map (λ p. if slice_index roots p == p then None else slice_index_or links p None)
     (range_with_len 0 (length links))
 
+-- the root of a root, which is itself, or of what it follows
 abbrev pub root_above : List (Option Step) → ℕ → ℕ
 root_above parents root = onward (λ next. next) root (target parents root)
 
+-- places are those of so many
 abbrev pub AreWithin : List ℕ → ℕ → Type 0
 AreWithin places n = (i : ℕ) → i < length places → slice_index places i < n
 

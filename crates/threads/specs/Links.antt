@@ -33,6 +33,7 @@ referred find place (id ∷ ids) = option_or (other_than place (find id)) (refer
 abbrev pub duplicated : (List ℕ → Option ℕ) → ℕ → Option (List ℕ) → Option ℕ
 duplicated find place own = option_and_then (λ id. other_than place (find id)) own
 
+-- a step to a place by a link
 abbrev pub step : Link → ℕ → Step
 step link place = record { place = place; link = link }
 
@@ -43,6 +44,7 @@ link_by find options m place = option_or
     else None)
     (option_map (step Reference) (referred find place m.candidates))
 
+-- what a message answers by ids
 abbrev pub link_of : ThreadOptions → List PlainMessage → ℕ → Option Step
 link_of options messages place = link_by (holder messages) options (at messages place) place
 

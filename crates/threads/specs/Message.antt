@@ -76,6 +76,7 @@ numbers messages = map (λ m. m.id.0) messages
 
 -- For the code alone.
 
+-- a message as contracts see it
 abbrev pub plain_message : Message → PlainMessage
 plain_message m = record {
   id = m.id;
@@ -88,5 +89,6 @@ plain_message m = record {
   reply_prefix = m.reply_prefix;
 }
 
+-- messages as contracts see them
 abbrev pub plain_messages : List Message → List PlainMessage
 plain_messages messages = map plain_message messages

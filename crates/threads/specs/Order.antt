@@ -1,10 +1,11 @@
 -- Messages in the order of threads: each root, and behind it all that follow it.
 use Rattle.std.specs.Prelude.{◌≡◌, ◌^◌, ◌<◌, ℕ, zero, suc, Bool, false, List, [], ◌∷◌, length}
-use Rattle.std.specs.Prelude.{map, is_none, nat_eq, slice_get, Option, Some, if◌then◌else◌}
+use Rattle.std.specs.Prelude.{map, is_none, nat_eq, slice_get, Option, Some}
 use Rattle.std.specs.Cmp.{IsStrictWeakOrder}
 use Rattle.std.specs.Fn.{FnReturns, Shared}
 use Rattle.std.specs.List.{filter, flat_map, range_with_len}
 use Rattle.std.specs.Option.{option_map_or}
+use Rattle.mail_base.specs.Ordered.{in_order_by}
 use Rattle.mail_base.specs.declared.kind.Id.{Id}
 use Rattle.threads.specs.Links.{target}
 use Rattle.threads.specs.Message.{PlainMessage, at}
@@ -12,16 +13,6 @@ use Rattle.threads.specs.Subjects.{parents}
 use Rattle.threads.specs.Threads.{PlainThreads, parent}
 use Rattle.threads.specs.declared.options.Parent.{Parent}
 use Rattle.threads.specs.declared.step.Step.{Step}
-
--- an element put before the first of these that does not stand before it
-abbrev pub put_by : {A : Type 0} → (A → A → Bool) → A → List A → List A
-put_by before x [] = x ∷ []
-put_by before x (y ∷ ys) = if before y x then y ∷ put_by before x ys else x ∷ y ∷ ys
-
--- the elements in order
-abbrev pub in_order_by : {A : Type 0} → (A → A → Bool) → List A → List A
-in_order_by before [] = []
-in_order_by before (x ∷ xs) = put_by before x (in_order_by before xs)
 
 -- a place has no parent
 abbrev pub is_root : List (Option Step) → ℕ → Bool
@@ -36,9 +27,11 @@ abbrev pub in_order : (ℕ → ℕ → Bool) → List (Option Step) → (ℕ →
 in_order before parents passes =
     in_order_by before (filter passes (range_with_len 0 (length parents)))
 
+-- the roots, in order
 abbrev pub roots : (ℕ → ℕ → Bool) → List (Option Step) → List ℕ
 roots before parents = in_order before parents (is_root parents)
 
+-- the children of a place, in order
 abbrev pub children : (ℕ → ℕ → Bool) → List (Option Step) → ℕ → List ℕ
 children before parents above = in_order before parents (is_child parents above)
 

@@ -41,11 +41,13 @@ cut_target before links p = option_map (λ s. s.place) (cut_link before links p)
 abbrev pub mark_at : List Mark → ℕ → Mark
 mark_at marks p = slice_index_or marks p Unseen
 
+-- a place was not met yet
 abbrev pub is_unseen : Mark → Bool
 is_unseen Unseen = true
 is_unseen (OnWay i) = false
 is_unseen (Ended r) = false
 
+-- how many places were not met yet
 abbrev pub unseen : List Mark → ℕ
 unseen marks = count_by is_unseen marks
 
@@ -102,13 +104,16 @@ abbrev pub EndsAt : List Mark → ℕ → ℕ → Option ℕ → Type 0
 EndsAt marks root p None = p ≡ root
 EndsAt marks root p (Some q) = mark_at marks q ≡ Ended root
 
+-- a way can be left at a root
 abbrev pub CanEnd : List (Option Step) → List Mark → List ℕ → ℕ → Type 0
 CanEnd links marks [] root = Unit {0}
 CanEnd links marks (p ∷ rest) root = EndsAt marks root p (target links p)
 
+-- the state of a place on the way
 abbrev pub on_way : ℕ → Mark
 on_way i = OnWay i
 
+-- the state of a place whose root is known
 abbrev pub ended : ℕ → Mark
 ended r = Ended r
 
@@ -157,6 +162,7 @@ pub record ClosesCycle (before : ℕ → ℕ
   pub least : (i : ℕ) → i < length (drop number old.way)
       → before (slice_index (drop number old.way) i) root ≡ false
 
+-- what was met was met before
 abbrev pub IsSeen : List Mark → Option ℕ → Type 0
 IsSeen marks met = (p : ℕ) → met ≡ Some p → is_unseen (mark_at marks p) ≡ false
 

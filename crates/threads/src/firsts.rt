@@ -14,9 +14,14 @@ use std::alloc::Global;
 use std::marker::Model;
 
 /// A table from texts, which stay where they are, to places.
-#[derive(Drop)]
 pub struct Firsts<'a> {
     places: IndexMap<&'a [u8], usize>,
+}
+
+impl<'a> Drop for Firsts<'a> {
+    fn drop(self) {
+        let Firsts { places: _ } = self;
+    }
 }
 
 impl<'a> Model for Firsts<'a> {

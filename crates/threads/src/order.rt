@@ -9,7 +9,8 @@ ghost use Rattle.mail_base.specs.declared.kind.Id as id;
 ghost use Rattle.threads.specs.Families as spec;
 ghost use Rattle.threads.specs.Found.{AreDistinct, LeadsBelow};
 ghost use Rattle.threads.specs.Message.{plain_messages};
-ghost use Rattle.threads.specs.Order.{Answers, IsStrictOrder, by_id, id_at, in_order_by};
+ghost use Rattle.threads.specs.Order.{Answers, IsStrictOrder, by_id, id_at};
+ghost use Rattle.mail_base.specs.Ordered.{in_order_by};
 ghost use Rattle.threads.specs.Order.{thread_order, tree_of};
 ghost use Rattle.threads.specs.Walk.{Each};
 

@@ -29,7 +29,6 @@ use std::marker::Model;
 
 /// Threads, which contracts see as their options, the messages that were added, and whether
 /// their parents are worked out.
-#[derive(Drop)]
 pub struct Threads {
     alloc: Global,
     options: ThreadOptions,
@@ -44,6 +43,18 @@ pub struct Threads {
 pub struct Found {
     pub parents: Vec<Option<Step>>,
     pub roots: Vec<usize>,
+}
+
+impl Drop for Threads {
+    fn drop(self) {
+        let Threads {
+            alloc: _,
+            options: _,
+            messages: _,
+            numbers: _,
+            found: _,
+        } = self;
+    }
 }
 
 impl Model for Threads {

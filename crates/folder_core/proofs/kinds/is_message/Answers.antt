@@ -18,4 +18,4 @@ returns-in-Some-clause-numbers g c =
     ∙ ap (path_in c.args.path.now) (c.in-Ok.ensures.cases.0 ∙ c.as_slice-2.ensures))
     (ap is_number (sym c.as_slice.ensures) ∙ ap is_some (sym c.read_number.ensures)
     ∙ c.is_none.ensures ∙ ap not c.if-is_none.false)
-    (c.is_filled.ensures ∙ ap tells_message (sym c.in-Some.is)) c.in_ok-stat.ensures.saw
+    (c.is_filled.ensures ∙ ap tells_message (sym c.in-Some.is)) c.in_ok-stat.ensures.looked.saw

@@ -1,10 +1,8 @@
-use Rattle.std.proofs.Common.{◌≤◌, [], ◌∷◌, ◌++◌, length, map, ap, ◌∙◌, arith}
+use Rattle.std.proofs.Common.{◌≤◌, length, map, arith}
 use Rattle.std.proofs.lemmas.List.{length-map}
 use Rattle.mail_base.specs.Series.{plain_texts}
 use Rattle.headers.specs.FoldedField.{plain_folded}
-use Rattle.headers.specs.References.{last_ids}
 use Rattle.headers.specs.Values.{references}
-use Rattle.headers.specs.declared.folded_field.FoldedField.{FoldedField}
 use Rattle.headers.proofs.ReferencesLemmas.{last_ids_kept, last_ids_rest}
 use Rattle.headers.proofs.references.last_references.Goals as goal
 

@@ -1,5 +1,5 @@
 use Rattle.std.proofs.Common.{◌≡◌, ◌++◌, length}
-use Rattle.folder_core.specs.declared.listing.Found.{Found}
+use Rattle.folder_letters.specs.declared.listing.Found.{Found}
 use Rattle.index_items.specs.Found as spec
 use Rattle.index_items.specs.Items.{plain_items}
 use Rattle.index_items.proofs.found.put_all_kept.Given as goal

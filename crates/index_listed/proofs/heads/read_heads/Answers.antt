@@ -1,6 +1,6 @@
 use Rattle.std.proofs.Common.{◌≡◌, ◌∙◌, ◌+◌, ◌∷◌, [], ◌<◌, ap, arith, length, map, subst, sym}
 use Rattle.std.proofs.lemmas.List.{length-append, length-map, map_push}
-use Rattle.folder_core.specs.Letters.{plain_letter}
+use Rattle.folder_letters.specs.Letters.{plain_letter}
 use Rattle.headers.specs.Header.{plain_header}
 use Rattle.std.proofs.Common.{slice_index_or}
 use Rattle.index_listed.specs.Heads.{AreHeads}

@@ -1,5 +1,5 @@
 use Rattle.std.proofs.Common.{◌≡◌, ◌++◌, length, map}
-use Rattle.folder_core.specs.Letters.{plain_letter}
+use Rattle.folder_letters.specs.Letters.{plain_letter}
 use Rattle.index_listed.specs.Heads.{AreWithin}
 use Rattle.index_listed.specs.Listed as spec
 use Rattle.index_listed.specs.Places.{numbers}

@@ -1,5 +1,5 @@
 use Rattle.std.proofs.Common.{map}
-use Rattle.folder_core.specs.Letters.{plain_letter}
+use Rattle.folder_letters.specs.Letters.{plain_letter}
 use Rattle.index_listed.proofs.HeadLemmas.{head_is, letter_is}
 use Rattle.index_listed.proofs.listed.listed_with.Goals as goal
 

@@ -10,11 +10,12 @@ use Rattle.index_listed.specs.Places.{numbers}
 use Rattle.index_listed.specs.Sight.{stances}
 use Rattle.index_listed.specs.Threading.{threads}
 use Rattle.index_listed.proofs.ListLemmas.{as_many}
-use Rattle.index_order.specs.Order.{is_threads, order}
+use Rattle.index_order.specs.Options.{sort_options}
+use Rattle.index_order.specs.Order.{order}
 use Rattle.index_view.specs.Answers.{facts, ordered, scored, scored_by}
 use Rattle.index_view.specs.Ordering.{keys, numbered}
 use Rattle.index_view.specs.Tables.{first_rows, scored_at, table}
-use Rattle.index_view.proofs.OrderLemmas.{keys_given, links_long, ordered_apart}
+use Rattle.index_view.proofs.OrderLemmas.{links_long}
 use Rattle.index_view.proofs.answers.in_order.Goals as goal
 
 pub scored-requires-clause-links : goal.scored-requires-clause-links
@@ -25,8 +26,8 @@ scored-requires-clause-links c =
     ∙ links_long (threads c.args.options.threads ls) (ids ls) ls _
     ∙ length-map listed plain_listed
 
-pub keys-requires : goal.keys-requires
-keys-requires c =
+pub order_of-requires-clause-rows : goal.order_of-requires-clause-rows
+order_of-requires-clause-rows c =
     let listed = c.args.listed.now in
     let ls = map plain_listed listed in
     let tables = c.args.tables.now in
@@ -37,24 +38,9 @@ keys-requires c =
     ∙ as_many _ (length ls) rows (λ _. rows)
     ∙ length-map listed plain_listed
 
-pub order-requires : goal.order-requires
-order-requires c =
-    let ls = map plain_listed c.args.listed.now in
-    let given = c.requires.threaded in
-    keys_given c.args.options.threads ls c.deref-2.result.now c.deref-3.result.now
-    c.args.threaded.now.threads c.requires.apart given.forest
-    (c.deref-3.ensures.value ∙ c.in_ok-keys.ensures) given.threads_are
-
 pub places_of-requires : goal.places_of-requires
-places_of-requires c =
-    let ls = map plain_listed c.args.listed.now in
-    let given = c.requires.threaded in
-    let of = keys_given c.args.options.threads ls c.deref-2.result.now c.deref-3.result.now
-    c.args.threaded.now.threads c.requires.apart given.forest
-    (c.deref-3.ensures.value ∙ c.in_ok-keys.ensures) given.threads_are in
-    subst (λ (o : List Id). IsDistinct nat_eq (numbers o)) (sym c.as_slice.ensures)
-    (ordered_apart c.deref-3.result.now c.in_ok-order.order.items of.distinct
-    c.in_ok-order.ensures.once)
+places_of-requires c = subst (λ (o : List Id). IsDistinct nat_eq (numbers o))
+    (sym c.as_slice.ensures) c.in_ok-order.ensures.apart
 
 pub returns-clause-value : goal.returns-clause-value
 returns-clause-value c =
@@ -65,26 +51,21 @@ returns-clause-value c =
     let given = c.requires.threaded in
     let ts = c.args.threaded.now.threads in
     let ids_now = c.in_ok-order.order.items in
-    let ks = c.deref-3.result.now in
     let scored_are : c.in_ok-scored.scored.items ≡ scored ls f = c.in_ok-scored.ensures.value
     ∙ ap (scored_by tables.people (held_entries tables.scores.entries.items) ls
     (plain_items c.args.items.now)) (c.deref.ensures.value ∙ given.links_are) in
-    let keys_are : ks ≡ keys ls (scored ls f) = c.deref-3.ensures.value ∙ c.in_ok-keys.ensures
-    ∙ ap (keys ls) (c.deref-2.ensures.value ∙ scored_are) in
     let order_is : ids_now ≡ ordered ls f = c.in_ok-order.ensures.order
-    ∙ (λ i. order (c.sorting.ensures i) (keys_are i) (given.threads_are i)) in
-    let of = keys_given options.threads ls (scored ls f) ks ts c.requires.apart given.forest
-    keys_are given.threads_are in record {
+    ∙ (λ i. order (sort_options options) (keys ls ((c.deref-2.ensures.value ∙ scored_are) i))
+    (given.threads_are i)) in record {
       rows_are = c.in_ok-rows.ensures ids_now
           (c.in_ok-order_places.ensures ∙ ap numbers c.as_slice.ensures)
-          ∙ (λ i. numbered (order_is i) ((c.deref-4.ensures.value ∙ scored_are) i));
+          ∙ (λ i. numbered (order_is i) ((c.deref-3.ensures.value ∙ scored_are) i));
       order_is = order_is;
-      apart = ordered_apart ks ids_now of.distinct c.in_ok-order.ensures.once;
+      apart = c.in_ok-order.ensures.apart;
       stances_are = c.in_ok-stances.ensures.value
           ∙ (λ i. stances (c.is_threads-is_threaded.ensures i) (given.threads_are i)
           (given.places_are i) ((c.as_slice-ids.ensures ∙ order_is) i));
       first = c.in_ok-stances.ensures.first (λ is. subst (ParentsFirst ts)
-          (sym c.as_slice-ids.ensures) (c.in_ok-order.ensures.first
-          (ap is_threads (ap (λ o. o.sort) c.sorting.ensures)
-          ∙ sym c.is_threads-is_threaded.ensures ∙ is)));
+          (sym c.as_slice-ids.ensures)
+          (c.in_ok-order.ensures.first (sym c.is_threads-is_threaded.ensures ∙ is)));
     }

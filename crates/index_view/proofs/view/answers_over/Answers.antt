@@ -1,7 +1,7 @@
 use Rattle.std.proofs.Common.{◌≡◌, ◌∙◌, List, ap, map, nat_eq, subst, sym}
 use Rattle.std.specs.List.{IsDistinct}
 use Rattle.std.specs.Prelude.{IfOk}
-use Rattle.folder_core.specs.Letters.{plain_letter}
+use Rattle.folder_letters.specs.Letters.{plain_letter}
 use Rattle.index_items.specs.Items.{plain_items}
 use Rattle.index_listed.specs.Listed.{PlainListed, ids, plain_listed}
 use Rattle.index_view.specs.Answers.{PlainAnswers, answers, facts}

@@ -5,19 +5,17 @@ use Rattle.std.specs.List.{filter}
 use Rattle.std.specs.Str.{IsUtf8}
 use Rattle.mail_base.specs.Series.{Held}
 use Rattle.disk_model.specs.Answers.{AreText}
-use Rattle.folder_core.specs.Maildir.{MaildirFile, files_in}
-use Rattle.folder_core.specs.MaildirNames.{begins_dot}
+use Rattle.folder_core.specs.Maildir.{MaildirFile, files_in, is_shown}
 use Rattle.folder_core.proofs.SeenLemmas.{first_and_rest}
 use Rattle.maildir_folder.proofs.candidates.add_names.Goals as goal
 
 files_in-cons : (in_cur : Bool) (name : List ℕ) (names : List (List ℕ))
     → files_in in_cur (name ∷ names) ≡ files_in in_cur (name ∷ []) ++ files_in in_cur names
-files_in-cons in_cur name names = by_dot (not (begins_dot name))
+files_in-cons in_cur name names = by_dot (is_shown name)
   where
     by_dot : (t : Bool)
         → map (λ n. record { in_cur = in_cur; name = n })
-        (if t then name ∷ filter (λ n. not (begins_dot n)) names
-        else filter (λ n. not (begins_dot n)) names)
+        (if t then name ∷ filter is_shown names else filter is_shown names)
         ≡ map (λ n. record { in_cur = in_cur; name = n }) (if t then name ∷ [] else [])
         ++ files_in in_cur names
     by_dot true = refl

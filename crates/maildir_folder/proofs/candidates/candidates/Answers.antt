@@ -1,6 +1,6 @@
 use Rattle.std.proofs.Common.{ap, map, ◌∙◌, ◌++◌, true, false}
 use Rattle.folder_core.specs.Maildir.{comes_before, files_in}
-use Rattle.folder_core.specs.Ordered.{in_order_by}
+use Rattle.mail_base.specs.Ordered.{in_order_by}
 use Rattle.maildir_folder.specs.Candidates.{plain_file}
 use Rattle.maildir_folder.proofs.Sorting.{sorted_files}
 use Rattle.maildir_folder.proofs.candidates.candidates.Goals as goal

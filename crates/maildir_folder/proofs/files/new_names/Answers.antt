@@ -1,15 +1,27 @@
 use Rattle.std.proofs.Common.{◌∙◌, false}
 use Rattle.folder_core.specs.Maildir.{directory}
-use Rattle.folder_core.specs.declared.looks.Contents.TheVariants.{Nothing}
-use Rattle.maildir_folder.proofs.Finding.{contents_told, new_missing, was_found}
+use Rattle.folder_core.specs.declared.looks.Contents.TheVariants.{File, Nothing}
+use Rattle.maildir_folder.proofs.Finding.{contents_told, names_found, names_none, new_file}
+use Rattle.maildir_folder.proofs.Finding.{new_missing}
 use Rattle.maildir_folder.proofs.files.new_names.Goals as goal
 
-pub returns-in-Ok-Nothing-clause-found : goal.returns-in-Ok-Nothing-clause-found
-returns-in-Ok-Nothing-clause-found g c =
-    was_found c.args.path.now c.new.result _ _ c.in-Ok-Nothing.ensures.looked.only
-    c.in-Ok-Nothing.ensures.looked.reads
+pub returns-in-Nothing-clause-found : goal.returns-in-Nothing-clause-found
+returns-in-Nothing-clause-found g c =
+    names_found c.args.path.now c.new.result _ _ c.contents_of.ensures.looked.only
+    c.contents_of.ensures.reads
     (new_missing c.args.path.now c.new.result c.mark.result _ _ c.new.ensures c.mark.ensures.1
-    (contents_told c.as_str.result.now (directory false c.args.path.now) c.in-Ok-Nothing.field-0
+    (contents_told c.as_str.result.now (directory false c.args.path.now)
+    c.in_ok-names.field-0
     Nothing _ _
-    (c.as_str.ensures.value ∙ c.in-Ok.ensures) c.in-Ok-Nothing.field-0-is
-    c.in-Ok-Nothing.ensures.looked.saw))
+    (c.as_str.ensures.value ∙ c.in_ok-dir.ensures) c.in-Nothing.is
+    c.in_ok-names.ensures.looked.saw))
+
+pub returns-clause-found : goal.returns-clause-found
+returns-clause-found g c =
+    names_none c.args.path.now (directory false c.args.path.now) File _ _
+    c.contents_of.ensures.looked.only c.contents_of.ensures.reads
+    (new_file c.args.path.now)
+    (contents_told c.as_str.result.now (directory false c.args.path.now)
+    c.in_ok-names.field-0 File _ _
+    (c.as_str.ensures.value ∙ c.in_ok-dir.ensures) c.in-File.is
+    c.in_ok-names.ensures.looked.saw)

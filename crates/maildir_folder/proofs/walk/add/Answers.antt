@@ -1,6 +1,6 @@
 use Rattle.std.proofs.Common.{◌≡◌, ◌+◌, OnOk, subst}
 use Rattle.mail_base.specs.declared.flags.Flags.{Flags}
-use Rattle.folder_core.specs.Letters.{Mail, plain_letter}
+use Rattle.folder_letters.specs.Letters.{Mail, plain_letter}
 use Rattle.folder_core.specs.ListedSoFar.{store_of, store_with}
 use Rattle.folder_core.specs.Maildir.{message_of}
 use Rattle.maildir_folder.specs.Candidates.{plain_file}

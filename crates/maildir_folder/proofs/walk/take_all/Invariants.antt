@@ -1,10 +1,9 @@
-use Rattle.std.proofs.Common.{◌≡◌, ◌≤◌, ◌+◌, length, map, take}
+use Rattle.std.proofs.Common.{◌≡◌, ◌≤◌, ◌+◌, Bool, Ok, length, map, take, true}
 use Rattle.std.specs.Prelude.{option_map}
 use Rattle.std.specs.List.{All}
 use Rattle.disk_model.specs.Looking.{OnlyLooks}
 use Rattle.maildir_folder.specs.Candidates.{IsCandidate, Rises, plain_file}
-use Rattle.folder_core.specs.ListedSoFar.{store_of}
-use Rattle.maildir_folder.specs.Walk.{ReadsFound}
+use Rattle.folder_core.specs.ListedSoFar.{ReadsLeft, store_of}
 use Rattle.maildir_folder.proofs.Walking.{Walking}
 use Rattle.maildir_folder.proofs.walk.take_all.Given as goal
 
@@ -16,7 +15,7 @@ invariant-loop-left g l = record {
   front : take (length l.initial.archive.items) l.archive.items ≡ l.initial.archive.items;
   only : OnlyLooks ((goal.Disk-dyn g l.initial.disk.now).seen l.initial.disk.now.1)
       ((goal.Disk-dyn g l.disk.now).seen l.disk.now.1);
-  reads : ReadsFound l.initial.so_far.bytes l.so_far.bytes
+  reads : ReadsLeft {A = Bool} (Ok true) l.initial.so_far.bytes l.so_far.bytes
       ((goal.Disk-dyn g l.initial.disk.now).seen l.initial.disk.now.1).bytes_read
       ((goal.Disk-dyn g l.disk.now).seen l.disk.now.1).bytes_read;
   walked : Walking l.path (map plain_file l.files) (map plain_file l.left)

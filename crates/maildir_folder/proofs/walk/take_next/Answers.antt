@@ -1,5 +1,9 @@
-use Rattle.maildir_folder.proofs.Reading.{found_same}
+use Rattle.std.proofs.Common.{false, rules}
+use Rattle.folder_core.proofs.ReadsLemmas.{left_same}
 use Rattle.maildir_folder.proofs.walk.take_next.Goals as goal
 
-pub returns-then-is_taken-clause-reads : goal.returns-then-is_taken-clause-reads
-returns-then-is_taken-clause-reads g c = found_same c.args.so_far.now.bytes _
+pub returns-then-is_taken-clause-walks : goal.returns-then-is_taken-clause-walks
+returns-then-is_taken-clause-walks g c = record {
+  meets = search rules;
+  reads = left_same false c.args.so_far.now.bytes _;
+}

@@ -6,7 +6,7 @@ use Rattle.folder_core.specs.declared.error.ScanError.TheVariants.{Missing, NotM
 use Rattle.folder_core.specs.declared.error.ScanError.TheVariants.{TooLarge, Unfinished}
 use Rattle.folder_core.specs.declared.error.ScanError.TheVariants.{ArchiveFull, Fault, NoMemory}
 use Rattle.folder_core.specs.declared.region.Region.{Region}
-use Rattle.folder_core.specs.Letters.{plain_letter}
+use Rattle.folder_letters.specs.Letters.{plain_letter}
 use Rattle.folder_core.specs.Mbox.{begins_mailbox, raw_messages, regions}
 use Rattle.folder_core.specs.Limits.{count_refusal}
 use Rattle.folder_core.specs.Mbox.{bytes_refusal}

@@ -1,8 +1,8 @@
 use Rattle.std.proofs.Common.{◌≡◌, ◌≤◌, ◌++◌, ◌<◌, length, map, ℕ, List, [], ◌∷◌, refl, sym, ◌∙◌}
 use Rattle.std.proofs.Common.{ap, arith, append-nil, slice_index_or, take_all}
 use Rattle.folder_core.specs.declared.region.Region.{Region}
-use Rattle.folder_core.specs.declared.listing.Listed.{Listed}
-use Rattle.folder_core.specs.Letters.{Mail, plain_letter}
+use Rattle.folder_letters.specs.declared.listing.Listed.{Listed}
+use Rattle.folder_letters.specs.Letters.{Mail, plain_letter}
 use Rattle.folder_core.specs.Mbox.{Cover, raw_messages, regions}
 use Rattle.mbox_folder.specs.ListedFile.{letters_from, listed_from}
 use Rattle.folder_core.proofs.Messages.{in_region, map-regions, Cover-le, Cover-same}

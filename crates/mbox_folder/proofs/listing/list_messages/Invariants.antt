@@ -1,5 +1,5 @@
 use Rattle.std.proofs.Common.{◌≡◌, ◌+◌, ◌++◌, ℕ, length, map, take}
-use Rattle.folder_core.specs.Letters.{plain_letter}
+use Rattle.folder_letters.specs.Letters.{plain_letter}
 use Rattle.folder_core.specs.Mbox.{Cover}
 use Rattle.mbox_folder.specs.ListedFile.{letters_from, listed_from}
 use Rattle.folder_core.proofs.Messages.{in_region}

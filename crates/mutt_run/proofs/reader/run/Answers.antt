@@ -2,6 +2,7 @@ use Rattle.std.proofs.Common.{arith, FitsSigned, w64}
 use Rattle.std.proofs.lemmas.Int.{ints as signed_arith}
 use Rattle.std.proofs.Math.Facts.{to_z-of_z}
 use Rattle.session_state.specs.Instants.{IsMoment}
+use Rattle.session.proofs.GivenLemmas.{given_here}
 use Rattle.mutt_run.proofs.CompleteLemmas.{completes}
 use Rattle.mutt_run.proofs.EndLemmas.{chosen_told, clocked, disk_told, ends_told, keys_told, looked}
 use Rattle.mutt_run.proofs.EndLemmas.{notes_told, out_told, prints_told}
@@ -9,18 +10,17 @@ use Rattle.mutt_run.proofs.reader.run.Goals as goal
 
 pub returns-clause-words : goal.returns-clause-words
 returns-clause-words g c =
-    chosen_told c.obey_words-status.ensures.reads c.tell_end.ensures.cause
+    chosen_told (c.obey_words-status.ensures.reads _ (given_here _ _)) c.tell_end.ensures.cause
 
 pub returns-clause-runs : goal.returns-clause-runs
 returns-clause-runs g c =
-    let reads = c.obey_words-status.ensures.reads in
     let cause = c.tell_end.ensures.cause in
     let fits : FitsSigned w64 c.now-moment.result =
     omega (arith, signed_arith, c.now-moment.ensures.range) in
     let is : IsMoment c.now-moment.result =
     record { low = c.now-moment.ensures.range.0; high = c.now-moment.ensures.range.1 } in (
       _,
-      record {
+      λ given h. let reads = c.obey_words-status.ensures.reads given h in record {
         run = reads.run;
         ends = ends_told reads cause;
         moment = rw (to_z-of_z fits) is;
@@ -41,19 +41,20 @@ returns-clause-runs g c =
 
 pub returns-clause-keys : goal.returns-clause-keys
 returns-clause-keys g c = record {
-  reader = c.obey_words-status.ensures.reads.reader;
-  takes = c.obey_words-status.ensures.reads.takes;
+  reader = (c.obey_words-status.ensures.reads _ (given_here _ _)).reader;
+  takes = (c.obey_words-status.ensures.reads _ (given_here _ _)).takes;
 }
 
 pub returns-clause-looks : goal.returns-clause-looks
-returns-clause-looks g c = looked c.obey_words-status.ensures.reads
+returns-clause-looks g c = looked (c.obey_words-status.ensures.reads _ (given_here _ _))
 
 pub returns-clause-listed : goal.returns-clause-listed
-returns-clause-listed g c = c.obey_words-status.ensures.reads.listed
+returns-clause-listed g c = (c.obey_words-status.ensures.reads _ (given_here _ _)).listed
 
 pub returns-clause-disk_cause : goal.returns-clause-disk_cause
 returns-clause-disk_cause g c =
-    disk_told c.tell_end.ensures.cause c.obey_words-status.ensures.reads.fault
+    disk_told c.tell_end.ensures.cause
+    (c.obey_words-status.ensures.reads _ (given_here _ _)).fault
 
 pub returns-clause-keys_cause : goal.returns-clause-keys_cause
 returns-clause-keys_cause g c =

@@ -1,8 +1,8 @@
 use Rattle.std.proofs.Common.{◌∙◌, [], Err, ap, arith, inr, map, refl, sym}
 use Rattle.std.proofs.lemmas.List.{length-map}
 use Rattle.mail_base.specs.Series.{Held}
-use Rattle.folder_core.specs.Letters.{plain_letter}
-use Rattle.folder_core.specs.declared.letter.Letter.{Letter}
+use Rattle.folder_letters.specs.Letters.{plain_letter}
+use Rattle.folder_letters.specs.declared.letter.Letter.{Letter}
 use Rattle.session.proofs.GivenLemmas.{keeps_more, keeps_then}
 use Rattle.mutt_run.proofs.KeysLemmas.{counts_from, counts_turned, ends_broken, ends_files}
 use Rattle.mutt_run.proofs.KeysLemmas.{ends_over, presses_files}

@@ -3,8 +3,8 @@ use Rattle.std.proofs.Common.{FitsSigned, w64}
 use Rattle.std.proofs.lemmas.Int.{ints as signed_arith}
 use Rattle.std.proofs.lemmas.Int.{to_z-of_z}
 use Rattle.mail_base.specs.Series.{Held}
-use Rattle.folder_core.specs.Letters.{plain_letter}
-use Rattle.folder_core.specs.declared.letter.Letter.{Letter}
+use Rattle.folder_letters.specs.Letters.{plain_letter}
+use Rattle.folder_letters.specs.declared.letter.Letter.{Letter}
 use Rattle.keymap.specs.Reader.{PlainReader}
 use Rattle.session_events.specs.Events.{plain_events}
 use Rattle.session.proofs.GivenLemmas.{keeps_more, keeps_same, keeps_then}

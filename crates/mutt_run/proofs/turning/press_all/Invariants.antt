@@ -1,5 +1,5 @@
 use Rattle.std.proofs.Common.{◌≡◌, ◌≤◌, ◌+◌, Any, length, map}
-use Rattle.folder_core.specs.Letters.{plain_letter}
+use Rattle.folder_letters.specs.Letters.{plain_letter}
 use Rattle.session_events.specs.Events.{plain_events}
 use Rattle.session.specs.Fitting.{Fits}
 use Rattle.session.specs.Given.{Given, IsGiven}

@@ -1,6 +1,7 @@
-use Rattle.std.proofs.Common.{false, ◌≡◌, ◌∙◌, sym, ap}
+use Rattle.std.proofs.Common.{false, ◌≡◌, ◌∙◌, ◌++◌, map, sym, ap}
+use Rattle.std.proofs.lemmas.List.{nil_from_length}
 use Rattle.std.proofs.lemmas.Result.{err_from_is_err_and}
-use Rattle.patterns_match.specs.Asked.{plain_asked}
+use Rattle.patterns_match.specs.Asked.{asked_operations, plain_asked}
 use Rattle.patterns.specs.Exprs.{asked}
 use Rattle.patterns.specs.Needs.{plain_need}
 use Rattle.patterns_match.specs.Operations.{operation_map}
@@ -8,10 +9,24 @@ use Rattle.patterns.specs.Needs.{plain_operations}
 use Rattle.patterns_match.specs.Trees.{Searches}
 use Rattle.patterns_match.specs.declared.operation.Operation.TheVariants as operation
 use Rattle.patterns.proofs.CauseLemmas.{asked_more, expr_asked, halfway_on, halfway_skip}
-use Rattle.patterns.proofs.CauseLemmas.{halfway_stop, no_memory}
+use Rattle.patterns.proofs.CauseLemmas.{halfway_end, halfway_start, halfway_stop, no_memory}
 use Rattle.patterns.proofs.pattern_text.read_exprs.Goals as goal
 use Rattle.patterns.proofs.pattern_text.read_exprs.Goals.{in-Some-expr_of+in_ok-expr-in-Some-expr_of}
 use Rattle.patterns.proofs.pattern_text.read_exprs.Goals.{in-None+in_ok-next-in-None}
+
+pub loop-operation-init : goal.loop-operation-init
+loop-operation-init g c = record {
+  value = ap (λ l. asked_operations l
+      ++ map (operation_map asked) (plain_operations c.args.operations.now))
+      c.new-asked.ensures.items;
+  halfway = halfway_start _ _ _;
+}
+
+pub returns-clause-judges : goal.returns-clause-judges
+returns-clause-judges g c =
+    let left = ap plain_operations
+    (nil_from_length c.loop-operation.left.now c.in_default.ensures.cases) in
+    halfway_end (rw left at c.loop-operation.invariant.halfway)
 
 pub returns-in_err-asked-clause-judges : goal.returns-in_err-asked-clause-judges
 returns-in_err-asked-clause-judges g c =

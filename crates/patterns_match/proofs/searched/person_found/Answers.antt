@@ -1,15 +1,11 @@
-use Rattle.std.proofs.Common.{◌≡◌, ℕ, List, [], ◌++◌, ◌∙◌, ap, append_assoc, refl, sym}
+use Rattle.std.proofs.Common.{◌≡◌, ℕ, List, [], ◌++◌, ◌∙◌, ap, append_assoc, sym}
 use Rattle.std.proofs.lemmas.List.{append-nil}
 use Rattle.std.proofs.lemmas.Result.{IfOk-weaker}
 use Rattle.std.specs.Prelude.{codes}
-use Rattle.bstr.specs.Text.{lines_from}
 use Rattle.headers.specs.FoldedField.{continued}
 use Rattle.patterns_match.specs.Sought.{sought_found}
+use Rattle.patterns_match.proofs.JoinedLemmas.{no_lines}
 use Rattle.patterns_match.proofs.searched.person_found.Goals as goal
-
-no_lines : continued [] ≡ []
-unfolding lines_from
-no_lines = refl
 
 -- no line continues a person
 joined_person : (n a : List ℕ) → n ++ (codes " <" ++ (a ++ (codes ">" ++ []))) ++ continued []

@@ -1,7 +1,7 @@
 use Rattle.std.proofs.Common.{FitsSigned, arith, map, w64}
 use Rattle.std.proofs.Math.Facts.{to_z-of_z}
 use Rattle.jiff_core.proofs.SignedLemmas.{signed_arith}
-use Rattle.folder_core.specs.Letters.{plain_letter}
+use Rattle.folder_letters.specs.Letters.{plain_letter}
 use Rattle.session_index.proofs.IndexLemmas.{turned_shows}
 use Rattle.session.proofs.learning.add_score.Goals as goal
 

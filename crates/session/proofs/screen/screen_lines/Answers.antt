@@ -1,6 +1,6 @@
 use Rattle.std.proofs.Common.{◌∙◌, ◌++◌, ◌∷◌, [], List, ap, append_assoc, map, refl, ℕ}
 use Rattle.std.proofs.lemmas.List.{map-append}
-use Rattle.folder_core.specs.Letters.{Mail, plain_letter}
+use Rattle.folder_letters.specs.Letters.{Mail, plain_letter}
 use Rattle.mail_base.specs.Series.{Held}
 use Rattle.rc_lang.specs.Values.{PlainValue}
 use Rattle.session_screen.specs.Screen.{page_lines as lines_of_page}

@@ -1,5 +1,5 @@
 use Rattle.std.proofs.Common.{◌∙◌, [], ap, map, pos, subst, sym}
-use Rattle.folder_core.specs.Letters.{plain_letter}
+use Rattle.folder_letters.specs.Letters.{plain_letter}
 use Rattle.index_view.specs.View.{IsOf}
 use Rattle.keymap.specs.declared.press.Press.TheVariants as press
 use Rattle.session_state.specs.Rules.{PlainRules}

@@ -1,6 +1,6 @@
 use Rattle.std.proofs.Common.{◌∙◌, ◌++◌, List, ap, map}
 use Rattle.std.proofs.lemmas.Result.{IfOk-weaker}
-use Rattle.folder_core.specs.Letters.{plain_letter}
+use Rattle.folder_letters.specs.Letters.{plain_letter}
 use Rattle.keymap.specs.declared.key.Key.{Key}
 use Rattle.session_state.specs.Rules.{PlainRules}
 use Rattle.session.specs.Core.{CoreState, ground_of, plain_core}

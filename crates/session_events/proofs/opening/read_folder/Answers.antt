@@ -1,6 +1,6 @@
 use Rattle.std.proofs.Common.{rules, ap, map, ◌∙◌}
 use Rattle.folder_core.specs.Known.{KnownFolder}
-use Rattle.folder_core.specs.Letters.{plain_letter}
+use Rattle.folder_letters.specs.Letters.{plain_letter}
 use Rattle.disk_model.proofs.Looking.{looks_then}
 use Rattle.session_events.proofs.Looked.{found_told, no_kind_told, refused_told}
 use Rattle.session_events.proofs.opening.read_folder.Goals as goal

@@ -1,12 +1,12 @@
 use Rattle.std.proofs.Common.{◌∙◌, map, option_map, subst, sym}
 use Rattle.std.proofs.lemmas.Bool.{and_parts}
 use Rattle.std.proofs.lemmas.Result.{on_ok_weaker}
-use Rattle.folder_core.specs.Letters.{plain_letter}
+use Rattle.folder_letters.specs.Letters.{plain_letter}
 use Rattle.patterns_match.specs.ScoreEntries.{held_entries}
 use Rattle.index_listed.specs.Cursor.{Stands}
 use Rattle.index_listed.specs.Seen.{visible_ids}
 use Rattle.index_view.specs.Answers.{PlainAnswers}
-use Rattle.index_view.specs.Limit.{plain_limit}
+use Rattle.patterns_match.specs.Pattern.{plain_pattern}
 use Rattle.session_index.specs.Index.{PlainIndex, Shows, index_of}
 use Rattle.session_index.specs.Staying.{entries_stay, limit_stays}
 use Rattle.session_index.proofs.ActsLemmas.{acted_at_once}
@@ -21,9 +21,9 @@ returns-then-is_still c =
     let stands = subst (λ (a : PlainAnswers). Stands (visible_ids a.sight) v.cursor)
     c.requires.answered c.requires.stands in
     let still = and_parts (entries_stay (held_entries v.scores))
-    (limit_stays (option_map plain_limit v.limit)) (sym c.is_still.ensures ∙ c.if-is_still.true) in
+    (limit_stays (option_map plain_pattern v.limit)) (sym c.is_still.ensures ∙ c.if-is_still.true) in
     let same = acted_at_once mails c.args.act c.args.ids.now (index_of v)
-    (limit_blind (option_map plain_limit v.limit) still.1)
+    (limit_blind (option_map plain_pattern v.limit) still.1)
     (entries_blind (held_entries v.scores) still.0) stands in
     on_ok_weaker c.act_on.result (λ turned. subst
     (λ (i : PlainIndex). Shows mails i c.act_on.new.self) (sym same)

@@ -1,5 +1,5 @@
 use Rattle.std.proofs.Common.{◌∙◌, ap, map, sym}
-use Rattle.folder_core.specs.Letters.{plain_letter}
+use Rattle.folder_letters.specs.Letters.{plain_letter}
 use Rattle.session_index.specs.Acts.{acted_all}
 use Rattle.session_index.specs.Index.{index_of}
 use Rattle.session_index.proofs.IndexLemmas.{turned_shows}

@@ -1,6 +1,6 @@
 use Rattle.std.proofs.Common.{◌≡◌, ◌∙◌, ap, map, subst, sym}
 use Rattle.std.specs.List.{count_by}
-use Rattle.folder_core.specs.Letters.{plain_letter}
+use Rattle.folder_letters.specs.Letters.{plain_letter}
 use Rattle.index_listed.specs.Cursor.{at_or_last, is_seen}
 use Rattle.index_view.specs.View.{IsOf, visible_of}
 use Rattle.session_index.specs.Acts.{acted_all}

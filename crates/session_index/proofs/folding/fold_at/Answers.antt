@@ -1,7 +1,7 @@
 use Rattle.std.proofs.Common.{◌≡◌, ◌∙◌, Some, ap, map, subst, sym}
 use Rattle.std.proofs.lemmas.Result.{on_ok_weaker}
 use Rattle.std.specs.Prelude.{OnOk}
-use Rattle.folder_core.specs.Letters.{plain_letter}
+use Rattle.folder_letters.specs.Letters.{plain_letter}
 use Rattle.index_view.specs.Answers.{row, thread_of}
 use Rattle.session_index.specs.Folding.{folded_by}
 use Rattle.session_index.specs.Index.{PlainIndex, Shows, answers_of, index_of}

@@ -1,9 +1,9 @@
 use Rattle.std.proofs.Common.{◌∙◌, ◌+◌, ◌++◌, ap, drop, map, sym, take}
 use Rattle.std.proofs.lemmas.List.{take-append-drop}
 use Rattle.std.specs.List.{filter}
-use Rattle.folder_core.specs.Letters.{plain_letter}
+use Rattle.folder_letters.specs.Letters.{plain_letter}
 use Rattle.index_view.specs.Answers.{id_passes}
-use Rattle.index_view.specs.Limit.{plain_limit}
+use Rattle.patterns_match.specs.Pattern.{plain_pattern}
 use Rattle.index_view.specs.View.{PlainView, facts_of, messages_over}
 use Rattle.session_index.specs.Shown.{seen}
 use Rattle.session_index.proofs.SearchLemmas.{found_from_place}
@@ -14,7 +14,7 @@ returns-clause-found c =
     let v = c.args.view.now in
     let n = c.args.place + 1 in
     let ids = seen v.answers in
-    let test = id_passes v.people (plain_limit c.args.pattern.now)
+    let test = id_passes v.people (plain_pattern c.args.pattern.now)
     (messages_over (map plain_letter c.args.archive.now.items) (facts_of v)) v.answers in
     let picked = c.as_slice-picked.ensures ∙ c.in_ok-picked.ensures.value in
     let visible = c.as_slice.ensures ∙ c.visible.ensures

@@ -2,8 +2,7 @@ use Rattle.std.proofs.Common.{◌∙◌, FitsSigned, List, Some, ap, arith, sym,
 use Rattle.jiff_core.proofs.SignedLemmas.{signed_arith}
 use Rattle.std.proofs.lemmas.Int.{to_z-of_z}
 use Rattle.std.specs.Prelude.{option_map}
-use Rattle.index_view.specs.Limit.{PlainLimit}
-use Rattle.patterns_match.specs.Pattern.{pattern_tree}
+use Rattle.patterns_match.specs.Pattern.{PlainPattern, pattern_tree}
 use Rattle.patterns_match.specs.Trees.{Tree}
 use Rattle.session_state.specs.Days.{reading}
 use Rattle.session_state.proofs.ReadingLemmas.{no_reading, reads_as}
@@ -19,11 +18,11 @@ returns-in-Ok-clause-read g c = λ later keeps.
     let offset : FitsSigned w32 c.args.time.offset = omega (arith, signed_arith) in
     let same = simp to_z-of_z at c.in-Ok.ensures.offset in
     let read = simp to_z-of_z at c.in-Ok.ensures.reads in
-    ap (λ (offset : ℤ). let limit : PlainLimit = record {
+    ap (λ (offset : ℤ). let limit : PlainPattern = record {
       tree = pattern_tree c.in-Ok.pattern;
       offset = offset;
     } in Some limit) same
-    ∙ sym (ap (option_map (λ (tree : Tree). let limit : PlainLimit = record {
+    ∙ sym (ap (option_map (λ (tree : Tree). let limit : PlainPattern = record {
       tree = tree;
       offset = c.args.time.offset;
     } in limit))
@@ -43,7 +42,7 @@ returns-in-Err-2-clause-read g c = λ later keeps.
     let moment : FitsSigned w64 c.args.time.seconds = omega (arith, signed_arith) in
     let offset : FitsSigned w32 c.args.time.offset = omega (arith, signed_arith) in
     let read = simp to_z-of_z at c.in-Err.ensures.reads in
-    sym (ap (option_map (λ (tree : Tree). let limit : PlainLimit = record {
+    sym (ap (option_map (λ (tree : Tree). let limit : PlainPattern = record {
       tree = tree;
       offset = c.args.time.offset;
     } in limit))

@@ -5,7 +5,8 @@ use Rattle.std.specs.List.{flat_map, range_with_len}
 use Rattle.std.specs.List.Sorted.{IsPermutation}
 use Rattle.threads.specs.Families.{AreFamilies, ArePut, CanWalk, below, places}
 use Rattle.threads.specs.Message.{plain_message, plain_messages}
-use Rattle.threads.specs.Order.{by_id, id_at, in_order_by, tree_of}
+use Rattle.threads.specs.Order.{by_id, id_at, tree_of}
+use Rattle.mail_base.specs.Ordered.{in_order_by}
 use Rattle.threads.specs.Walk.{Each}
 use Rattle.threads.proofs.FamilyLemmas.{once, ordered, put, roots_within, walks}
 use Rattle.threads.proofs.order.ordered.Goals as goal

@@ -5,7 +5,8 @@ use Rattle.std.specs.List.{range_with_len}
 use Rattle.std.specs.List.Sorted.{IsPermutation}
 use Rattle.threads.specs.Message.{plain_message, plain_messages}
 use Rattle.threads.specs.Families.{places}
-use Rattle.threads.specs.Order.{by_id, in_order_by}
+use Rattle.threads.specs.Order.{by_id}
+use Rattle.mail_base.specs.Ordered.{in_order_by}
 use Rattle.threads.proofs.SortLemmas.{moved_places, on_ids, sorted_entries, sorted_places}
 use Rattle.threads.proofs.order.sorted.Goals as goal
 

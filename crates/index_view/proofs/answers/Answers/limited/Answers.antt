@@ -3,7 +3,8 @@ use Rattle.std.specs.Prelude.{IfOk}
 use Rattle.index_listed.specs.Listed.{plain_listed}
 use Rattle.index_listed.specs.Seen.{PlainSight, sight}
 use Rattle.index_view.specs.Answers.{PlainAnswers}
-use Rattle.index_view.specs.Limit.{all_within, plain_limit}
+use Rattle.index_view.specs.Limit.{all_within}
+use Rattle.patterns_match.specs.Pattern.{plain_pattern}
 use Rattle.index_view.specs.Marks.{marks_of}
 use Rattle.index_view.specs.Tables.{table}
 use Rattle.index_view.proofs.answers.Answers.limited.Goals as goal
@@ -12,7 +13,7 @@ pub returns-clause-value : goal.returns-clause-value
 returns-clause-value c =
     let ls = map plain_listed c.args.listed.now in
     let people = c.args.tables.now.people in
-    let limit = option_map plain_limit c.args.tables.now.limit in
+    let limit = option_map plain_pattern c.args.tables.now.limit in
     let a = c.args.self.now in
     let is = c.self.view_is in
     let rows : c.deref-2.result.now ≡ a.rows = c.deref-2.ensures.value

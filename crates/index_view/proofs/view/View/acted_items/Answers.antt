@@ -3,7 +3,7 @@ use Rattle.std.proofs.lemmas.List.{length-map}
 use Rattle.std.proofs.lemmas.List.Quantifiers.{position-Some}
 use Rattle.std.specs.List.{IsDistinct}
 use Rattle.std.specs.Prelude.{position}
-use Rattle.folder_core.specs.Letters.{plain_letter}
+use Rattle.folder_letters.specs.Letters.{plain_letter}
 use Rattle.index_items.specs.Acts.{acted, acted_all}
 use Rattle.index_items.specs.Alteration.{alter_at}
 use Rattle.index_items.specs.Items.{numbers, plain_item, plain_items}

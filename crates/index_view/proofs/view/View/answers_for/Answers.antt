@@ -1,6 +1,6 @@
 use Rattle.std.proofs.Common.{◌≡◌, map, subst}
 use Rattle.std.specs.Prelude.{IfOk}
-use Rattle.folder_core.specs.Letters.{plain_letter}
+use Rattle.folder_letters.specs.Letters.{plain_letter}
 use Rattle.index_items.specs.Items.{plain_items}
 use Rattle.index_view.specs.Answers.{PlainAnswers}
 use Rattle.index_view.specs.View.{PlainView, answers_over, facts_of}

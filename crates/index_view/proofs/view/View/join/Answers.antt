@@ -1,6 +1,6 @@
 use Rattle.std.proofs.Common.{◌≡◌, ◌∙◌, List, ap, length, map, subst, sym}
 use Rattle.std.proofs.lemmas.List.{length-map}
-use Rattle.folder_core.specs.Letters.{plain_letter}
+use Rattle.folder_letters.specs.Letters.{plain_letter}
 use Rattle.headers.specs.Header.{plain_header}
 use Rattle.std.proofs.lemmas.Result.{on_err_weaker}
 use Rattle.index_items.specs.Found.{IsJoined}

@@ -1,5 +1,5 @@
 use Rattle.std.proofs.Common.{◌∙◌, ap, map}
-use Rattle.folder_core.specs.Letters.{plain_letter}
+use Rattle.folder_letters.specs.Letters.{plain_letter}
 use Rattle.headers.specs.Header.{plain_header}
 use Rattle.index_view.specs.Answers.{facts}
 use Rattle.index_view.specs.View.{PlainView, answers_over, facts_of}

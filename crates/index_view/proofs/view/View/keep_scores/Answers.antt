@@ -3,7 +3,7 @@ use Rattle.std.proofs.lemmas.Result.{on_ok_weaker}
 use Rattle.index_items.specs.Kept.{kept}
 use Rattle.index_items.proofs.KeptLemmas.{length-kept, map-kept}
 use Rattle.index_listed.specs.Cursor.{moved}
-use Rattle.index_view.specs.Limit.{plain_limit}
+use Rattle.patterns_match.specs.Pattern.{plain_pattern}
 use Rattle.index_view.specs.View.{visible_of}
 use Rattle.patterns_match.specs.ScoreEntries.{held_entries, held_entry}
 use Rattle.patterns_match.specs.declared.score_entry.ScoreEntry.{ScoreEntry}
@@ -34,7 +34,7 @@ returns c =
         items = (c.self.view_is i).items;
         people = (c.self.view_is i).people;
         scores = scores i;
-        limit = option_map plain_limit (c.self.view_is i).limit;
+        limit = option_map plain_pattern (c.self.view_is i).limit;
       });
       cursor = turned.cursor ∙ (λ i. moved (visible_of (c.self.view_is i))
           (visible_of c.judge.new.self) (c.self.view_is i).cursor);

@@ -1,7 +1,7 @@
 use Rattle.std.proofs.Common.{◌≡◌, ◌∙◌, ◌-◌, ◌++◌, [], FitsSigned, List, ℕ, ap, length, map}
 use Rattle.std.proofs.Common.{replicate, w32}
 use Rattle.std.proofs.Math.Facts.{to_z-of_z}
-use Rattle.folder_core.specs.Letters.{plain_letter}
+use Rattle.folder_letters.specs.Letters.{plain_letter}
 use Rattle.mail_base.specs.Series.{Held}
 use Rattle.index_listed.specs.Page.{page as page_of}
 use Rattle.index_listed.specs.Seen.{PlainSight, visible_ids}

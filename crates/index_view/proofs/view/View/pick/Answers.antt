@@ -1,10 +1,10 @@
 use Rattle.std.proofs.Common.{◌≡◌, ◌∙◌, List, ap, length, map, subst, sym}
 use Rattle.std.proofs.lemmas.List.{length-map}
 use Rattle.std.specs.Prelude.{IfOk}
-use Rattle.folder_core.specs.Letters.{plain_letter}
+use Rattle.folder_letters.specs.Letters.{plain_letter}
 use Rattle.mail_base.specs.declared.kind.Id.{Id}
 use Rattle.index_listed.specs.Listed.{plain_listed}
-use Rattle.index_view.specs.Limit.{plain_limit}
+use Rattle.patterns_match.specs.Pattern.{plain_pattern}
 use Rattle.index_view.specs.Listing.{all_listed}
 use Rattle.index_view.specs.View.{IsOf, picked_of}
 use Rattle.index_view.proofs.JudgingLemmas.{picked_is, rows_all}
@@ -28,7 +28,7 @@ picked-requires c =
 pub returns-clause-value : goal.returns-clause-value
 returns-clause-value c =
     let mails = map plain_letter c.args.archive.now.items in
-    let pattern = plain_limit c.args.pattern.now in
+    let pattern = plain_pattern c.args.pattern.now in
     let of = subst (IsOf mails) (sym c.self.view_is) c.requires in
     subst (λ (z : List Id). IfOk c.picked.result (λ ids. ids.items ≡ z))
     (picked_is mails pattern _ of _ (listed_is (goal.at.returns-clause-value c).After-deref-2)

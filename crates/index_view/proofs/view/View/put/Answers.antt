@@ -1,5 +1,5 @@
 use Rattle.std.proofs.Common.{◌≡◌, ◌∙◌, map, refl, subst, sym}
-use Rattle.folder_core.specs.Letters.{plain_letter}
+use Rattle.folder_letters.specs.Letters.{plain_letter}
 use Rattle.index_items.specs.Items.{plain_items}
 use Rattle.index_view.specs.View.{PlainView, Turned, answers_over, facts_of, turned}
 use Rattle.index_view.proofs.ViewLemmas.{turned_over}

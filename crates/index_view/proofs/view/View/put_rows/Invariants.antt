@@ -1,5 +1,5 @@
 use Rattle.std.proofs.Common.{◌≡◌, ◌++◌, length, map}
-use Rattle.folder_core.specs.Letters.{plain_letter}
+use Rattle.folder_letters.specs.Letters.{plain_letter}
 use Rattle.mail_base.specs.Series.{plain_texts}
 use Rattle.index_view.specs.Lines as spec
 use Rattle.index_view.proofs.view.View.put_rows.Given as goal

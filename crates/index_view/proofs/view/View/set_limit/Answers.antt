@@ -1,6 +1,6 @@
 use Rattle.std.proofs.Common.{◌≡◌, ◌∙◌, ap, length, map, subst, sym}
 use Rattle.std.proofs.lemmas.List.{length-map}
-use Rattle.folder_core.specs.Letters.{plain_letter}
+use Rattle.folder_letters.specs.Letters.{plain_letter}
 use Rattle.headers.specs.Header.{plain_header}
 use Rattle.index_listed.specs.Cursor.{moved}
 use Rattle.index_listed.specs.Listed.{plain_listed}

@@ -1,8 +1,8 @@
 use Rattle.std.proofs.Common.{◌∙◌, List, Some, ap, arith, length, map, slice_index_or, sym}
 use Rattle.std.proofs.lemmas.List.{length-map}
 use Rattle.std.specs.Prelude.{option_map}
-use Rattle.folder_core.specs.Letters.{plain_letter}
-use Rattle.folder_core.specs.declared.letter.Letter.{Letter}
+use Rattle.folder_letters.specs.Letters.{plain_letter}
+use Rattle.folder_letters.specs.declared.letter.Letter.{Letter}
 use Rattle.index_listed.specs.Listed.{text_of}
 use Rattle.index_listed.specs.Seen.{PlainSight, tree_line}
 use Rattle.index_rows.specs.Texts.{index_row}

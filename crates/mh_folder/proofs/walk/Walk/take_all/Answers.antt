@@ -1,6 +1,7 @@
-use Rattle.std.proofs.Common.{length, take_all, ap, arith}
+use Rattle.std.proofs.Common.{length, take_all, ap, arith, rules, true}
 use Rattle.std.proofs.lemmas.List.{nil_from_length}
 use Rattle.std.proofs.lemmas.List.Elements.{All-rest}
+use Rattle.folder_core.proofs.ReadsLemmas.{left_same, left_then, left_then_failed}
 use Rattle.folder_core.proofs.SeenLemmas.{first_and_rest, front_then, meets_later, only_same}
 use Rattle.folder_core.proofs.SeenLemmas.{only_then}
 use Rattle.mh_folder.specs.NumberedName.{IsNumbered, plain_names}
@@ -14,13 +15,20 @@ loop-left-init g c = record {
   room = omega (arith, c.requires.empty.store.count);
   front = take_all (length c.args.archive.now.items) c.args.archive.now.items (omega arith);
   only = only_same _;
+  reads = left_same true c.args.self.now.so_far.bytes _;
   walked = λ bytes is. walking_first c.args.path.now bytes (plain_names c.args.files.now)
       (kept_of c.args.self.now c.args.archive.now.items) _ c.requires.empty c.requires.rises;
 }
 
-pub returns-in-Err-clause-meets : goal.returns-in-Err-clause-meets
-returns-in-Err-clause-meets g c = meets_later c.in-Err.why _ _ _ c.loop-left.invariant.only
-    c.in-Err.ensures.meets
+pub returns-in-Err-clause-walks : goal.returns-in-Err-clause-walks
+returns-in-Err-clause-walks g c = record {
+  meets = meets_later c.in-Err.why _ _ _ c.loop-left.invariant.only c.in-Err.ensures.walks.meets;
+  reads = left_then_failed true c.args.self.now.so_far.bytes c.loop-left.self.so_far.bytes _ _ _
+      c.loop-left.invariant.reads c.in-Err.ensures.walks.reads;
+}
+
+pub returns-clause-walks : goal.returns-clause-walks
+returns-clause-walks g c = record { meets = search rules; reads = c.loop-left.invariant.reads }
 
 pub loop-left-preserved : goal.loop-left-preserved
 loop-left-preserved g c =
@@ -32,12 +40,14 @@ loop-left-preserved g c =
       room = omega (arith, inv.room, c.in-Ok.ensures.count, c.in-len1-up.len_at_least);
       front = front_then c.args.archive.now.items c.loop-left.archive.items _ inv.front
           c.in-Ok.ensures.front;
-      only = only_then _ _ _ inv.only c.in-Ok.ensures.meets.only;
+      only = only_then _ _ _ inv.only c.in-Ok.ensures.walks.meets.only;
+      reads = left_then true (tt {0}) true c.args.self.now.so_far.bytes
+          c.loop-left.self.so_far.bytes _ _ _ _ inv.reads c.in-Ok.ensures.walks.reads;
       walked = λ bytes is. stepped c.args.path.now bytes
           (plain_names c.args.files.now) c.loop-left.left.now _
           c.file-item.result _ (kept_of c.loop-left.self c.loop-left.archive.items) _ _ _ _ whole
           inv.each
-          inv.only.looks c.in-Ok.ensures.meets.only.looks (inv.walked bytes is)
+          inv.only.looks c.in-Ok.ensures.walks.meets.only.looks (inv.walked bytes is)
           (c.in-Ok.ensures.taken bytes is);
     }
 

@@ -1,6 +1,7 @@
-use Rattle.std.proofs.Common.{◌≡◌, ◌≤◌, ◌+◌, ℕ, List, length, take}
+use Rattle.std.proofs.Common.{◌≡◌, ◌≤◌, ◌+◌, ℕ, Bool, List, Ok, length, take, true}
 use Rattle.std.specs.List.{All}
 use Rattle.disk_model.specs.Looking.{OnlyLooks}
+use Rattle.folder_core.specs.ListedSoFar.{ReadsLeft}
 use Rattle.mh_folder.specs.Marks.{AreMarks}
 use Rattle.mh_folder.specs.NumberedName.{IsNumbered, plain_names}
 use Rattle.mh_folder.specs.Walk.{kept_of}
@@ -14,6 +15,9 @@ invariant-loop-left g l = record {
   front : take (length l.initial.archive.items) l.archive.items ≡ l.initial.archive.items;
   only : OnlyLooks ((goal.Disk-dyn g l.initial.disk.now).seen l.initial.disk.now.1)
       ((goal.Disk-dyn g l.disk.now).seen l.disk.now.1);
+  reads : ReadsLeft {A = Bool} (Ok true) l.initial.self.so_far.bytes l.self.so_far.bytes
+      ((goal.Disk-dyn g l.initial.disk.now).seen l.initial.disk.now.1).bytes_read
+      ((goal.Disk-dyn g l.disk.now).seen l.disk.now.1).bytes_read;
   walked : (bytes : List ℕ) → AreMarks bytes l.marks
       → Walking l.path bytes (plain_names l.files) (plain_names l.left)
       (kept_of l.initial.self l.initial.archive.items) (kept_of l.self l.archive.items)

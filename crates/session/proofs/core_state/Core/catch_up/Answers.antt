@@ -1,6 +1,6 @@
 use Rattle.std.proofs.Common.{ap, map}
 use Rattle.std.proofs.lemmas.Result.{on_ok_weaker}
-use Rattle.folder_core.specs.Letters.{plain_letter}
+use Rattle.folder_letters.specs.Letters.{plain_letter}
 use Rattle.session.specs.Answers.{tuned}
 use Rattle.session.proofs.CoreLemmas.{stands_as}
 use Rattle.session.proofs.core_state.Core.catch_up.Goals as goal

@@ -1,5 +1,5 @@
 use Rattle.std.proofs.Common.{◌∙◌, ap, map, subst, sym}
-use Rattle.folder_core.specs.Letters.{plain_letter}
+use Rattle.folder_letters.specs.Letters.{plain_letter}
 use Rattle.index_view.specs.View.{IsOf}
 use Rattle.session_index.specs.Desk.{ToEnd, plain_wanted}
 use Rattle.session.specs.Core.{ground_of, plain_core}

@@ -1,5 +1,5 @@
 use Rattle.std.proofs.Common.{◌∙◌, ap, map}
-use Rattle.folder_core.specs.Letters.{plain_letter}
+use Rattle.folder_letters.specs.Letters.{plain_letter}
 use Rattle.session_index.specs.Desk.{plain_desk}
 use Rattle.session_index.specs.Effects.{with_index}
 use Rattle.session_index.specs.Index.{PlainIndex}

@@ -1,5 +1,5 @@
 use Rattle.std.proofs.Common.{◌≡◌, length, map}
-use Rattle.folder_core.specs.Letters.{plain_letter}
+use Rattle.folder_letters.specs.Letters.{plain_letter}
 use Rattle.index_view.specs.View.{IsOf}
 use Rattle.session.specs.Answers.{learnt}
 use Rattle.session.specs.Core.{plain_core}

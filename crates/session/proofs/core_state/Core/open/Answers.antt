@@ -1,7 +1,7 @@
 use Rattle.std.proofs.Common.{◌∙◌, List, ap, length, map, subst, sym}
-use Rattle.folder_core.specs.Letters.{plain_letter}
-use Rattle.folder_core.specs.Scanned.{ids_from}
-use Rattle.folder_core.specs.declared.listing.Listed.{Listed}
+use Rattle.folder_letters.specs.Letters.{plain_letter}
+use Rattle.folder_letters.specs.Listings.{ids_from}
+use Rattle.folder_letters.specs.declared.listing.Listed.{Listed}
 use Rattle.index_items.specs.Items.{PlainItem}
 use Rattle.index_view.specs.View.{MayTake}
 use Rattle.session_index.specs.Desk.{PlainDesk, plain_desk}

@@ -3,8 +3,8 @@ use Rattle.std.proofs.lemmas.Int.{ints as signed_arith}
 use Rattle.std.proofs.Math.Facts.{to_z-of_z}
 use Rattle.std.proofs.lemmas.Result.{on_ok_weaker}
 use Rattle.std.specs.Prelude.{option_map}
-use Rattle.folder_core.specs.Letters.{plain_letter}
-use Rattle.index_view.specs.Limit.{PlainLimit, plain_limit}
+use Rattle.folder_letters.specs.Letters.{plain_letter}
+use Rattle.patterns_match.specs.Pattern.{PlainPattern, plain_pattern}
 use Rattle.index_view.specs.View.{IsOf}
 use Rattle.session_state.specs.Days.{reading_of}
 use Rattle.session_state.specs.declared.instant.Instant.{Instant}
@@ -21,9 +21,9 @@ returns-in-None-clause-core g c =
     rw (to_z-of_z offset) at c.with_offset-time.ensures.value in
     on_ok_weaker c.refuse_pattern.result (λ is later keeps. record {
       is_of = subst (IsOf mails) (sym c.refuse_pattern.ensures.view) c.requires.is_of;
-      same = is ∙ ap (λ (o : Option PlainLimit). pattern_answered mails c.args.asking
+      same = is ∙ ap (λ (o : Option PlainPattern). pattern_answered mails c.args.asking
           c.args.text.items o (plain_core c.args.self.now))
-          (ap (option_map plain_limit) (sym c.in-None.is)
+          (ap (option_map plain_pattern) (sym c.in-None.is)
           ∙ c.in_ok-pattern.ensures.read later keeps
           ∙ ap (λ (time : Instant). reading_of later time c.args.text.items)
           time_is);

@@ -1,6 +1,6 @@
 use Rattle.std.proofs.Common.{◌∙◌, List, ap, map, ℕ}
 use Rattle.std.proofs.lemmas.Result.{on_ok_weaker}
-use Rattle.folder_core.specs.Letters.{plain_letter}
+use Rattle.folder_letters.specs.Letters.{plain_letter}
 use Rattle.rc_lang.specs.Settings.{outcome}
 use Rattle.session_state.specs.Rules.{PlainRules}
 use Rattle.session.specs.Answers.{tuned}

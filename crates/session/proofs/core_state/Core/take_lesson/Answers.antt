@@ -1,6 +1,6 @@
 use Rattle.std.proofs.Common.{◌∙◌, Bool, List, ap, map, subst, sym}
 use Rattle.std.proofs.lemmas.Result.{on_ok_weaker}
-use Rattle.folder_core.specs.Letters.{plain_letter}
+use Rattle.folder_letters.specs.Letters.{plain_letter}
 use Rattle.index_items.specs.Kept.{kept}
 use Rattle.index_view.specs.View.{Turned, facts_of}
 use Rattle.patterns_match.specs.ScoreEntries.{held_entries}

@@ -1,5 +1,5 @@
 use Rattle.std.proofs.Common.{map}
-use Rattle.folder_core.specs.Letters.{plain_letter}
+use Rattle.folder_letters.specs.Letters.{plain_letter}
 use Rattle.session.proofs.FittingLemmas.{fits_in}
 use Rattle.session.proofs.session_type.Session.check.Goals as goal
 

@@ -1,6 +1,6 @@
 use Rattle.std.proofs.Common.{map}
 use Rattle.std.proofs.lemmas.Result.{on_ok_weaker}
-use Rattle.folder_core.specs.Letters.{plain_letter}
+use Rattle.folder_letters.specs.Letters.{plain_letter}
 use Rattle.session.specs.Core.{plain_core}
 use Rattle.session.specs.Runs.{plain_session}
 use Rattle.session.proofs.ReadingLemmas.{reads_end, reads_more}

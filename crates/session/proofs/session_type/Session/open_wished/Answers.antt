@@ -1,6 +1,6 @@
 use Rattle.std.proofs.Common.{ap, map, refl, sym, ◌∙◌}
 use Rattle.std.proofs.Math.Facts.{to_z-of_z}
-use Rattle.folder_core.specs.Letters.{plain_letter}
+use Rattle.folder_letters.specs.Letters.{plain_letter}
 use Rattle.session_events.specs.Events.{plain_events}
 use Rattle.session.specs.Runs.{plain_session}
 use Rattle.session.proofs.BeginningLemmas.{fails, fails_early, fails_late, no_memory, starts}

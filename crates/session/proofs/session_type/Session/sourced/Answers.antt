@@ -1,6 +1,6 @@
 use Rattle.std.proofs.Common.{◌∙◌, [], ap, map, refl, subst, sym}
 use Rattle.std.proofs.Math.Facts.{to_z-of_z}
-use Rattle.folder_core.specs.Letters.{plain_letter}
+use Rattle.folder_letters.specs.Letters.{plain_letter}
 use Rattle.mail_base.specs.Series.{plain_texts}
 use Rattle.session_events.specs.Events.{plain_events}
 use Rattle.session.specs.Core.{IsEmpty}

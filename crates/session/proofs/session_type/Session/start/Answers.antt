@@ -1,6 +1,6 @@
 use Rattle.std.proofs.Common.{ap, map, subst, sym, ◌∙◌}
 use Rattle.std.proofs.Math.Facts.{to_z-of_z}
-use Rattle.folder_core.specs.Letters.{plain_letter}
+use Rattle.folder_letters.specs.Letters.{plain_letter}
 use Rattle.session_state.specs.Instants.{IsMoment}
 use Rattle.session.specs.Starting.{first_state, plain_setup}
 use Rattle.session.proofs.BeginningLemmas.{fails_early, if_error, no_answer, no_memory}

@@ -2,7 +2,7 @@ use Rattle.std.proofs.Common.{◌∙◌, FitsSigned, List, ap, arith, map, subst
 use Rattle.std.proofs.Math.Facts.{to_z-of_z}
 use Rattle.jiff_core.proofs.SignedLemmas.{signed_arith}
 use Rattle.std.proofs.lemmas.Result.{on_ok_weaker}
-use Rattle.folder_core.specs.Letters.{plain_letter}
+use Rattle.folder_letters.specs.Letters.{plain_letter}
 use Rattle.index_view.specs.View.{IsOf}
 use Rattle.session_events.specs.Events.{plain_event}
 use Rattle.session_events.specs.declared.event.Event.{Event}

@@ -1,5 +1,5 @@
 use Rattle.std.proofs.Common.{◌∙◌, ap, map, subst, sym}
-use Rattle.folder_core.specs.Letters.{plain_letter}
+use Rattle.folder_letters.specs.Letters.{plain_letter}
 use Rattle.index_order.specs.Order.{is_threads}
 use Rattle.index_order.specs.declared.view_options.ViewOptions.{ViewOptions}
 use Rattle.index_view.specs.View.{IsOf}

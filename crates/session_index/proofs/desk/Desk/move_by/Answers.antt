@@ -1,5 +1,5 @@
 use Rattle.std.proofs.Common.{◌∙◌, map, subst, sym}
-use Rattle.folder_core.specs.Letters.{plain_letter}
+use Rattle.folder_letters.specs.Letters.{plain_letter}
 use Rattle.session_index.specs.Desk.{Holds, plain_desk}
 use Rattle.session_index.specs.Effects.{went}
 use Rattle.session_index.specs.declared.way.Way.{Way}

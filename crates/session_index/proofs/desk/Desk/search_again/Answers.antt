@@ -1,7 +1,7 @@
 use Rattle.std.proofs.Common.{◌∙◌, Option, Some, ap, map, subst, sym}
 use Rattle.std.specs.Prelude.{option_map}
-use Rattle.folder_core.specs.Letters.{plain_letter}
-use Rattle.index_view.specs.Limit.{plain_limit}
+use Rattle.folder_letters.specs.Letters.{plain_letter}
+use Rattle.patterns_match.specs.Pattern.{plain_pattern}
 use Rattle.index_view.specs.View.{IsOf}
 use Rattle.patterns_match.specs.declared.pattern.Pattern.{Pattern}
 use Rattle.session_index.specs.Desk.{plain_desk}
@@ -18,7 +18,7 @@ returns-in_default c =
     record {
       is_of = subst (IsOf mails) (sym c.ask.ensures.view) c.requires;
       same = c.ask.ensures.desk ∙ ap (λ (s : Option Pattern). searched mails
-          (option_map plain_limit s) (plain_desk d)) (sym c.in_default.is);
+          (option_map plain_pattern s) (plain_desk d)) (sym c.in_default.is);
     }
 
 pub returns-in-Some-2 : goal.returns-in-Some-2

@@ -1,5 +1,5 @@
 use Rattle.std.proofs.Common.{◌∙◌, Some, map, sym}
-use Rattle.folder_core.specs.Letters.{plain_letter}
+use Rattle.folder_letters.specs.Letters.{plain_letter}
 use Rattle.session_index.specs.declared.desk.Desk.{Desk}
 use Rattle.session_index.proofs.DeskLemmas.{holds_as, quiet_holds, searches_first, silent_holds}
 use Rattle.session_index.proofs.DeskLemmas.{spoken_holds}

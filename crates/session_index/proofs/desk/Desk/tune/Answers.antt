@@ -1,6 +1,6 @@
 use Rattle.std.proofs.Common.{map}
 use Rattle.std.proofs.lemmas.Result.{on_ok_weaker}
-use Rattle.folder_core.specs.Letters.{plain_letter}
+use Rattle.folder_letters.specs.Letters.{plain_letter}
 use Rattle.session_index.proofs.DeskLemmas.{shown_holds}
 use Rattle.session_index.proofs.IndexLemmas.{turned_shows}
 use Rattle.session_index.proofs.desk.Desk.tune.Goals as goal

@@ -1,7 +1,0 @@
-use Rattle.std.proofs.Common.{sym}
-use Rattle.expando.proofs.NumberLemmas.{number_utf8}
-use Rattle.expando.proofs.number.number_text.Goals as goal
-
-pub unreachable-requires : goal.unreachable-requires
-unreachable-requires c = c.in_default.ensures.cases.0 (number_utf8 c.args.text.now
-    (sym c.if-not-is_number.ensures))

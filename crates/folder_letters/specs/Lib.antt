@@ -1,0 +1,3 @@
+pub mod Moments
+pub mod Letters
+pub mod Listings

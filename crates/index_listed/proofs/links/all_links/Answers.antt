@@ -1,0 +1,10 @@
+use Rattle.std.proofs.Common.{arith}
+use Rattle.std.proofs.lemmas.Grind.{common_steps}
+use Rattle.index_listed.proofs.links.all_links.Goals as goal
+
+pub loop-left-preserved : goal.loop-left-preserved
+loop-left-preserved c = (
+  grind (arith, common_steps),
+  omega arith,
+  grind (arith, common_steps),
+)
