@@ -20,26 +20,17 @@ impl Subject for FolderKinds {
 
     fn answer(&self, alloc: Global, case: &Case, answer: &mut Answer) -> Result<(), CaseFault> {
         let mut dev = Device::new(Box::new(alloc, disk_of(alloc, case)?)?);
-        put_kinds(alloc, answer, &mut dev, case)
-    }
-}
-
-fn put_kinds(
-    alloc: Global,
-    answer: &mut Answer,
-    dev: &mut Device,
-    case: &Case,
-) -> Result<(), CaseFault> {
-    let mut empty = Kind::Mbox;
-    for entry in case.entries.as_slice() {
-        if entry.key.as_slice() == b"path".as_slice() {
-            let path = text_of(entry.value.as_slice())?;
-            put_kind(alloc, answer, kind_of(alloc, dev, path, empty))?;
-        } else if entry.key.as_slice() == b"empty".as_slice() {
-            empty = kind_named(entry.value.as_slice());
+        let mut empty = Kind::Mbox;
+        for entry in case.entries.as_slice() {
+            if entry.key.as_slice() == b"path".as_slice() {
+                let path = text_of(entry.value.as_slice())?;
+                put_kind(alloc, answer, kind_of(alloc, &mut dev, path, empty))?;
+            } else if entry.key.as_slice() == b"empty".as_slice() {
+                empty = kind_named(entry.value.as_slice());
+            }
         }
+        Ok(())
     }
-    Ok(())
 }
 
 fn put_kind(
