@@ -8,6 +8,7 @@ pub mod Days
 pub mod Dates
 pub mod Signs
 pub mod Printed
+pub mod Hooks
 pub mod PrintedDays
 pub mod Laws
 pub mod Needs

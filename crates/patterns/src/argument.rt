@@ -5,7 +5,8 @@ ghost use Rattle.patterns.specs.Arguments as spec;
 
 use mail_base::{is_blank, split_once, without_blanks};
 
-fn is_end(byte: u8) -> bool
+/// Whether the byte ends an argument without quotes.
+pub fn is_end(byte: u8) -> bool
     ensures { result ≡ spec.is_end byte }
 {
     is_blank(byte) || byte == b'|' || byte == b')'

@@ -4,33 +4,44 @@ ghost use Rattle.std.specs.Prelude.{pos, neg_ℤ, ◌≤ℤ◌, IfOk};
 
 use case_files::{Answer, Case, CaseFault, Subject};
 use mail_base::{Bytes, Names};
-use patterns::{Asked, Field, Operation, Pattern, PatternError, Sought, read_pattern};
+use patterns::{
+    Asked, Field, Operation, Pattern, PatternError, Sought, hook_pattern, read_pattern,
+};
 use patterns_match::Relation;
 use people::{RegexBuild, Verdicts};
 use std::alloc::Global;
 
-/// `text` is read as a pattern at `moment`, in seconds since 1970, where the clock is `east`
-/// seconds before UTC or `west` behind it; `size` are expressions that count as too large. `error`
-/// tells why it is none; else `asks` are its operations in order, skips left out, each operator
-/// behind what it is about. A plain text follows `=`.
+/// `text`, or the `pattern` that the text of a `hook` stands for, is read as a pattern at `moment`,
+/// in seconds since 1970, where the clock is `east` seconds before UTC or `west` behind it; `size`
+/// are expressions that count as too large. `error` tells why it is none; else `asks` are its
+/// operations in order, skips left out, each operator behind what it is about. A plain text follows
+/// `=`.
 pub struct PatternTexts;
 
 impl Subject for PatternTexts {
     fn inputs(&self) -> &[&[u8]] {
-        &[b"text", b"moment", b"east", b"west", b"size"]
+        &[b"text", b"hook", b"moment", b"east", b"west", b"size"]
     }
 
     fn answer(&self, alloc: Global, case: &Case, answer: &mut Answer) -> Result<(), CaseFault> {
-        let text = case.need(b"text")?;
+        let text = text_of(alloc, case)?;
+        answer.put(b"pattern", text.as_slice())?;
         let moment = bounded(case, b"moment", 253_000_000_000)?;
         let offset = offset_of(case)?;
         let builder = Box::new(alloc, RegexBuild::new(sizes_of(alloc, case)?))?;
         let mut verdicts = Verdicts::new(alloc, builder);
         put_read(
             alloc,
-            read_pattern(alloc, text, moment, offset, &mut verdicts),
+            read_pattern(alloc, text.as_slice(), moment, offset, &mut verdicts),
             answer,
         )
+    }
+}
+
+fn text_of(alloc: Global, case: &Case) -> Result<Bytes, CaseFault> {
+    match case.find(b"hook") {
+        Some(hook) => Ok(hook_pattern(alloc, hook)?),
+        None => Ok(Bytes::copy_of(alloc, case.need(b"text")?)?),
     }
 }
 
