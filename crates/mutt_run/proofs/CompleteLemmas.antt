@@ -12,8 +12,8 @@ use Rattle.folder_core.specs.declared.error.ScanError.TheVariants.{ArchiveFull, 
 use Rattle.folder_core.specs.declared.error.ScanError.TheVariants.{NoMemory as NoRoom}
 use Rattle.mutt_words.specs.Options.{PlainOptions}
 use Rattle.session.specs.Beginning.{IsStated}
-use Rattle.session_events.specs.Events.{AreFiles, Happening, FileRead, FileRefused, KeyPressed}
-use Rattle.session_events.specs.Events.{FolderOpened, FolderRefused}
+use Rattle.session_events.specs.Events.{AreFiles, Happening, FileRead, FileRefused}
+use Rattle.session_events.specs.Events.{FolderRefused}
 use Rattle.session.specs.Given.{Given}
 use Rattle.session_events.specs.Happened.{AllCounted, Counts, IsCause, WasNotListed}
 use Rattle.session.specs.Telling.{AllHappened}
@@ -80,12 +80,7 @@ module _ (Has : Kind → Type 0) (given : Given) (path : List ℕ) (why : OpenFa
   none_refused s counts past (FileRefused file cause at ∷ files) are readable happened counted =
       none_refused (after given s (FileRefused file cause at)) (counts_after counts (Some at)) past
       files are.1 readable happened.1 counted.1
-  none_refused s counts past (KeyPressed key moment ∷ files) are readable happened counted =
-      absurd are.0
-  none_refused s counts past (FolderOpened folder kind moment came at ∷ files) are readable
-      happened counted = absurd are.0
-  none_refused s counts past (FolderRefused folder cause at ∷ files) are readable happened counted =
-      absurd are.0
+  none_refused s counts past (_ ∷ files) are readable happened counted = absurd are.0
 
   -- a disk that tells nothing at the end shows no folder that could be read
   none_told : (s : State) (files : List Happening) → AreFiles files
@@ -95,9 +90,7 @@ module _ (Has : Kind → Type 0) (given : Given) (path : List ℕ) (why : OpenFa
       none_told (after given s (FileRead file text at)) files are.1 readable
   none_told s (FileRefused file cause at ∷ files) are readable =
       none_told (after given s (FileRefused file cause at)) files are.1 readable
-  none_told s (KeyPressed key moment ∷ files) are readable = absurd are.0
-  none_told s (FolderOpened folder kind moment came at ∷ files) are readable = absurd are.0
-  none_told s (FolderRefused folder cause at ∷ files) are readable = absurd are.0
+  none_told s (_ ∷ files) are readable = absurd are.0
 
   refused_told : (s : State) (counts : Counts) (first now : Option Past) (files : List Happening)
       → AreFiles files → WereReadable Has given s (files ++ last) now

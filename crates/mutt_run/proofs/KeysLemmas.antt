@@ -31,28 +31,20 @@ pub keys-append : (xs ys : List Happening)
 keys-append [] ys = refl
 keys-append (KeyPressed key moment ∷ xs) ys =
     ap (λ (l : List Key). key ∷ l) (keys-append xs ys)
-keys-append (FileRead path text marks ∷ xs) ys = keys-append xs ys
-keys-append (FileRefused path why marks ∷ xs) ys = keys-append xs ys
-keys-append (FolderOpened path kind moment came marks ∷ xs) ys = keys-append xs ys
-keys-append (FolderRefused path why marks ∷ xs) ys = keys-append xs ys
+keys-append (_ ∷ xs) ys = keys-append xs ys
 
 pub moments-append : (xs ys : List Happening)
     → pressed_moments (xs ++ ys) ≡ pressed_moments xs ++ pressed_moments ys
 moments-append [] ys = refl
 moments-append (KeyPressed key moment ∷ xs) ys =
     ap (λ (l : List ℤ). moment ∷ l) (moments-append xs ys)
-moments-append (FileRead path text marks ∷ xs) ys = moments-append xs ys
-moments-append (FileRefused path why marks ∷ xs) ys = moments-append xs ys
-moments-append (FolderOpened path kind moment came marks ∷ xs) ys = moments-append xs ys
-moments-append (FolderRefused path why marks ∷ xs) ys = moments-append xs ys
+moments-append (_ ∷ xs) ys = moments-append xs ys
 
 acts-append : (xs ys : List Happening) → AreActs xs → AreActs ys → AreActs (xs ++ ys)
 acts-append [] ys are more = more
-acts-append (KeyPressed key moment ∷ xs) ys are more = acts-append xs ys are more
-acts-append (FileRead path text marks ∷ xs) ys are more = acts-append xs ys are more
-acts-append (FileRefused path why marks ∷ xs) ys are more = acts-append xs ys are more
 acts-append (FolderOpened path kind at came marks ∷ xs) ys are more = absurd are
 acts-append (FolderRefused path why marks ∷ xs) ys are more = absurd are
+acts-append (_ ∷ xs) ys are more = acts-append xs ys are more
 
 -- Files of commands are acts without keys.
 
@@ -60,18 +52,14 @@ pub files_acts : (files : List Happening) → AreFiles files → AreActs files
 files_acts [] are = tt
 files_acts (FileRead path text marks ∷ files) are = files_acts files are.1
 files_acts (FileRefused path why marks ∷ files) are = files_acts files are.1
-files_acts (KeyPressed key moment ∷ files) are = absurd are.0
-files_acts (FolderOpened path kind moment came marks ∷ files) are = absurd are.0
-files_acts (FolderRefused path why marks ∷ files) are = absurd are.0
+files_acts (_ ∷ files) are = absurd are.0
 
 pub files_keyless : (files : List Happening) → AreFiles files
     → (pressed_keys files ≡ []) × (pressed_moments files ≡ [])
 files_keyless [] are = (refl, refl)
 files_keyless (FileRead path text marks ∷ files) are = files_keyless files are.1
 files_keyless (FileRefused path why marks ∷ files) are = files_keyless files are.1
-files_keyless (KeyPressed key moment ∷ files) are = absurd are.0
-files_keyless (FolderOpened path kind moment came marks ∷ files) are = absurd are.0
-files_keyless (FolderRefused path why marks ∷ files) are = absurd are.0
+files_keyless (_ ∷ files) are = absurd are.0
 
 -- Streams that go on.
 

@@ -8,7 +8,7 @@ use Rattle.disk_model.specs.Seen.{Seen}
 use Rattle.folder_letters.specs.Letters.{Mail}
 use Rattle.mutt_words.specs.Options.{PlainOptions}
 use Rattle.session.specs.Beginning.{AreOpening, BeginsRun}
-use Rattle.session_events.specs.Events.{AreFiles, Happening, FileRead, FileRefused, KeyPressed}
+use Rattle.session_events.specs.Events.{AreFiles, Happening, FileRead, FileRefused}
 use Rattle.session_events.specs.Events.{FolderOpened, FolderRefused}
 use Rattle.session.specs.Given.{Given}
 use Rattle.session.specs.Runs.{State, after, after_events, screens_from, shown}
@@ -30,18 +30,14 @@ files_keys : (files rest : List Happening) → AreFiles files
 files_keys [] rest are = refl
 files_keys (FileRead path text marks ∷ files) rest are = files_keys files rest are.1
 files_keys (FileRefused path why marks ∷ files) rest are = files_keys files rest are.1
-files_keys (KeyPressed key moment ∷ files) rest are = absurd are.0
-files_keys (FolderOpened path kind moment came marks ∷ files) rest are = absurd are.0
-files_keys (FolderRefused path why marks ∷ files) rest are = absurd are.0
+files_keys (_ ∷ files) rest are = absurd are.0
 
 files_moments : (files rest : List Happening) → AreFiles files
     → pressed_moments (files ++ rest) ≡ pressed_moments rest
 files_moments [] rest are = refl
 files_moments (FileRead path text marks ∷ files) rest are = files_moments files rest are.1
 files_moments (FileRefused path why marks ∷ files) rest are = files_moments files rest are.1
-files_moments (KeyPressed key moment ∷ files) rest are = absurd are.0
-files_moments (FolderOpened path kind moment came marks ∷ files) rest are = absurd are.0
-files_moments (FolderRefused path why marks ∷ files) rest are = absurd are.0
+files_moments (_ ∷ files) rest are = absurd are.0
 
 files_start : (start : ℤ) (files rest : List Happening) → AreFiles files → IsStart start rest
     → IsStart start (files ++ rest)
@@ -50,9 +46,7 @@ files_start start (FileRead path text marks ∷ files) rest are h =
     files_start start files rest are.1 h
 files_start start (FileRefused path why marks ∷ files) rest are h =
     files_start start files rest are.1 h
-files_start start (KeyPressed key moment ∷ files) rest are h = absurd are.0
-files_start start (FolderOpened path kind moment came marks ∷ files) rest are h = absurd are.0
-files_start start (FolderRefused path why marks ∷ files) rest are h = absurd are.0
+files_start start (_ ∷ files) rest are h = absurd are.0
 
 files_listed : (letters : List Mail) (files rest : List Happening) → AreFiles files
     → AllListed letters rest → AllListed letters (files ++ rest)
@@ -61,34 +55,26 @@ files_listed letters (FileRead path text marks ∷ files) rest are h =
     (tt, files_listed letters files rest are.1 h)
 files_listed letters (FileRefused path why marks ∷ files) rest are h =
     (tt, files_listed letters files rest are.1 h)
-files_listed letters (KeyPressed key moment ∷ files) rest are h = absurd are.0
-files_listed letters (FolderOpened path kind moment came marks ∷ files) rest are h = absurd are.0
-files_listed letters (FolderRefused path why marks ∷ files) rest are h = absurd are.0
+files_listed letters (_ ∷ files) rest are h = absurd are.0
 
 acts_start : (start : ℤ) (keys : List Happening) → AreActs keys → IsStart start keys
 acts_start start [] are = tt
-acts_start start (KeyPressed key moment ∷ keys) are = acts_start start keys are
-acts_start start (FileRead path text marks ∷ keys) are = acts_start start keys are
-acts_start start (FileRefused path why marks ∷ keys) are = acts_start start keys are
 acts_start start (FolderOpened path kind moment came marks ∷ keys) are = absurd are
 acts_start start (FolderRefused path why marks ∷ keys) are = absurd are
+acts_start start (_ ∷ keys) are = acts_start start keys are
 
 acts_listed : (letters : List Mail) (keys : List Happening) → AreActs keys → AllListed letters keys
 acts_listed letters [] are = tt
-acts_listed letters (KeyPressed key moment ∷ keys) are = (tt, acts_listed letters keys are)
-acts_listed letters (FileRead path text marks ∷ keys) are = (tt, acts_listed letters keys are)
-acts_listed letters (FileRefused path why marks ∷ keys) are = (tt, acts_listed letters keys are)
 acts_listed letters (FolderOpened path kind moment came marks ∷ keys) are = absurd are
 acts_listed letters (FolderRefused path why marks ∷ keys) are = absurd are
+acts_listed letters (_ ∷ keys) are = (tt, acts_listed letters keys are)
 
 opening_keys : (start : ℤ) (letters : List Mail) (opening rest : List Happening)
     → AreOpening start letters opening → pressed_keys (opening ++ rest) ≡ pressed_keys rest
 opening_keys start letters [] rest opens = refl
 opening_keys start letters (FolderOpened path kind moment came marks ∷ []) rest opens = refl
 opening_keys start letters (FolderRefused path why marks ∷ []) rest opens = refl
-opening_keys start letters (FileRead path text marks ∷ []) rest opens = absurd opens.0
-opening_keys start letters (FileRefused path why marks ∷ []) rest opens = absurd opens.0
-opening_keys start letters (KeyPressed key moment ∷ []) rest opens = absurd opens.0
+opening_keys start letters (_ ∷ []) rest opens = absurd opens.0
 opening_keys start letters (event ∷ next ∷ opening) rest opens = absurd opens
 
 opening_moments : (start : ℤ) (letters : List Mail) (opening rest : List Happening)
@@ -96,9 +82,7 @@ opening_moments : (start : ℤ) (letters : List Mail) (opening rest : List Happe
 opening_moments start letters [] rest opens = refl
 opening_moments start letters (FolderOpened path kind moment came marks ∷ []) rest opens = refl
 opening_moments start letters (FolderRefused path why marks ∷ []) rest opens = refl
-opening_moments start letters (FileRead path text marks ∷ []) rest opens = absurd opens.0
-opening_moments start letters (FileRefused path why marks ∷ []) rest opens = absurd opens.0
-opening_moments start letters (KeyPressed key moment ∷ []) rest opens = absurd opens.0
+opening_moments start letters (_ ∷ []) rest opens = absurd opens.0
 opening_moments start letters (event ∷ next ∷ opening) rest opens = absurd opens
 
 opening_start : (start : ℤ) (letters : List Mail) (opening rest : List Happening)
@@ -107,9 +91,7 @@ opening_start start letters [] rest opens h = h
 opening_start start letters (FolderOpened path kind moment came marks ∷ []) rest opens h =
     (opens.0, h)
 opening_start start letters (FolderRefused path why marks ∷ []) rest opens h = h
-opening_start start letters (FileRead path text marks ∷ []) rest opens h = absurd opens.0
-opening_start start letters (FileRefused path why marks ∷ []) rest opens h = absurd opens.0
-opening_start start letters (KeyPressed key moment ∷ []) rest opens h = absurd opens.0
+opening_start start letters (_ ∷ []) rest opens h = absurd opens.0
 opening_start start letters (event ∷ next ∷ opening) rest opens h = absurd opens
 
 opening_listed : (start : ℤ) (letters : List Mail) (opening rest : List Happening)

@@ -15,7 +15,7 @@ use Rattle.session.specs.Runs.{State, after_events, screen_in, screens_from, sho
 use Rattle.session.specs.Runs.{stage_screens}
 use Rattle.session.specs.Steps.{Stands}
 use Rattle.session_state.specs.declared.stage.Stage.{Stage}
-use Rattle.session_state.specs.declared.stage.Stage.TheVariants.{Unopened, Pushing, Idle, Ready}
+use Rattle.session_state.specs.declared.stage.Stage.TheVariants.{Idle}
 use Rattle.session_state.specs.declared.stage.Stage.TheVariants.{Over, Reading}
 use Rattle.mutt_run.specs.Going.{Breaks, BreaksOut, Ended, Goes, GoesOut, IsUnshown, Streams}
 use Rattle.mutt_run.specs.Printed.{last_length}
@@ -86,11 +86,6 @@ module _ (given : Given) (first s : State) (events : List Happening)
     short_by : (stage : Stage) → s.turn.stage ≡ stage
         → length (concat (texts (stage_screens given stage s)))
         ≤ last_length (texts (screens_from given first events))
-    short_by Unopened is = omega arith
-    short_by Pushing is = omega arith
-    short_by Ready is = omega arith
-    short_by Reading is = omega arith
-    short_by Over is = omega arith
     short_by Idle is =
         let here : List (List ℕ) = screen_in given.mails s in
         omega (
@@ -100,15 +95,13 @@ module _ (given : Given) (first s : State) (events : List Happening)
               ∙ last-append (texts screens) (screen_text here),
           ap length (append-nil (screen_text here)),
         )
+    short_by _ is = omega arith
 
     none_shown : (stage : Stage) → s.turn.stage ≡ stage → IsUnshown stage
         → Appends old mid (concat (texts (screens_from given first events)))
     none_shown Over is unshown = none_more Over is refl
     none_shown Reading is unshown = none_more Reading is refl
-    none_shown Unopened is unshown = absurd unshown
-    none_shown Pushing is unshown = absurd unshown
-    none_shown Ready is unshown = absurd unshown
-    none_shown Idle is unshown = absurd unshown
+    none_shown _ is unshown = absurd unshown
 
     pub breaks_unshown : Breaks given first events old mid
     breaks_unshown = record {

@@ -6,7 +6,7 @@ use Rattle.folder_core.specs.declared.error.ScanError.{ScanError}
 use Rattle.folder_core.specs.Kinds.{IsKindSeen, WasKind}
 use Rattle.mutt_words.specs.Options.{PlainOptions}
 use Rattle.session.specs.Beginning.{IsStated}
-use Rattle.session_events.specs.Events.{Happening, FileRead, FileRefused, KeyPressed, FolderOpened}
+use Rattle.session_events.specs.Events.{Happening}
 use Rattle.session_events.specs.Events.{FolderRefused}
 use Rattle.session.specs.Given.{Given}
 use Rattle.session_events.specs.Happened.{WasNotListed, past_at}
@@ -40,17 +40,11 @@ WasReadable Has empty path marks (Some past) =
 -- each folder that was looked for could be read
 abbrev pub WereReadable : (Kind → Type 0) → Given → State → List Happening → Option Past → Type 0
 WereReadable Has given s [] told = Unit {0}
-WereReadable Has given s (FileRead path text marks ∷ events) told =
-    WereReadable Has given (after given s (FileRead path text marks)) events told
-WereReadable Has given s (FileRefused path why marks ∷ events) told =
-    WereReadable Has given (after given s (FileRefused path why marks)) events told
-WereReadable Has given s (KeyPressed key moment ∷ events) told =
-    WereReadable Has given (after given s (KeyPressed key moment)) events told
-WereReadable Has given s (FolderOpened path kind moment came marks ∷ events) told =
-    WereReadable Has given (after given s (FolderOpened path kind moment came marks)) events told
 WereReadable Has given s (FolderRefused path why marks ∷ events) told =
     WasReadable Has (kind_in s) path marks told
     × WereReadable Has given (after given s (FolderRefused path why marks)) events told
+WereReadable Has given s (event ∷ events) told =
+    WereReadable Has given (after given s event) events told
 
 -- The words are a command line, and each folder that was looked for could be read, as the past
 -- tells that a disk has at the end.

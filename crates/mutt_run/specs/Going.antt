@@ -7,7 +7,7 @@ use Rattle.mail_base.specs.Faults.{Rose}
 use Rattle.mail_base.specs.Streams.{Sent}
 use Rattle.keymap.specs.Reader.{PlainReader, most_bytes}
 use Rattle.keymap.specs.Stream.{is_open}
-use Rattle.session_events.specs.Events.{Happening, FileRead, FileRefused, KeyPressed, FolderOpened}
+use Rattle.session_events.specs.Events.{Happening, FolderOpened}
 use Rattle.session_events.specs.Events.{FolderRefused}
 use Rattle.session.specs.Given.{Given}
 use Rattle.session.specs.Runs.{IsRunFrom, State, after_events, screens_from}
@@ -122,14 +122,12 @@ IsTurnedTo (Ok Go) stage = stage ≡ Idle
 IsTurnedTo (Ok Quit) stage = stage ≡ Over
 IsTurnedTo (Err status) stage = (status ≡ OutFault) ⊎ (status ≡ NoMemory)
 
--- keys, and files of commands that they came to
+-- keys, and what they came to: no folder is opened
 abbrev pub AreActs : List Happening → Type 0
 AreActs [] = Unit {0}
-AreActs (KeyPressed key moment ∷ events) = AreActs events
-AreActs (FileRead path text marks ∷ events) = AreActs events
-AreActs (FileRefused path why marks ∷ events) = AreActs events
 AreActs (FolderOpened path kind moment came marks ∷ events) = ⊥
 AreActs (FolderRefused path why marks ∷ events) = ⊥
+AreActs (_ ∷ events) = AreActs events
 
 -- keys were pressed: their bytes were taken, and their moments
 pub record Presses (events events' : List Happening) (reader : PlainReader)

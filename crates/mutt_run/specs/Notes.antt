@@ -7,7 +7,7 @@ use Rattle.folder_core.specs.declared.error.ScanError.{ScanError}
 use Rattle.folder_core.specs.declared.error.ScanError.TheVariants.{Missing, NotMailbox, TooMany}
 use Rattle.folder_core.specs.declared.error.ScanError.TheVariants.{TooLarge, Unfinished}
 use Rattle.folder_core.specs.declared.error.ScanError.TheVariants.{ArchiveFull, Fault, NoMemory}
-use Rattle.session_events.specs.Events.{Happening, FileRead, FileRefused, KeyPressed, FolderOpened}
+use Rattle.session_events.specs.Events.{Happening, FolderOpened}
 use Rattle.session_events.specs.Events.{FolderRefused}
 use Rattle.session_events.specs.declared.event.OpenFault.{OpenFault}
 use Rattle.session_events.specs.declared.event.OpenFault.TheVariants.{Taken, NoDriver, Folder}
@@ -46,11 +46,9 @@ line_of text = codes "mutt_main: " ++ text ++ 10 ∷ []
 -- the path of the first folder that was looked for
 abbrev pub folder_in : List Happening → List ℕ
 folder_in [] = []
-folder_in (FileRead path text marks ∷ events) = folder_in events
-folder_in (FileRefused path why marks ∷ events) = folder_in events
-folder_in (KeyPressed key moment ∷ events) = folder_in events
 folder_in (FolderOpened path kind moment came marks ∷ events) = path
 folder_in (FolderRefused path why marks ∷ events) = path
+folder_in (_ ∷ events) = folder_in events
 
 -- what an end of a run tells, where this folder was looked for
 abbrev pub note : List ℕ → Status → List ℕ

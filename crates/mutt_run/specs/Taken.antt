@@ -6,26 +6,19 @@ use Rattle.folder_letters.specs.Moments.{in_clock_range}
 use Rattle.keymap.specs.Reader.{PlainReader, most_bytes}
 use Rattle.keymap.specs.Stream.{keys_of}
 use Rattle.keymap.specs.declared.key.Key.{Key}
-use Rattle.session_events.specs.Events.{Happening, FileRead, FileRefused, KeyPressed, FolderOpened}
-use Rattle.session_events.specs.Events.{FolderRefused}
+use Rattle.session_events.specs.Events.{Happening, KeyPressed, FolderOpened}
 
 -- the keys that were pressed
 abbrev pub pressed_keys : List Happening → List Key
 pressed_keys [] = []
 pressed_keys (KeyPressed key moment ∷ events) = key ∷ pressed_keys events
-pressed_keys (FileRead path text marks ∷ events) = pressed_keys events
-pressed_keys (FileRefused path why marks ∷ events) = pressed_keys events
-pressed_keys (FolderOpened path kind moment came marks ∷ events) = pressed_keys events
-pressed_keys (FolderRefused path why marks ∷ events) = pressed_keys events
+pressed_keys (_ ∷ events) = pressed_keys events
 
 -- their moments
 abbrev pub pressed_moments : List Happening → List ℤ
 pressed_moments [] = []
 pressed_moments (KeyPressed key moment ∷ events) = moment ∷ pressed_moments events
-pressed_moments (FileRead path text marks ∷ events) = pressed_moments events
-pressed_moments (FileRefused path why marks ∷ events) = pressed_moments events
-pressed_moments (FolderOpened path kind moment came marks ∷ events) = pressed_moments events
-pressed_moments (FolderRefused path why marks ∷ events) = pressed_moments events
+pressed_moments (_ ∷ events) = pressed_moments events
 
 -- Where a stream tells what it holds, its keys are those that were pressed and then those of the
 -- bytes that wait and of what is left.
@@ -77,9 +70,6 @@ Gives (Some clock) (Some left) moments = IsGiven clock left moments
 -- the folder was opened at this moment, where it was
 abbrev pub IsStart : ℤ → List Happening → Type 0
 IsStart start [] = Unit {0}
-IsStart start (KeyPressed key moment ∷ events) = IsStart start events
-IsStart start (FileRead path text marks ∷ events) = IsStart start events
-IsStart start (FileRefused path why marks ∷ events) = IsStart start events
 IsStart start (FolderOpened path kind moment came marks ∷ events) =
     (moment ≡ start) × IsStart start events
-IsStart start (FolderRefused path why marks ∷ events) = IsStart start events
+IsStart start (_ ∷ events) = IsStart start events

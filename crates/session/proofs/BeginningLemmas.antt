@@ -25,7 +25,7 @@ use Rattle.session_events.specs.declared.setup.StartError.{StartError}
 use Rattle.session_events.specs.declared.setup.StartError.TheVariants as error
 use Rattle.session.specs.Beginning.{AnswersNames, BeginsRun, EndsStart, Fails, IsNoted, IsRefused}
 use Rattle.session.specs.Beginning.{Starts}
-use Rattle.session_events.specs.Events.{Happening, FileRead, FileRefused, KeyPressed, FolderOpened}
+use Rattle.session_events.specs.Events.{Happening, FolderOpened}
 use Rattle.session_events.specs.Events.{FolderRefused}
 use Rattle.session.specs.Given.{Given}
 use Rattle.session_events.specs.Happened.{Counts, HasCause, IsListed}
@@ -223,9 +223,7 @@ module _ {kept : List PlainJudged} (Has : Kind → Type 0) (given : Given) (lett
     };
   }
   starts_by t (FolderRefused path why marks) is at none arrives = absurd (none-some why (sym none))
-  starts_by t (FileRead path text marks) is at none arrives = absurd at
-  starts_by t (FileRefused path why marks) is at none arrives = absurd at
-  starts_by t (KeyPressed key late) is at none arrives = absurd at
+  starts_by t _ is at none arrives = absurd at
 
   -- the folder was opened
   pub starts : (t : State) → refusal_of event ≡ None → t ≡ arrived given s event
@@ -284,9 +282,7 @@ module _ {kept : List PlainJudged} (Has : Kind → Type 0) (given : Given) (lett
       }
   fails_by t why (FolderOpened path kind late came marks) is at some arrives =
       absurd (none-some why some)
-  fails_by t why (FileRead path text marks) is at some arrives = absurd at
-  fails_by t why (FileRefused path cause marks) is at some arrives = absurd at
-  fails_by t why (KeyPressed key late) is at some arrives = absurd at
+  fails_by t why _ is at some arrives = absurd at
 
   -- the folder was not opened
   pub fails : (t : State) (why : OpenFault) → refusal_of event ≡ Some why

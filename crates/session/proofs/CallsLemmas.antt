@@ -8,7 +8,7 @@ use Rattle.folder_letters.specs.Letters.{Mail, plain_letter}
 use Rattle.folder_letters.specs.declared.letter.Letter.{Letter}
 use Rattle.keymap.specs.declared.key.Key.{Key}
 use Rattle.patterns.specs.Causes.{Keeps}
-use Rattle.session_events.specs.Events.{FileRead, FileRefused, FolderOpened, FolderRefused}
+use Rattle.session_events.specs.Events.{FileRead, FileRefused}
 use Rattle.session_events.specs.Events.{Happening, IsFile, KeyPressed}
 use Rattle.session_events.specs.Telling.{TellsFile}
 use Rattle.session_events.specs.Wishes.{answered}
@@ -75,9 +75,7 @@ file_leaves : (mails : List Mail) (old new : Session) (event : Happening) → Is
     → IsLeft mails old new event → Fits mails new × StaysUnopened old new
 file_leaves mails old new (FileRead path text marks) is left = left
 file_leaves mails old new (FileRefused path why marks) is left = left
-file_leaves mails old new (KeyPressed key moment) is left = absurd is
-file_leaves mails old new (FolderOpened path kind moment came marks) is left = absurd is
-file_leaves mails old new (FolderRefused path why marks) is left = absurd is
+file_leaves mails old new _ is left = absurd is
 
 -- one was looked for
 module _ {X : Type 0} {Is : X → Type 0} (old new : Session) (was now : Trace X Is)

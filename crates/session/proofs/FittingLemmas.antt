@@ -58,9 +58,7 @@ file_needs : (mails : List Mail) (view : PlainView) (event : Happening) (marks :
     → HasFileCause event marks → IsOf mails view → CanTake mails view event
 file_needs mails view (FileRead path text kept) marks cause is = is
 file_needs mails view (FileRefused path why kept) marks cause is = is
-file_needs mails view (KeyPressed key moment) marks cause is = absurd cause
-file_needs mails view (FolderOpened path kind moment came kept) marks cause is = absurd cause
-file_needs mails view (FolderRefused path why kept) marks cause is = absurd cause
+file_needs mails view _ marks cause is = absurd cause
 
 pub file_taken : (mails : List Mail) (view : PlainView) (event : Happening) (now next : Seen)
     → TellsFile event now next → IsOf mails view → CanTake mails view event
@@ -72,9 +70,7 @@ file_keeps : (mails : List Mail) (old new : Session) (event : Happening) (marks 
     → Fits mails new × StaysUnopened old new
 file_keeps mails old new (FileRead path text kept) marks cause left = left
 file_keeps mails old new (FileRefused path why kept) marks cause left = left
-file_keeps mails old new (KeyPressed key moment) marks cause left = absurd cause
-file_keeps mails old new (FolderOpened path kind moment came kept) marks cause left = absurd cause
-file_keeps mails old new (FolderRefused path why kept) marks cause left = absurd cause
+file_keeps mails old new _ marks cause left = absurd cause
 
 pub file_left : (mails : List Mail) (old new : Session) (event : Happening) (now next : Seen)
     → TellsFile event now next → IsLeft mails old new event → StaysUnopened old new
@@ -94,9 +90,7 @@ pub opening_taken : (mails : List Mail) (view : PlainView) (moment : ℤ) (event
 opening_taken mails view moment (FolderOpened path kind at came marks) is listed empty now =
     (empty, listed, subst IsMoment (sym is) now)
 opening_taken mails view moment (FolderRefused path why marks) is listed empty now = tt
-opening_taken mails view moment (FileRead path text marks) is listed empty now = absurd is
-opening_taken mails view moment (FileRefused path why marks) is listed empty now = absurd is
-opening_taken mails view moment (KeyPressed key at) is listed empty now = absurd is
+opening_taken mails view moment _ is listed empty now = absurd is
 
 pub opened_fits : (mails : List Mail) (old new : Session) (moment : ℤ) (event : Happening)
     → IsOpening moment event → refusal_of event ≡ None → IsLeft mails old new event
@@ -104,9 +98,7 @@ pub opened_fits : (mails : List Mail) (old new : Session) (moment : ℤ) (event 
 opened_fits mails old new moment (FolderOpened path kind at came marks) is none left = left
 opened_fits mails old new moment (FolderRefused path why marks) is none left =
     absurd (none-some why (sym none))
-opened_fits mails old new moment (FileRead path text marks) is none left = absurd is
-opened_fits mails old new moment (FileRefused path why marks) is none left = absurd is
-opened_fits mails old new moment (KeyPressed key at) is none left = absurd is
+opened_fits mails old new moment _ is none left = absurd is
 
 -- Keys.
 

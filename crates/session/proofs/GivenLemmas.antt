@@ -4,8 +4,7 @@ use Rattle.folder_letters.specs.Letters.{Mail}
 use Rattle.people.specs.Judged.{PlainJudged}
 use Rattle.patterns.specs.Causes.{Keeps}
 use Rattle.session_state.specs.declared.stage.Stage.{Stage}
-use Rattle.session_state.specs.declared.stage.Stage.TheVariants.{Unopened, Pushing, Idle, Ready}
-use Rattle.session_state.specs.declared.stage.Stage.TheVariants.{Over, Reading}
+use Rattle.session_state.specs.declared.stage.Stage.TheVariants.{Unopened}
 use Rattle.session.specs.Given.{Given, IsGiven, given_of}
 use Rattle.session.specs.Steps.{IsLent}
 
@@ -39,30 +38,18 @@ given_is {mails} {kept} {given} is =
 pub lent_given : {mails : List Mail} {kept : List PlainJudged} {given : Given} (stage : Stage)
     → IsGiven mails kept given → IsLent stage mails kept given
 lent_given Unopened is = is.keeps
-lent_given Pushing is = is
-lent_given Idle is = is
-lent_given Ready is = is
-lent_given Reading is = is
-lent_given Over is = is
+lent_given _ is = is
 
 -- and it is at a later stage
 pub lent_on : (mails : List Mail) (kept : List PlainJudged) (given : Given) (old new : Stage)
     → (old ≡ Unopened → new ≡ Unopened) → IsLent old mails kept given → IsLent new mails kept given
 lent_on mails kept given Unopened new stays is =
     subst (λ (stage : Stage). IsLent stage mails kept given) (sym (stays refl)) is
-lent_on mails kept given Pushing new stays is = lent_given new is
-lent_on mails kept given Idle new stays is = lent_given new is
-lent_on mails kept given Ready new stays is = lent_given new is
-lent_on mails kept given Reading new stays is = lent_given new is
-lent_on mails kept given Over new stays is = lent_given new is
+lent_on mails kept given _ new stays is = lent_given new is
 
 -- what is lent behind a call was lent before it
 pub lent_more : {mails mails' : List Mail} {old new : List PlainJudged} (given : Given)
     (stage : Stage) → mails' ≡ mails → Keeps old new → IsLent stage mails' new given
     → IsLent stage mails old given
 lent_more given Unopened same keeps is = keeps_then keeps is
-lent_more given Pushing same keeps is = keeps_more same keeps is
-lent_more given Idle same keeps is = keeps_more same keeps is
-lent_more given Ready same keeps is = keeps_more same keeps is
-lent_more given Reading same keeps is = keeps_more same keeps is
-lent_more given Over same keeps is = keeps_more same keeps is
+lent_more given _ same keeps is = keeps_more same keeps is

@@ -9,13 +9,13 @@ use Rattle.keymap.specs.Press.{next_answer, pressed}
 use Rattle.keymap.specs.Press.{reached, reached_by}
 use Rattle.keymap.specs.declared.function.Function.{Function}
 use Rattle.keymap.specs.declared.key.Key.{Key}
-use Rattle.keymap.specs.declared.menu.Menu.TheVariants.{Index}
+use Rattle.keymap.specs.declared.menu.Menu.{Menu}
 use Rattle.keymap.specs.declared.press.Press.{Press}
 use Rattle.keymap.specs.declared.press.Press.TheVariants as press
 use Rattle.prompts.specs.Prompts.{PlainPrompt}
 use Rattle.session_index.specs.Desk.{PlainWanted}
 use Rattle.session.specs.Acting.{acted, prompted}
-use Rattle.session.specs.Core.{CoreState, Ground}
+use Rattle.session.specs.Core.{CoreState, Ground, shown_menu}
 use Rattle.session.specs.Keys.{TurnState, behind, behind_prompt, drop_all, keys_by, put_or}
 use Rattle.session.specs.Keys.{read_first, run_keys, stage_after, step, step_at, stopped}
 use Rattle.session.specs.Keys.{with_begun, with_put}
@@ -24,12 +24,12 @@ use Rattle.session_state.specs.declared.stage.Stage.TheVariants.{Idle, Reading}
 
 -- The begun sequence stands apart from the bindings.
 
-reached_begun : (map : PlainKeymap) (other begun keys : List Key)
-    → reached (record map { begun = other }) Index begun keys ≡ reached map Index begun keys
-reached_begun map other begun [] = refl
-reached_begun map other begun (key ∷ keys) =
-    ap (λ (x : Reached). reached_by (called key) (found_in map Index (begun ++ key ∷ [])) keys x)
-    (reached_begun map other (begun ++ key ∷ []) keys)
+reached_begun : (map : PlainKeymap) (menu : Menu) (other begun keys : List Key)
+    → reached (record map { begun = other }) menu begun keys ≡ reached map menu begun keys
+reached_begun map menu other begun [] = refl
+reached_begun map menu other begun (key ∷ keys) =
+    ap (λ (x : Reached). reached_by (called key) (found_in map menu (begun ++ key ∷ [])) keys x)
+    (reached_begun map menu other (begun ++ key ∷ []) keys)
 
 next_begun : (replaced : ℕ) (x : Reached) (f g : List Key → Pressed)
     → ((keys : List Key) → f keys ≡ g keys)
@@ -37,19 +37,20 @@ next_begun : (replaced : ℕ) (x : Reached) (f g : List Key → Pressed)
 next_begun replaced (Answered press begun waiting) f g same = refl
 next_begun replaced (Replaced text waiting) f g same = same (text ++ waiting)
 
-pressed_begun : (map : PlainKeymap) (other : List Key) (left replaced : ℕ) (begun keys : List Key)
-    → pressed (record map { begun = other }) Index left replaced begun keys
-    ≡ pressed map Index left replaced begun keys
-pressed_begun map other zero replaced begun keys = ap (last_answer replaced)
-    (reached_begun map other begun keys)
-pressed_begun map other (suc left) replaced begun keys =
+pressed_begun : (map : PlainKeymap) (menu : Menu) (other : List Key) (left replaced : ℕ)
+    (begun keys : List Key)
+    → pressed (record map { begun = other }) menu left replaced begun keys
+    ≡ pressed map menu left replaced begun keys
+pressed_begun map menu other zero replaced begun keys = ap (last_answer replaced)
+    (reached_begun map menu other begun keys)
+pressed_begun map menu other (suc left) replaced begun keys =
     ap (λ (x : Reached). next_answer replaced x
-    (pressed (record map { begun = other }) Index left (replaced + 1) []))
-    (reached_begun map other begun keys)
-    ∙ next_begun replaced (reached map Index begun keys)
-    (pressed (record map { begun = other }) Index left (replaced + 1) [])
-    (pressed map Index left (replaced + 1) [])
-    (λ more. pressed_begun map other left (replaced + 1) [] more)
+    (pressed (record map { begun = other }) menu left (replaced + 1) []))
+    (reached_begun map menu other begun keys)
+    ∙ next_begun replaced (reached map menu begun keys)
+    (pressed (record map { begun = other }) menu left (replaced + 1) [])
+    (pressed map menu left (replaced + 1) [])
+    (λ more. pressed_begun map menu other left (replaced + 1) [] more)
 
 -- Up to an answer or a replacement.
 
@@ -83,7 +84,7 @@ module _ (g : Ground) (replaced : ℕ) (again : List Key → CoreState → TurnS
 
   reach : (keys : List Key) (c : CoreState) → c.rules.put ≡ [] → c.desk.prompt ≡ None
       → keys_by g replaced again keys c
-      ≡ by_reached (reached c.rules.keymap Index c.rules.keymap.begun keys) c
+      ≡ by_reached (reached c.rules.keymap (shown_menu c) c.rules.keymap.begun keys) c
   unfolding acted
   reach [] c empty none = none_put [] (stopped Idle replaced []) c empty
   reach (key ∷ keys) c empty none =
@@ -92,12 +93,12 @@ module _ (g : Ground) (replaced : ℕ) (again : List Key → CoreState → TurnS
       c.desk.prompt) c empty
       ∙ ap (λ (p : Option PlainPrompt). step_at g replaced again key keys
       (keys_by g replaced again keys) p c) none
-      ∙ at_step (called key) (found_in c.rules.keymap Index begun) keys begun c
-      (reached c.rules.keymap Index begun keys)
+      ∙ at_step (called key) (found_in c.rules.keymap (shown_menu c) begun) keys begun c
+      (reached c.rules.keymap (shown_menu c) begun keys)
       (reach keys (with_begun begun c) empty none
       ∙ ap (λ (x : Reached). by_reached x (with_begun begun c))
-      (reached_begun c.rules.keymap begun begun keys)
-      ∙ same_core (reached c.rules.keymap Index begun keys) begun c)
+      (reached_begun c.rules.keymap (shown_menu c) begun begun keys)
+      ∙ same_core (reached c.rules.keymap (shown_menu c) begun keys) begun c)
 
 -- Up to an answer.
 
@@ -144,11 +145,12 @@ module _ (g : Ground) where
   press_next : (left replaced : ℕ) (c : CoreState) (x : Reached)
       → ((keys : List Key) → run_keys g left (replaced + 1) keys (with_begun [] c)
       ≡ by_pressed g (left + (replaced + 1))
-      (pressed (record c.rules.keymap { begun = [] }) Index left (replaced + 1) [] keys)
+      (pressed (record c.rules.keymap { begun = [] }) (shown_menu c) left (replaced + 1) []
+      keys)
       (with_begun [] c))
       → by_reached g replaced (run_keys g left (replaced + 1)) x c
       ≡ by_pressed g (suc left + replaced)
-      (next_answer replaced x (pressed c.rules.keymap Index left (replaced + 1) [])) c
+      (next_answer replaced x (pressed c.rules.keymap (shown_menu c) left (replaced + 1) [])) c
   press_next left replaced c (Answered press begun waiting) more =
       answer_is (suc left) replaced (run_keys g left (replaced + 1)) (run_suc left replaced)
       press begun waiting c
@@ -156,23 +158,25 @@ module _ (g : Ground) where
       let same : left + (replaced + 1) ≡ suc left + replaced = omega arith in
       more (text ++ waiting)
       ∙ ap (λ (p : Pressed). by_pressed g (left + (replaced + 1)) p c)
-      (pressed_begun c.rules.keymap [] left (replaced + 1) [] (text ++ waiting))
+      (pressed_begun c.rules.keymap (shown_menu c) [] left (replaced + 1) [] (text ++ waiting))
       ∙ ap (λ (n : ℕ). by_pressed g n
-      (pressed c.rules.keymap Index left (replaced + 1) [] (text ++ waiting)) c) same
+      (pressed c.rules.keymap (shown_menu c) left (replaced + 1) [] (text ++ waiting)) c) same
 
   pub press_is : (left replaced : ℕ) (keys : List Key) (c : CoreState) → c.rules.put ≡ []
       → c.desk.prompt ≡ None
       → run_keys g left replaced keys c
       ≡ by_pressed g (left + replaced)
-      (pressed c.rules.keymap Index left replaced c.rules.keymap.begun keys) c
+      (pressed c.rules.keymap (shown_menu c) left replaced c.rules.keymap.begun keys) c
   press_is zero replaced keys c empty none =
       ap (λ (f : CoreState → TurnState). f c) (run_zero replaced keys)
       ∙ reach g replaced (drop_all g replaced) keys c empty none
-      ∙ press_last replaced c (reached c.rules.keymap Index c.rules.keymap.begun keys) empty
+      ∙ press_last replaced c (reached c.rules.keymap (shown_menu c) c.rules.keymap.begun keys)
+      empty
   press_is (suc left) replaced keys c empty none =
       ap (λ (f : CoreState → TurnState). f c) (run_suc left replaced keys)
       ∙ reach g replaced (run_keys g left (replaced + 1)) keys c empty none
-      ∙ press_next left replaced c (reached c.rules.keymap Index c.rules.keymap.begun keys)
+      ∙ press_next left replaced c
+      (reached c.rules.keymap (shown_menu c) c.rules.keymap.begun keys)
       (λ more. press_is left (replaced + 1) more (with_begun [] c) empty none)
 
   typed_by : (replaced : ℕ) (again : List Key → CoreState → TurnState) (key : Key)
@@ -294,12 +298,12 @@ shorter_step wanted None (Bound (Replace text)) keys further h = tt
 shorter_step wanted None Begun keys further h = shorter_more wanted (length keys) further h
 shorter_step wanted None Unbound keys further h = λ goes. omega arith
 
-shorter : (wanted : PlainWanted) (map : PlainKeymap) (begun keys : List Key)
-    → IsShorter wanted (length keys) (reached map Index begun keys)
-shorter wanted map begun [] = λ goes. absurd (cc)
-shorter wanted map begun (key ∷ keys) =
-    shorter_step wanted (called key) (found_in map Index (begun ++ key ∷ [])) keys
-    (reached map Index (begun ++ key ∷ []) keys) (shorter wanted map (begun ++ key ∷ []) keys)
+shorter : (wanted : PlainWanted) (map : PlainKeymap) (menu : Menu) (begun keys : List Key)
+    → IsShorter wanted (length keys) (reached map menu begun keys)
+shorter wanted map menu begun [] = λ goes. absurd (cc)
+shorter wanted map menu begun (key ∷ keys) =
+    shorter_step wanted (called key) (found_in map menu (begun ++ key ∷ [])) keys
+    (reached map menu (begun ++ key ∷ []) keys) (shorter wanted map menu (begun ++ key ∷ []) keys)
 
 -- behind this answer less is to be done than before it
 pub record IsLess (wanted : PlainWanted) (left replaced : ℕ) (keys : List Key) (p : Pressed) : Type
@@ -345,11 +349,13 @@ less_next wanted left replaced keys (Replaced text waiting) f h less =
     less_more wanted left replaced keys (text ++ waiting) (f (text ++ waiting))
     (less (text ++ waiting))
 
-pub less_is : (wanted : PlainWanted) (map : PlainKeymap) (left replaced : ℕ) (begun keys : List Key)
-    → IsLess wanted left replaced keys (pressed map Index left replaced begun keys)
-less_is wanted map zero replaced begun keys =
-    less_last wanted replaced keys (reached map Index begun keys) (shorter wanted map begun keys)
-less_is wanted map (suc left) replaced begun keys =
-    less_next wanted left replaced keys (reached map Index begun keys)
-    (pressed map Index left (replaced + 1) [])
-    (shorter wanted map begun keys) (λ more. less_is wanted map left (replaced + 1) [] more)
+pub less_is : (wanted : PlainWanted) (map : PlainKeymap) (menu : Menu) (left replaced : ℕ)
+    (begun keys : List Key)
+    → IsLess wanted left replaced keys (pressed map menu left replaced begun keys)
+less_is wanted map menu zero replaced begun keys =
+    less_last wanted replaced keys (reached map menu begun keys)
+    (shorter wanted map menu begun keys)
+less_is wanted map menu (suc left) replaced begun keys =
+    less_next wanted left replaced keys (reached map menu begun keys)
+    (pressed map menu left (replaced + 1) [])
+    (shorter wanted map menu begun keys) (λ more. less_is wanted map menu left (replaced + 1) [] more)

@@ -6,7 +6,6 @@ use Rattle.keymap.specs.Keymap.{found_in}
 use Rattle.keymap.specs.Press.{called}
 use Rattle.keymap.specs.declared.function.Function.{Function}
 use Rattle.keymap.specs.declared.key.Key.{Key}
-use Rattle.keymap.specs.declared.menu.Menu.TheVariants.{Index}
 use Rattle.keymap.specs.declared.press.Press.{Press}
 use Rattle.keymap.specs.declared.press.Press.TheVariants as press
 use Rattle.prompts.specs.Prompts.{PlainPrompt}
@@ -14,10 +13,10 @@ use Rattle.session_index.specs.Desk.{PlainWanted, ToAnswer, ToChoose, ToEnd, Una
 use Rattle.keymap.specs.Queue.{most_replacements}
 use Rattle.session_state.specs.Frames.{PlainFrame}
 use Rattle.session_state.specs.declared.stage.Stage.{Stage}
-use Rattle.session_state.specs.declared.stage.Stage.TheVariants.{Unopened, Pushing, Idle, Ready}
+use Rattle.session_state.specs.declared.stage.Stage.TheVariants.{Idle}
 use Rattle.session_state.specs.declared.stage.Stage.TheVariants.{Over, Reading}
 use Rattle.session.specs.Acting.{acted, prompted}
-use Rattle.session.specs.Core.{CoreState, Ground}
+use Rattle.session.specs.Core.{CoreState, Ground, shown_menu}
 use Rattle.session.specs.Keys.{TurnState, drop_all, keys_by, put_or, run_keys, stage_after, step}
 use Rattle.session.specs.Keys.{read_first, run_on, step_at, stop_by, stopped, with_begun, with_put}
 use Rattle.session.specs.Steps.{IsFileless, IsNext, IsSettled, next_of}
@@ -29,12 +28,10 @@ HasSettled turn = IsSettled turn.stage turn.core.frames
 -- where no file is wished a key is wanted, or the run is over
 pub next_is : (stage : Stage) (frames : List PlainFrame) → IsSettled stage frames
     → IsFileless stage frames → IsNext (next_of stage) stage
-next_is Unopened frames h none = absurd h
-next_is Pushing frames h none = absurd h
 next_is Idle frames h none = refl
-next_is Ready frames h none = absurd h
 next_is Reading frames h none = absurd (h none)
 next_is Over frames h none = refl
+next_is _ frames h none = absurd h
 
 module _ (g : Ground) where
   module _ (replaced : ℕ) (keys : List Key) (rest : CoreState → TurnState)
@@ -84,7 +81,7 @@ module _ (g : Ground) where
         first_settles (prompted g key c).frames (prompted g key c) refl
     at_settles again loops key None c =
         step_settles again loops (c.rules.keymap.begun ++ key ∷ []) (called key)
-        (found_in c.rules.keymap Index (c.rules.keymap.begun ++ key ∷ [])) c
+        (found_in c.rules.keymap (shown_menu c) (c.rules.keymap.begun ++ key ∷ [])) c
 
   put_settles : (again : List Key → CoreState → TurnState)
       → ((more : List Key) (c : CoreState) → HasSettled (again more c))

@@ -6,10 +6,10 @@ use Rattle.folder_letters.specs.Letters.{Mail}
 use Rattle.keymap.specs.declared.key.Key.{Key}
 use Rattle.session_state.specs.Frames.{PlainFrame}
 use Rattle.session_state.specs.declared.stage.Stage.{Stage}
-use Rattle.session_state.specs.declared.stage.Stage.TheVariants.{Unopened, Pushing, Idle, Ready}
+use Rattle.session_state.specs.declared.stage.Stage.TheVariants.{Unopened, Idle, Ready}
 use Rattle.session_state.specs.declared.stage.Stage.TheVariants.{Over, Reading}
 use Rattle.session_events.specs.Events.{AreFiles, Happening, FileRead, FileRefused, IsFile}
-use Rattle.session_events.specs.Events.{KeyPressed, FolderOpened, FolderRefused, plain_event}
+use Rattle.session_events.specs.Events.{KeyPressed, plain_event}
 use Rattle.session_events.specs.Events.{plain_events}
 use Rattle.session_events.specs.declared.event.Event.{Event}
 use Rattle.session_events.specs.declared.event.Marks.{Marks}
@@ -294,13 +294,9 @@ going_keeps given (frame ∷ frames) s = (refl, refl)
 -- what keys make of it leaves what was told, and the window
 read_keeps : (stage : Stage) (given : Given) (s : State)
     → ((read_at stage given s).notes ≡ s.notes) × ((read_at stage given s).window ≡ s.window)
-read_keeps Unopened given s = (refl, refl)
-read_keeps Pushing given s = (refl, refl)
-read_keeps Idle given s = (refl, refl)
-read_keeps Ready given s = (refl, refl)
 read_keeps Reading given s = going_keeps given (caught_up given.mails s.turn.core).frames
     (with_core (caught_up given.mails s.turn.core) s)
-read_keeps Over given s = (refl, refl)
+read_keeps _ given s = (refl, refl)
 
 file_notes : (given : Given) (s : State) (event : Happening) (marks : Marks)
     → HasFileCause event marks
@@ -309,20 +305,14 @@ file_notes given s (FileRead path text kept) marks cause =
     (_, (read_keeps s.turn.stage given (read_in given.verdicts text s)).0)
 file_notes given s (FileRefused path why kept) marks cause =
     (_, (read_keeps s.turn.stage given (skipped given.verdicts why s)).0)
-file_notes given s (KeyPressed key moment) marks cause = absurd cause
-file_notes given s (FolderOpened path kind moment came kept) marks cause = absurd cause
-file_notes given s (FolderRefused path why kept) marks cause = absurd cause
+file_notes given s _ marks cause = absurd cause
 
 -- Before a folder is open it leaves the stage, and the letters have no say.
 
 unopened_read : (mails : List Mail) (stage : Stage) (given : Given) (s : State) → stage ≡ Unopened
     → (read_at stage given s ≡ s) × (read_at stage (given_of mails given.verdicts) s ≡ s)
-unopened_read mails Unopened given s is = (refl, refl)
-unopened_read mails Pushing given s is = (refl, refl)
-unopened_read mails Idle given s is = (refl, refl)
-unopened_read mails Ready given s is = (refl, refl)
 unopened_read mails Reading given s is = absurd (cc)
-unopened_read mails Over given s is = (refl, refl)
+unopened_read mails _ given s is = (refl, refl)
 
 module _ (mails : List Mail) (given : Given) (s : State) (unopened : s.turn.stage ≡ Unopened) where
   file_same : (event : Happening) (marks : Marks) → HasFileCause event marks
@@ -333,9 +323,7 @@ module _ (mails : List Mail) (given : Given) (s : State) (unopened : s.turn.stag
   file_same (FileRefused path why kept) marks cause =
       let both = unopened_read mails s.turn.stage given (skipped given.verdicts why s) unopened in
       both.0 ∙ sym both.1
-  file_same (KeyPressed key moment) marks cause = absurd cause
-  file_same (FolderOpened path kind moment came kept) marks cause = absurd cause
-  file_same (FolderRefused path why kept) marks cause = absurd cause
+  file_same _ marks cause = absurd cause
 
 file_unopened : (given : Given) (s : State) (event : Happening) → IsFile event
     → s.turn.stage ≡ Unopened → (arrived given s event).turn.stage ≡ Unopened
@@ -345,18 +333,14 @@ file_unopened given s (FileRead path text kept) is unopened =
 file_unopened given s (FileRefused path why kept) is unopened =
     ap (λ (t : State). t.turn.stage) (unopened_read [] s.turn.stage given
     (skipped given.verdicts why s) unopened).0 ∙ unopened
-file_unopened given s (KeyPressed key moment) is unopened = absurd is
-file_unopened given s (FolderOpened path kind moment came kept) is unopened = absurd is
-file_unopened given s (FolderRefused path why kept) is unopened = absurd is
+file_unopened given s _ is unopened = absurd is
 
 -- the event of a file leads to what arrives
 file_after : (given : Given) (s : State) (event : Happening) → IsFile event
     → after given s event ≡ arrived given s event
 file_after given s (FileRead path text kept) is = refl
 file_after given s (FileRefused path why kept) is = refl
-file_after given s (KeyPressed key moment) is = absurd is
-file_after given s (FolderOpened path kind moment came kept) is = absurd is
-file_after given s (FolderRefused path why kept) is = absurd is
+file_after given s _ is = absurd is
 
 pub after_unopened : (given : Given) (s : State) (event : Happening) → IsFile event
     → s.turn.stage ≡ Unopened → (after given s event).turn.stage ≡ Unopened
@@ -384,19 +368,15 @@ going_settles given (frame ∷ frames) s is read =
 read_settles : (stage : Stage) (given : Given) (old s : State) → old.turn.stage ≡ stage
     → s.turn.stage ≡ stage → IsSettled old.turn.stage old.turn.core.frames
     → IsSettled (read_at stage given s).turn.stage (read_at stage given s).turn.core.frames
-read_settles Unopened given old s was is h = absurd
-    (subst (λ (stage : Stage). IsSettled stage old.turn.core.frames) was h)
-read_settles Pushing given old s was is h = absurd
-    (subst (λ (stage : Stage). IsSettled stage old.turn.core.frames) was h)
 read_settles Idle given old s was is h =
     subst (λ (stage : Stage). IsSettled stage s.turn.core.frames) (sym is) tt
-read_settles Ready given old s was is h = absurd
-    (subst (λ (stage : Stage). IsSettled stage old.turn.core.frames) was h)
 read_settles Reading given old s was is h = going_settles given
     (caught_up given.mails s.turn.core).frames (with_core (caught_up given.mails s.turn.core) s)
     is refl
 read_settles Over given old s was is h =
     subst (λ (stage : Stage). IsSettled stage s.turn.core.frames) (sym is) tt
+read_settles _ given old s was is h = absurd
+    (subst (λ (stage : Stage). IsSettled stage old.turn.core.frames) was h)
 
 file_settles : (given : Given) (s : State) (event : Happening) → IsFile event
     → IsSettled s.turn.stage s.turn.core.frames
@@ -405,26 +385,18 @@ file_settles given s (FileRead path text kept) is h =
     read_settles s.turn.stage given s (read_in given.verdicts text s) refl refl h
 file_settles given s (FileRefused path why kept) is h =
     read_settles s.turn.stage given s (skipped given.verdicts why s) refl refl h
-file_settles given s (KeyPressed key moment) is h = absurd is
-file_settles given s (FolderOpened path kind moment came kept) is h = absurd is
-file_settles given s (FolderRefused path why kept) is h = absurd is
+file_settles given s _ is h = absurd is
 
 -- A stage at which a file is wished shows nothing.
 wishes_unshown : (given : Given) (s t : State) (stage : Stage) (moment : ℤ) (path : List ℕ)
     → wish_at stage s moment ≡ Source path → stage_screens given stage t ≡ []
-wishes_unshown given s t Unopened moment path is = refl
-wishes_unshown given s t Pushing moment path is = refl
 wishes_unshown given s t Idle moment path is = absurd (cc)
-wishes_unshown given s t Ready moment path is = refl
-wishes_unshown given s t Reading moment path is = refl
-wishes_unshown given s t Over moment path is = refl
+wishes_unshown given s t _ moment path is = refl
 
 file_path : (event : Happening) → IsFile event → (path : List ℕ) × (answered event ≡ Source path)
 file_path (FileRead path text kept) is = (path, refl)
 file_path (FileRefused path why kept) is = (path, refl)
-file_path (KeyPressed key moment) is = absurd is
-file_path (FolderOpened path kind moment came kept) is = absurd is
-file_path (FolderRefused path why kept) is = absurd is
+file_path _ is = absurd is
 
 -- A file that was wished was looked for.
 module _ (s : State) (events events' : List Happening)
@@ -481,11 +453,7 @@ module _ (s : State) (events events' : List Happening)
   lent_by {mails} Unopened is given lent t arrives =
       arrives (given_of mails given.verdicts) (record { mails_are = refl; keeps = lent })
       ∙ sym (file_same mails given s is event tells.marks tells.cause)
-  lent_by Pushing is given lent t arrives = arrives given lent
-  lent_by Idle is given lent t arrives = arrives given lent
-  lent_by Ready is given lent t arrives = arrives given lent
-  lent_by Reading is given lent t arrives = arrives given lent
-  lent_by Over is given lent t arrives = arrives given lent
+  lent_by _ is given lent t arrives = arrives given lent
 
   module _ {mails : List Mail} {kept : List PlainJudged} (t : State)
       (arrives : (given : Given) → IsGiven mails kept given → t ≡ arrived given s event) where

@@ -15,7 +15,7 @@ use Rattle.folder_letters.specs.Letters.{Mail}
 use Rattle.keymap.specs.declared.key.Key.{Key}
 use Rattle.session_events.specs.declared.event.Marks.{Marks}
 use Rattle.session_events.specs.Events.{AreFiles, Happening, FileRead, FileRefused, IsFile}
-use Rattle.session_events.specs.Events.{KeyPressed, FolderOpened, FolderRefused}
+use Rattle.session_events.specs.Events.{KeyPressed}
 use Rattle.session_events.specs.Happened.{AllCounted, Counts, Happened, IsCounted}
 use Rattle.session.specs.Telling.{AllHappened}
 use Rattle.session_events.specs.Happened.{IsTrueAt, counts_after, counts_at, counts_of, marks_of}
@@ -256,9 +256,7 @@ module _ (Has : Kind → Type 0) where
       first = h.first;
       last = h.last;
     }
-    tells_file empty (KeyPressed key moment) old new h = absurd h.cause
-    tells_file empty (FolderOpened path kind moment came kept) old new h = absurd h.cause
-    tells_file empty (FolderRefused path why kept) old new h = absurd h.cause
+    tells_file empty _ old new h = absurd h.cause
 
     -- events of files tell of it one after the other
     pub witnessed_each : (s : State) (events files : List Happening) (first now next : Seen)
@@ -279,9 +277,7 @@ module _ (Has : Kind → Type 0) where
 pub file_is : (event : Happening) (marks : Marks) → HasFileCause event marks → IsFile event
 file_is (FileRead path text kept) marks h = tt
 file_is (FileRefused path why kept) marks h = tt
-file_is (KeyPressed key moment) marks h = absurd h
-file_is (FolderOpened path kind moment came kept) marks h = absurd h
-file_is (FolderRefused path why kept) marks h = absurd h
+file_is _ marks h = absurd h
 
 pub files_append : (events : List Happening) (event : Happening) → AreFiles events → IsFile event
     → AreFiles (events ++ event ∷ [])
@@ -333,9 +329,7 @@ module _ (Has Other : Kind → Type 0) where
       → HasCause Other event marks
   file_cause (FileRead path text kept) marks is h = tt
   file_cause (FileRefused path why kept) marks is h = h
-  file_cause (KeyPressed key moment) marks is h = absurd is
-  file_cause (FolderOpened path kind moment came kept) marks is h = absurd is
-  file_cause (FolderRefused path why kept) marks is h = absurd is
+  file_cause _ marks is h = absurd is
 
   file_counted : (counts : Counts) (event : Happening) (at : Option Marks) → IsFile event
       → IsCounted Has counts event at → IsCounted Other counts event at
@@ -362,10 +356,7 @@ module _ (Has Other : Kind → Type 0) where
   file_true empty archive event None past is h = tt
   file_true empty archive (FileRead path text kept) (Some marks) past is h = h
   file_true empty archive (FileRefused path why kept) (Some marks) past is h = h
-  file_true empty archive (KeyPressed key moment) (Some marks) past is h = absurd is
-  file_true empty archive (FolderOpened path kind moment came kept) (Some marks) past is h =
-      absurd is
-  file_true empty archive (FolderRefused path why kept) (Some marks) past is h = absurd is
+  file_true empty archive _ (Some marks) past is h = absurd is
 
   files_true : (given : Given) (s : State) (events : List Happening) (past : Past)
       → AreFiles events → AllHappened Has given s events past

@@ -6,7 +6,7 @@ use Rattle.std.proofs.lemmas.Bool.Decides.{nat_tests}
 use Rattle.keymap.specs.Press.{Pressed, pressed_queue}
 use Rattle.keymap.specs.Queue.{PlainQueue}
 use Rattle.keymap.specs.declared.key.Key.{Key}
-use Rattle.keymap.specs.declared.menu.Menu.TheVariants.{Index}
+use Rattle.keymap.specs.declared.menu.Menu.{Menu}
 use Rattle.keymap.specs.declared.press.Press.{Press}
 use Rattle.keymap.specs.declared.press.Press.TheVariants as press
 use Rattle.session_index.specs.Desk.{PlainWanted}
@@ -14,7 +14,7 @@ use Rattle.session_state.specs.Commands.{IsPressed}
 use Rattle.session_state.specs.Rules.{PlainRules}
 use Rattle.session.specs.Acting.{acted, prompted}
 use Rattle.session.specs.Answers.{granted}
-use Rattle.session.specs.Core.{CoreState, Ground}
+use Rattle.session.specs.Core.{CoreState, Ground, shown_menu}
 use Rattle.session.specs.Keys.{Steps, behind, run_keys, settled, stage_after, stop_by, stopped}
 use Rattle.session.specs.Keys.{turn_of, with_begun, with_put}
 use Rattle.session_state.specs.declared.stage.Stage.{Stage}
@@ -34,9 +34,9 @@ answered press rules queue =
 
 -- A press took the core and the queue to others.
 module _ (g : Ground) (core next : CoreState) (rules : PlainRules) (queue queue' : PlainQueue)
-    (press : Press)
+    (menu : Menu) (press : Press) (shows : menu ≡ shown_menu core)
     (few : queue.replaced ≤ 1024) (empty : core.rules.put ≡ []) (none : core.desk.prompt ≡ None)
-    (is : IsPressed press core.rules rules queue queue')
+    (is : IsPressed menu press core.rules rules queue queue')
     (acts : next ≡ acted g press (record core { rules = rules })) where
   core_is : with_begun rules.keymap.begun core ≡ record core { rules = rules }
   core_is =
@@ -48,7 +48,10 @@ module _ (g : Ground) (core next : CoreState) (rules : PlainRules) (queue queue'
   settled_is =
       let most : 1024 - queue.replaced + queue.replaced ≡ 1024 = omega arith in
       press_is g (1024 - queue.replaced) queue.replaced queue.items core empty none
-      ∙ ap (λ (n : ℕ). by_pressed g n (pressed_queue core.rules.keymap Index queue) core) most
+      ∙ ap (λ (n : ℕ). by_pressed g n (pressed_queue core.rules.keymap (shown_menu core) queue)
+      core) most
+      ∙ ap (λ (m : Menu). by_pressed g 1024 (pressed_queue core.rules.keymap m queue) core)
+      (sym shows)
       ∙ ap (λ (p : Pressed). by_pressed g 1024 p core) (sym is.outcome)
       ∙ ap (λ (c : CoreState). behind g press queue'.replaced queue'.items
       (run_keys g (1024 - queue'.replaced) queue'.replaced queue'.items) c) core_is
@@ -201,13 +204,14 @@ none_waits g core last queue empty grants =
     core) none
     ∙ none_left g (1024 - queue.replaced) queue.replaced core no_put)
 
-module _ (wanted : PlainWanted) (old new : PlainRules) (queue queue' : PlainQueue) (press : Press)
-    (few : queue.replaced ≤ 1024) (is : IsPressed press old new queue queue') where
+module _ (wanted : PlainWanted) (old new : PlainRules) (queue queue' : PlainQueue)
+    (menu : Menu) (press : Press) (few : queue.replaced ≤ 1024)
+    (is : IsPressed menu press old new queue queue') where
   less : IsLess wanted (1024 - queue.replaced) queue.replaced queue.items
       (answered press new queue')
   less = subst (λ (p : Pressed). IsLess wanted (1024 - queue.replaced) queue.replaced queue.items p)
       (sym is.outcome)
-      (less_is wanted old.keymap (1024 - queue.replaced) queue.replaced old.keymap.begun
+      (less_is wanted old.keymap menu (1024 - queue.replaced) queue.replaced old.keymap.begun
       queue.items)
 
   pub still_few : queue'.replaced ≤ 1024

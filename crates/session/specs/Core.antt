@@ -2,6 +2,8 @@
 use Rattle.std.specs.Prelude.{◌≡◌, ℕ, ℤ, Bool, false, List, [], Option, None, option_map}
 use Rattle.folder_letters.specs.Letters.{Mail}
 use Rattle.index_view.specs.View.{IsOf, PlainView, first_view}
+use Rattle.keymap.specs.declared.menu.Menu.{Menu}
+use Rattle.keymap.specs.declared.menu.Menu.TheVariants.{Index}
 use Rattle.people.specs.People.{no_people}
 use Rattle.people.specs.Judged.{PlainJudged}
 use Rattle.session_index.specs.Desk.{PlainDesk, Unasked, plain_desk}
@@ -32,6 +34,10 @@ plain_core core = record {
   limit = option_map (λ text. text.items) core.limit;
   frames = plain_frames core.frames;
 }
+
+-- the menu whose bindings keys are looked up in: what keys act on is the index
+abbrev pub shown_menu : CoreState → Menu
+shown_menu c = Index
 
 -- before these files of commands are read and a folder is open
 abbrev pub first_core : Bool → List PlainFrame → CoreState

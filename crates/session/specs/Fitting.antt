@@ -2,7 +2,7 @@
 use Rattle.std.specs.Prelude.{◌≡◌, ◌≤◌, List}
 use Rattle.folder_letters.specs.Letters.{Mail}
 use Rattle.index_view.specs.View.{IsOf, PlainView}
-use Rattle.session_events.specs.Events.{Happening, FileRead, FileRefused, KeyPressed, FolderOpened}
+use Rattle.session_events.specs.Events.{Happening, KeyPressed, FolderOpened}
 use Rattle.session_events.specs.Events.{FolderRefused}
 use Rattle.keymap.specs.Queue.{most_replacements}
 use Rattle.session_events.specs.Happened.{IsFresh}
@@ -27,12 +27,11 @@ pub record Fits (mails : List Mail) (session : Session) : Type 0 where
 -- what an event needs of an index, over the letters that were met up to it: the first opening an
 -- empty one, and others one of these letters
 abbrev pub CanTake : List Mail → PlainView → Happening → Type 0
-CanTake mails view (FileRead path text marks) = IsOf mails view
-CanTake mails view (FileRefused path why marks) = IsOf mails view
 CanTake mails view (KeyPressed key moment) = IsOf mails view × IsMoment moment
 CanTake mails view (FolderOpened path kind moment came marks) =
     IsEmpty view × IsFresh mails came × IsMoment moment
 CanTake mails view (FolderRefused path why marks) = Unit {0}
+CanTake mails view _ = IsOf mails view
 
 -- commands were run, or the message line was emptied: the rest of the session is as before
 pub record IsReadIn (old new : Session) : Type 0 where
@@ -47,8 +46,7 @@ StaysUnopened old new = old.stage ≡ Unopened → new.core.desk.view ≡ old.co
 
 -- what it leaves
 abbrev pub IsLeft : List Mail → Session → Session → Happening → Type 0
-IsLeft mails old new (FileRead path text marks) = Fits mails new × StaysUnopened old new
-IsLeft mails old new (FileRefused path why marks) = Fits mails new × StaysUnopened old new
 IsLeft mails old new (KeyPressed key moment) = Fits mails new
 IsLeft mails old new (FolderOpened path kind moment came marks) = Fits mails new
 IsLeft mails old new (FolderRefused path why marks) = Unit {0}
+IsLeft mails old new _ = Fits mails new × StaysUnopened old new

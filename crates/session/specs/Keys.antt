@@ -8,14 +8,13 @@ use Rattle.keymap.specs.Press.{called}
 use Rattle.keymap.specs.Queue.{PlainQueue, most_replacements}
 use Rattle.keymap.specs.declared.function.Function.{Function}
 use Rattle.keymap.specs.declared.key.Key.{Key}
-use Rattle.keymap.specs.declared.menu.Menu.TheVariants.{Index}
 use Rattle.keymap.specs.declared.press.Press.{Press}
 use Rattle.keymap.specs.declared.press.Press.TheVariants as press
 use Rattle.prompts.specs.Prompts.{PlainPrompt}
 use Rattle.session_index.specs.Desk.{PlainWanted, ToAnswer, ToChoose, ToEnd, Unasked}
 use Rattle.session.specs.Acting.{acted, prompted}
 use Rattle.session.specs.Answers.{granted}
-use Rattle.session.specs.Core.{CoreState, Ground}
+use Rattle.session.specs.Core.{CoreState, Ground, shown_menu}
 use Rattle.session_state.specs.Frames.{PlainFrame}
 use Rattle.session_state.specs.declared.stage.Stage.{Stage}
 use Rattle.session_state.specs.declared.stage.Stage.TheVariants.{Idle, Over, Reading}
@@ -94,7 +93,7 @@ step_at g replaced again key keys rest (Some prompt) c =
     behind_prompt replaced keys rest (prompted g key c)
 step_at g replaced again key keys rest None c =
     step g replaced again keys rest (c.rules.keymap.begun ++ key ∷ []) (called key)
-    (found_in c.rules.keymap Index (c.rules.keymap.begun ++ key ∷ [])) c
+    (found_in c.rules.keymap (shown_menu c) (c.rules.keymap.begun ++ key ∷ [])) c
 
 -- these keys that commands have put are left
 abbrev pub with_put : List (List Key) → CoreState → CoreState

@@ -68,11 +68,10 @@ file_wish (frame ∷ frames) other = Source frame.place.file
 abbrev pub wish_at : Stage → State → ℤ → Wish
 wish_at Unopened s moment = file_wish s.turn.core.frames
     (Open (folder_path s.turn.core.rules.settings s.named))
-wish_at Pushing s moment = Nothing
 wish_at Idle s moment = Press moment
 wish_at Ready s moment = Press moment
 wish_at Reading s moment = file_wish s.turn.core.frames Nothing
-wish_at Over s moment = Nothing
+wish_at _ s moment = Nothing
 
 -- what is wished at this moment
 abbrev pub wish : State → ℤ → Wish
@@ -104,11 +103,7 @@ quiet c = with_desk (record c.desk { message = [] }) c
 -- a state before a key, by its stage
 abbrev pub taken_at : Stage → State → State
 taken_at Idle s = record s { turn = record s.turn { core = quiet s.turn.core; stage = Ready } }
-taken_at Unopened s = s
-taken_at Pushing s = s
-taken_at Ready s = s
-taken_at Reading s = s
-taken_at Over s = s
+taken_at _ s = s
 
 -- a state before a key: the last line is empty
 abbrev pub taken : State → State
@@ -167,12 +162,8 @@ reading_on given s = going_on given (caught_up given.mails s.turn.core).frames
 
 -- behind a file
 abbrev pub read_at : Stage → Given → State → State
-read_at Unopened given s = s
-read_at Pushing given s = s
-read_at Idle given s = s
-read_at Ready given s = s
 read_at Reading given s = reading_on given s
-read_at Over given s = s
+read_at _ given s = s
 
 -- the state behind a file: where no other is to be read, the index learns and keys go on
 abbrev pub read_on : Given → State → State
@@ -194,12 +185,9 @@ arrived given s (FolderRefused path why marks) = at_stage Over s
 
 -- the state after an event
 abbrev pub after : Given → State → Happening → State
-after given s (FileRead path text marks) = arrived given s (FileRead path text marks)
-after given s (FileRefused path why marks) = arrived given s (FileRefused path why marks)
-after given s (KeyPressed key moment) = arrived given s (KeyPressed key moment)
 after given s (FolderOpened path kind moment came marks) =
     pushed given (arrived given s (FolderOpened path kind moment came marks))
-after given s (FolderRefused path why marks) = arrived given s (FolderRefused path why marks)
+after given s event = arrived given s event
 
 -- the state behind events
 abbrev pub after_events : Given → State → List Happening → State
@@ -217,12 +205,8 @@ screen_in mails s = screen mails s.window s.folder s.turn.core
 
 -- a state that wants a key shows its screen
 abbrev pub stage_screens : Given → Stage → State → List (List (List ℕ))
-stage_screens given Unopened s = []
-stage_screens given Pushing s = []
 stage_screens given Idle s = screen_in given.mails s ∷ []
-stage_screens given Ready s = []
-stage_screens given Reading s = []
-stage_screens given Over s = []
+stage_screens given _ s = []
 
 -- the screens that a state shows
 abbrev pub shown : Given → State → List (List (List ℕ))

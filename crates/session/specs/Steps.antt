@@ -7,7 +7,7 @@ use Rattle.keymap.specs.declared.key.Key.{Key}
 use Rattle.patterns.specs.Causes.{Keeps}
 use Rattle.people.specs.Judged.{PlainJudged}
 use Rattle.session_state.specs.declared.stage.Stage.{Stage}
-use Rattle.session_state.specs.declared.stage.Stage.TheVariants.{Unopened, Pushing, Idle, Ready}
+use Rattle.session_state.specs.declared.stage.Stage.TheVariants.{Unopened, Idle}
 use Rattle.session_state.specs.declared.stage.Stage.TheVariants.{Over, Reading}
 use Rattle.session_events.specs.declared.setup.Next.{Next}
 use Rattle.session_events.specs.declared.setup.Next.TheVariants.{Go, Quit}
@@ -77,11 +77,7 @@ StaysTold Has events events' now next = (given : Given) → (first : State) → 
 -- before a folder is open the letters have no say
 abbrev pub IsLent : Stage → List Mail → List PlainJudged → Given → Type 0
 IsLent Unopened mails kept given = Keeps kept given.verdicts
-IsLent Pushing mails kept given = IsGiven mails kept given
-IsLent Idle mails kept given = IsGiven mails kept given
-IsLent Ready mails kept given = IsGiven mails kept given
-IsLent Reading mails kept given = IsGiven mails kept given
-IsLent Over mails kept given = IsGiven mails kept given
+IsLent _ mails kept given = IsGiven mails kept given
 
 -- one event of a file after the other, in which the device went from one view to the next
 abbrev pub TellsEach : List Happening → Seen → Seen → Type 0
@@ -98,20 +94,15 @@ pub record ReadsFiles (events events' : List Happening) (old new : Seen) : Type 
 -- no file of commands is wished
 abbrev pub IsFileless : Stage → List PlainFrame → Type 0
 IsFileless Unopened frames = frames ≡ []
-IsFileless Pushing frames = Unit {0}
-IsFileless Idle frames = Unit {0}
-IsFileless Ready frames = Unit {0}
 IsFileless Reading frames = frames ≡ []
-IsFileless Over frames = Unit {0}
+IsFileless _ frames = Unit {0}
 
 -- keys have acted: one is wanted, or a file that they came to, or the run is over
 abbrev pub IsSettled : Stage → List PlainFrame → Type 0
-IsSettled Unopened frames = ⊥
-IsSettled Pushing frames = ⊥
 IsSettled Idle frames = Unit {0}
-IsSettled Ready frames = ⊥
 IsSettled Reading frames = frames ≢ []
 IsSettled Over frames = Unit {0}
+IsSettled _ frames = ⊥
 
 -- Files of commands were read before a folder is open: the events are a run up to this state, no
 -- screen was shown, and what they say of the disk is true, for every list that keeps these
@@ -140,9 +131,5 @@ pub record SourcesOff (kept : List PlainJudged) (first : State) (events : List H
 
 -- the run goes on, unless it is over
 abbrev pub next_of : Stage → Next
-next_of Unopened = Go
-next_of Pushing = Go
-next_of Idle = Go
-next_of Ready = Go
-next_of Reading = Go
 next_of Over = Quit
+next_of _ = Go

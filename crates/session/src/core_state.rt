@@ -1,6 +1,7 @@
 //! What keys act on.
 
 use index_view::View;
+use keymap::Menu;
 use mail_base::{Line, NoMemory};
 use patterns_match::Scores;
 use people::People;
@@ -32,7 +33,7 @@ impl Drop for Core {
 impl Core {
     ghost use Rattle.std.specs.Prelude.{◌≡◌, [], IfOk, true, false};
     ghost use Rattle.session_state.specs.Frames.{plain_frames};
-    ghost use Rattle.session.specs.Core.{IsEmpty, first_core, plain_core};
+    ghost use Rattle.session.specs.Core.{IsEmpty, first_core, plain_core, shown_menu};
 
     /// What keys act on before these files of commands are read and a folder is open.
     pub fn new(alloc: Global, read_only: bool, frames: Vec<Frame>) -> Result<Core, NoMemory>
@@ -57,6 +58,13 @@ impl Core {
             limit: None,
             frames,
         })
+    }
+
+    /// The menu whose bindings keys are looked up in.
+    pub fn menu(&self) -> Menu
+        ensures { result ≡ shown_menu (plain_core self.now) }
+    {
+        Menu::Index
     }
 
     /// Whether a file of commands is still to be read.

@@ -228,7 +228,8 @@ fn press_next(
     ensures falls { IfOk result (λ stopped. stopped ≡ None → length queue.new.items < 2 ^ 64
         → fuel queue.new < fuel queue.old) }
 {
-    let press = core.rules.press(queue)?;
+    let shown = core.menu();
+    let press = core.rules.press(shown, queue)?;
     core.act(window, archive, press)?;
     let stopped = stage_after(press, &core.desk.wanted);
     if stopped.is_some() {

@@ -37,9 +37,7 @@ plain_events events = map plain_event events
 abbrev pub IsFile : Happening → Type 0
 IsFile (FileRead path text marks) = Unit {0}
 IsFile (FileRefused path why marks) = Unit {0}
-IsFile (KeyPressed key moment) = ⊥
-IsFile (FolderOpened path kind moment came marks) = ⊥
-IsFile (FolderRefused path why marks) = ⊥
+IsFile _ = ⊥
 
 -- all of these are events of files
 abbrev pub AreFiles : List Happening → Type 0

@@ -93,12 +93,11 @@ IsCause Has (Folder why) before after = Unit {0}
 
 -- the cause of a refused event; an opened folder has a driver
 abbrev pub HasCause : (Kind → Type 0) → Happening → Marks → Type 0
-HasCause Has (FileRead path text kept) marks = Unit {0}
 HasCause Has (FileRefused path why kept) marks = IsReadCause why marks
-HasCause Has (KeyPressed key moment) marks = Unit {0}
 HasCause Has (FolderOpened path kind moment came kept) marks = Has kind
 HasCause Has (FolderRefused path why kept) marks =
     IsCause Has why marks.faults_before marks.faults_after
+HasCause Has _ marks = Unit {0}
 
 -- the marks of an event in which the device was used
 abbrev pub marks_of : Happening → Option Marks
@@ -169,6 +168,4 @@ IsFresh archive came =
 abbrev pub IsListed : List Mail → Happening → Type 0
 IsListed archive (FolderOpened path kind moment came marks) = IsFresh archive came
 IsListed archive (FolderRefused path why marks) = archive ≡ []
-IsListed archive (FileRead path text marks) = Unit {0}
-IsListed archive (FileRefused path why marks) = Unit {0}
-IsListed archive (KeyPressed key moment) = Unit {0}
+IsListed archive _ = Unit {0}

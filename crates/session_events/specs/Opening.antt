@@ -7,7 +7,7 @@ use Rattle.disk_model.specs.Judge.{GoesOn}
 use Rattle.disk_model.specs.Looking.{OnlyLooks}
 use Rattle.disk_model.specs.Seen.{Seen}
 use Rattle.folder_letters.specs.Letters.{Mail}
-use Rattle.session_events.specs.Events.{Happening, FileRead, FileRefused, KeyPressed, FolderOpened}
+use Rattle.session_events.specs.Events.{Happening, FolderOpened}
 use Rattle.session_events.specs.Events.{FolderRefused}
 use Rattle.session_events.specs.Happened.{IsCause, IsFresh, IsListed, WasOpened, WasRefused}
 use Rattle.session_events.specs.Wishes.{Open, answered}
@@ -42,17 +42,12 @@ pub record ReadsFolder (Has : Kind → Type 0) (empty : Kind) (archive : List Ma
 abbrev pub IsOpening : ℤ → Happening → Type 0
 IsOpening moment (FolderOpened path kind at came marks) = at ≡ moment
 IsOpening moment (FolderRefused path why marks) = Unit {0}
-IsOpening moment (FileRead path text marks) = ⊥
-IsOpening moment (FileRefused path why marks) = ⊥
-IsOpening moment (KeyPressed key at) = ⊥
+IsOpening moment _ = ⊥
 
 -- why the folder was not opened
 abbrev pub refusal_of : Happening → Option OpenFault
-refusal_of (FolderOpened path kind moment came marks) = None
 refusal_of (FolderRefused path why marks) = Some why
-refusal_of (FileRead path text marks) = None
-refusal_of (FileRefused path why marks) = None
-refusal_of (KeyPressed key moment) = None
+refusal_of _ = None
 
 -- The folder at a path was looked for, and this is what happened.
 pub record OpensPath (Has : Kind → Type 0) (empty : Kind) (path : List ℕ) (moment : ℤ)

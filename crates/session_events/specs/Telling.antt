@@ -7,8 +7,7 @@ use Rattle.disk_model.specs.Looking.{LooksOnly}
 use Rattle.disk_model.specs.Seen.{Seen}
 use Rattle.folder_letters.specs.Letters.{Mail}
 use Rattle.disk_model.specs.declared.answers.Stat.{Stat}
-use Rattle.session_events.specs.Events.{Happening, FileRead, FileRefused, KeyPressed, FolderOpened}
-use Rattle.session_events.specs.Events.{FolderRefused}
+use Rattle.session_events.specs.Events.{Happening, FileRead, FileRefused}
 use Rattle.session_events.specs.Happened.{Happened, HasCause, IsReadCause, WasRead, counts_of}
 use Rattle.session_events.specs.Happened.{marks_of}
 use Rattle.session_events.specs.declared.event.Marks.{Marks}
@@ -39,17 +38,13 @@ abbrev pub FileHappened : Happening → Past → Past → Type 0
 FileHappened (FileRead path text marks) old new = (stat : Stat)
     × WasRead (Ok (stat, text)) path old new
 FileHappened (FileRefused path why marks) old new = WasRead (Err why) path old new
-FileHappened (KeyPressed key moment) old new = ⊥
-FileHappened (FolderOpened path kind moment came marks) old new = ⊥
-FileHappened (FolderRefused path why marks) old new = ⊥
+FileHappened _ old new = ⊥
 
 -- the event is that of a file, and has its cause
 abbrev pub HasFileCause : Happening → Marks → Type 0
 HasFileCause (FileRead path text kept) marks = Unit {0}
 HasFileCause (FileRefused path why kept) marks = IsReadCause why marks
-HasFileCause (KeyPressed key moment) marks = ⊥
-HasFileCause (FolderOpened path kind moment came kept) marks = ⊥
-HasFileCause (FolderRefused path why kept) marks = ⊥
+HasFileCause _ marks = ⊥
 
 -- One event of a file, whatever the drivers are.
 pub record TellsFile (event : Happening) (old new : Seen) : Type 0 where

@@ -12,11 +12,9 @@ pub data Wish : Type 0 where
 
 -- the moment of an event that has one
 abbrev pub moment_of : Happening → ℤ
-moment_of (FileRead path text marks) = pos 0
-moment_of (FileRefused path why marks) = pos 0
 moment_of (KeyPressed key moment) = moment
 moment_of (FolderOpened path kind moment came marks) = moment
-moment_of (FolderRefused path why marks) = pos 0
+moment_of _ = pos 0
 
 -- the wish that an event answers
 abbrev pub answered : Happening → Wish

@@ -339,8 +339,8 @@ IsRan (Ok a) rules wanted = wanted ≡ record { rules = rules; answer = Ok (plai
 IsRan (Err e) rules wanted =
     (wanted ≡ record { rules = rules; answer = Err (plain_error e) }) ⊎ (plain_error e ≡ no_memory)
 
--- What a press of the keys that wait in the index answers and leaves.
-pub record IsPressed (answer : Press) (old new : PlainRules)
+-- What a press of the keys that wait in a menu answers and leaves.
+pub record IsPressed (menu : Menu) (answer : Press) (old new : PlainRules)
     (queue queue' : PlainQueue) : Type 0 where
   pub outcome : record {
     press = answer;
@@ -348,5 +348,5 @@ pub record IsPressed (answer : Press) (old new : PlainRules)
     waiting = queue'.items;
     replaced = queue'.replaced;
   }
-      ≡ pressed_queue old.keymap Index queue
+      ≡ pressed_queue old.keymap menu queue
   pub same : new ≡ record old { keymap = record old.keymap { begun = new.keymap.begun } }

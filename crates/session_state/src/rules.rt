@@ -53,8 +53,9 @@ impl Drop for Rules {
 }
 
 impl Rules {
-    ghost use Rattle.std.specs.Prelude.{◌≡◌, ◌∷◌, ◌++◌, [], length, map};
+    ghost use Rattle.std.specs.Prelude.{◌≡◌, ◌≢◌, ◌∷◌, ◌++◌, [], length, map};
     ghost use Rattle.std.specs.Prelude.{IfOk, OnOk, MatchOption};
+    ghost use Rattle.keymap.specs.declared.menu.Menu.TheVariants.{Generic};
     ghost use Rattle.mail_base.specs.Series.{plain_texts};
     ghost use Rattle.session_state.specs.Commands.{IsPressed};
     ghost use Rattle.session_state.specs.Lessons.{plain_lesson};
@@ -136,11 +137,13 @@ impl Rules {
         Ok(())
     }
 
-    /// Takes keys that wait up to an answer.
-    pub fn press(&mut self, queue: &mut KeyQueue) -> Result<Press, NoMemory>
-        ensures { IfOk result (λ press. IsPressed press self.old self.new queue.old queue.new) }
+    /// Takes keys that wait up to an answer of a menu.
+    pub fn press(&mut self, menu: Menu, queue: &mut KeyQueue) -> Result<Press, NoMemory>
+        requires { menu ≢ Generic }
+        ensures { IfOk result
+            (λ press. IsPressed menu press self.old self.new queue.old queue.new) }
     {
-        self.keymap.press(Menu::Index, queue)
+        self.keymap.press(menu, queue)
     }
 
     /// The line that a query of a variable prints. The name is that of a variable.
