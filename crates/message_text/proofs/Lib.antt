@@ -1,0 +1,4 @@
+pub mod LawsLemmas
+pub mod LevelsLemmas
+pub mod PartsLemmas
+pub mod WeedingLemmas

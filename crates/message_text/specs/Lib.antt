@@ -1,0 +1,9 @@
+pub mod Weeding
+pub mod Header
+pub mod Marks
+pub mod Look
+pub mod Branch
+pub mod Message
+pub mod Source
+pub mod Rows
+pub mod Laws
