@@ -1,0 +1,11 @@
+pub mod BodyLemmas
+pub mod CleanLemmas
+pub mod DraftLemmas
+pub mod HeadLemmas
+pub mod IdLemmas
+pub mod LineLemmas
+pub mod LoopLemmas
+pub mod Optional
+pub mod Readers
+pub mod ReplyLemmas
+pub mod TextLemmas

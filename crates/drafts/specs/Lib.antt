@@ -1,0 +1,11 @@
+pub mod PlainDraft
+pub mod Draft
+pub mod Texts
+pub mod Spelled
+pub mod LineState
+pub mod Reading
+pub mod Read
+pub mod Fronts
+pub mod Clean
+pub mod Reply
+pub mod Laws
