@@ -1,0 +1,10 @@
+pub mod Reader
+pub mod Opening
+pub mod Turning
+pub mod Searching
+pub mod Stepping
+pub mod Lines
+pub mod Kept
+pub mod Reads
+pub mod Deeds
+pub mod Laws
