@@ -37,7 +37,7 @@ use Rattle.session.specs.Runs.{pushed, shown, wish_at}
 use Rattle.session.specs.Steps.{GoesOn, IsFileless, Sources, SourcesOff, Stands, Waits}
 use Rattle.session.specs.Telling.{Driverless, Witnessed}
 use Rattle.session_events.specs.Telling.{Tells}
-use Rattle.session.proofs.StepsLemmas.{stands_goes, stands_push}
+use Rattle.session.proofs.StepsLemmas.{begin_keeps, stands_goes, stands_push}
 use Rattle.session.proofs.TellingLemmas.{witnessed_files, witnessed_push}
 
 -- the keys that commands have put acted
@@ -54,7 +54,8 @@ waits_then given first s t events is waits =
 pub waits_on : {given : Given} {first s : State} {events : List Happening}
     → Waits given first events s → GoesOn given first events [] s.notes
 waits_on {given} {first} {s} {events} waits =
-    stands_goes [] (sym (append-nil s.notes))
+    stands_goes {s = pushed given s} []
+    ((begin_keeps given s.turn.core.frames s).0 ∙ sym (append-nil s.notes))
     (waits_then given first s (pushed given s) events refl waits)
 
 rose_wider : (a b c d : ℕ) → a ≤ b → c ≡ d → Rose b c → Rose a d

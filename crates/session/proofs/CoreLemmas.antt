@@ -1,11 +1,12 @@
 -- Cores whose desk is another stand as it is said.
-use Rattle.std.proofs.Common.{◌≡◌, ◌∙◌, List, ap, sym}
+use Rattle.std.proofs.Common.{◌≡◌, ◌∙◌, List, ap, subst, sym}
 use Rattle.folder_letters.specs.Letters.{Mail}
-use Rattle.session_index.specs.Desk.{Holds, PlainDesk, PlainWanted, ToEnd, Unasked}
+use Rattle.index_view.specs.View.{IsOf}
+use Rattle.session_index.specs.Desk.{Holds, PlainDesk, PlainWanted}
 use Rattle.session_index.specs.declared.desk.Desk.{Desk}
-use Rattle.session.specs.Answers.{granted, heeded, heeded_by}
-use Rattle.session.specs.Core.{CoreState, Ground, Stands, plain_core, with_desk}
+use Rattle.session.specs.Core.{CoreState, IsOver, Reads, Stands, plain_core, with_desk}
 use Rattle.session.specs.declared.core_state.Core.{Core}
+use Rattle.session_screen.specs.declared.window.Window.{Window}
 
 pub stands_by : (mails : List Mail) (core : Core) (d : Desk) (wanted : PlainDesk)
     → Holds mails wanted d
@@ -19,15 +20,21 @@ pub stands_as : (mails : List Mail) (core : Core) (a b : CoreState) → a ≡ b
     → Stands mails a core → Stands mails b core
 stands_as mails core a b is s = record { is_of = s.is_of; same = s.same ∙ is }
 
+-- another desk over the same index
+pub over_desk : (mails : List Mail) (window : Window) (old new : Core)
+    → new ≡ record old { desk = new.desk } → IsOf mails new.desk.view → IsOver mails window old
+    → IsOver mails window new
+over_desk mails window old new same is_of over = record {
+  is_of = is_of;
+  reads = subst (Reads mails window) (sym same) over.reads;
+}
+
+-- the same view
+pub over_still : (mails : List Mail) (window : Window) (old new : Core)
+    → new ≡ record old { desk = new.desk } → new.desk.view ≡ old.desk.view
+    → IsOver mails window old → IsOver mails window new
+over_still mails window old new same view over = over_desk mails window old new same
+    (subst (IsOf mails) (sym view) over.is_of) over
+
 abbrev pub wanting : PlainWanted → CoreState → CoreState
 wanting w c = with_desk (record c.desk { wanted = w }) c
-
--- where nothing is wanted, or the end, all stays
-pub heeded_none : (g : Ground) (c : CoreState) → c.desk.wanted ≡ Unasked → granted c ≡ heeded g c
-heeded_none g c is = ap (λ (w : PlainWanted). wanting w c) (sym is)
-    ∙ sym (ap (λ (w : PlainWanted). heeded_by g w c) is)
-
-pub heeded_end : (g : Ground) (c : CoreState) → c.desk.wanted ≡ ToEnd
-    → wanting ToEnd c ≡ heeded g c
-heeded_end g c is = ap (λ (w : PlainWanted). wanting w c) (sym is)
-    ∙ sym (ap (λ (w : PlainWanted). heeded_by g w c) is)

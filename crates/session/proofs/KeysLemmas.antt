@@ -16,7 +16,7 @@ use Rattle.prompts.specs.Prompts.{PlainPrompt}
 use Rattle.session_index.specs.Desk.{PlainWanted}
 use Rattle.session.specs.Acting.{acted, prompted}
 use Rattle.session.specs.Core.{CoreState, Ground, shown_menu}
-use Rattle.session.specs.Keys.{TurnState, behind, behind_prompt, drop_all, keys_by, put_or}
+use Rattle.session.specs.Keys.{TurnState, behind, once_read, drop_all, keys_by, put_or}
 use Rattle.session.specs.Keys.{read_first, run_keys, stage_after, step, step_at, stopped}
 use Rattle.session.specs.Keys.{with_begun, with_put}
 use Rattle.session_state.specs.Frames.{PlainFrame}
@@ -182,14 +182,14 @@ module _ (g : Ground) where
   typed_by : (replaced : ℕ) (again : List Key → CoreState → TurnState) (key : Key)
       (keys : List Key) (o : Option PlainPrompt) (c : CoreState) → ¬ (o ≡ None)
       → step_at g replaced again key keys (keys_by g replaced again keys) o c
-      ≡ behind_prompt replaced keys (keys_by g replaced again keys) (prompted g key c)
+      ≡ once_read replaced keys (keys_by g replaced again keys) (prompted g key c)
   typed_by replaced again key keys None c some = absurd (some refl)
   typed_by replaced again key keys (Some prompt) c some = refl
 
   -- a prompt that stands takes the first key
   prompt_takes : (replaced : ℕ) (again : List Key → CoreState → TurnState) (key : Key)
       (keys : List Key) (c : CoreState) → c.rules.put ≡ [] → ¬ (c.desk.prompt ≡ None)
-      → behind_prompt replaced keys (keys_by g replaced again keys) (prompted g key c)
+      → once_read replaced keys (keys_by g replaced again keys) (prompted g key c)
       ≡ keys_by g replaced again (key ∷ keys) c
   prompt_takes replaced again key keys c empty some =
       sym (none_put g replaced again (key ∷ keys) (step_at g replaced again key keys

@@ -12,3 +12,6 @@ mod FittingLemmas
 mod OpeningLemmas
 mod LearningLemmas
 mod ReadingLemmas
+mod ActingLemmas
+mod PagingLemmas
+mod ShowingLemmas

@@ -1,45 +1,50 @@
--- How the keys go on behind files of commands, and what waits to act.
-use Rattle.std.proofs.Common.{◌≡◌, ◌∙◌, ℕ, ℤ, List, [], ◌∷◌, ap, refl, sym}
-use Rattle.folder_letters.specs.Letters.{Mail}
+-- How a run goes on behind files of commands, and what waits to act.
+use Rattle.std.proofs.Common.{◌≡◌, ℕ, ℤ, List, [], ◌∷◌, refl}
 use Rattle.keymap.specs.declared.key.Key.{Key}
+use Rattle.session_index.specs.Desk.{PlainDesk}
 use Rattle.session_state.specs.Frames.{PlainFrame}
 use Rattle.session_state.specs.Rules.{PlainRules}
-use Rattle.session.specs.Answers.{caught_up}
-use Rattle.session.specs.Core.{CoreState}
+use Rattle.session_state.specs.declared.stage.Stage.TheVariants.{Opening}
 use Rattle.session.specs.Given.{Given}
-use Rattle.session.specs.Runs.{State, acting, going_on, reading_on, with_core}
+use Rattle.session.specs.Runs.{State, acting, at_stage, begin_behind, beginning, going_on}
+use Rattle.session.specs.Runs.{with_core}
+use Rattle.session.specs.Showing.{resumed}
 
--- the index has learnt what the commands of a file told it
-module _ (given : Given) (mails : List Mail) (old : State) (c : CoreState)
-    (is : given.mails ≡ mails) (caught : c ≡ caught_up mails old.turn.core) where
-  reading_is : going_on given c.frames (with_core c old) ≡ reading_on given old
-  reading_is =
-      ap (λ (d : CoreState). going_on given d.frames (with_core d old))
-      (caught ∙ ap (λ (m : List Mail). caught_up m old.turn.core) (sym is))
+-- Behind files that keys have named.
 
-  -- no file is left, and the keys have gone on
-  pub reads_end : c.frames ≡ [] → (t : State) → t ≡ acting given (with_core c old)
-      → t ≡ reading_on given old
-  reads_end none t acts =
-      acts ∙ sym (ap (λ (frames : List PlainFrame). going_on given frames (with_core c old)) none)
-      ∙ reading_is
+-- a further one is to be read
+pub goes_later : (given : Given) (frames : List PlainFrame) (s : State) → (frames ≡ [] → ⊥)
+    → s ≡ going_on given frames s
+goes_later given [] s some = absurd (some refl)
+goes_later given (frame ∷ frames) s some = refl
 
-  stays : (frames : List PlainFrame) → (frames ≡ [] → ⊥)
-      → with_core c old ≡ going_on given frames (with_core c old)
-  stays [] some = absurd (some refl)
-  stays (frame ∷ frames) some = refl
+-- none is left
+pub goes_now : (given : Given) (frames : List PlainFrame) (s : State) → frames ≡ []
+    → acting given (with_core (resumed given.mails s.turn.core) s) ≡ going_on given frames s
+goes_now given [] s none = refl
+goes_now given (frame ∷ frames) s none = absurd (cc)
 
-  -- a further one is to be read
-  pub reads_more : (c.frames ≡ [] → ⊥) → with_core c old ≡ reading_on given old
-  reads_more some = stays c.frames some ∙ reading_is
+-- Behind those that hooks of a folder have named.
 
--- these keys wait, of which so many were replaced, by these rules
-abbrev pub with_keys : List Key → ℕ → PlainRules → State → State
-with_keys keys replaced rules s = record s {
+-- a further one is to be read
+pub begins_later : (given : Given) (frames : List PlainFrame) (s : State) → (frames ≡ [] → ⊥)
+    → at_stage Opening s ≡ begin_behind given frames s
+begins_later given [] s some = absurd (some refl)
+begins_later given (frame ∷ frames) s some = refl
+
+-- none is left
+pub begins_now : (given : Given) (frames : List PlainFrame) (s : State) → frames ≡ []
+    → beginning given s ≡ begin_behind given frames s
+begins_now given [] s none = refl
+begins_now given (frame ∷ frames) s none = absurd (cc)
+
+-- the cursor is set, and these keys wait, of which so many were replaced, by these rules
+abbrev pub with_begun : PlainDesk → List Key → ℕ → PlainRules → State → State
+with_begun desk keys replaced rules s = record s {
   turn = record s.turn {
     queue = keys;
     replaced = replaced;
-    core = record s.turn.core { rules = rules };
+    core = record s.turn.core { rules = rules; desk = desk };
   };
 }
 

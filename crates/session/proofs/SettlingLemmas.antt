@@ -9,16 +9,17 @@ use Rattle.keymap.specs.declared.key.Key.{Key}
 use Rattle.keymap.specs.declared.press.Press.{Press}
 use Rattle.keymap.specs.declared.press.Press.TheVariants as press
 use Rattle.prompts.specs.Prompts.{PlainPrompt}
-use Rattle.session_index.specs.Desk.{PlainWanted, ToAnswer, ToChoose, ToEnd, Unasked}
+use Rattle.session_index.specs.Desk.{PlainWanted, ToEnd}
 use Rattle.keymap.specs.Queue.{most_replacements}
 use Rattle.session_state.specs.Frames.{PlainFrame}
 use Rattle.session_state.specs.declared.stage.Stage.{Stage}
 use Rattle.session_state.specs.declared.stage.Stage.TheVariants.{Idle}
-use Rattle.session_state.specs.declared.stage.Stage.TheVariants.{Over, Reading}
+use Rattle.session_state.specs.declared.stage.Stage.TheVariants.{Opening, Over, Reading}
 use Rattle.session.specs.Acting.{acted, prompted}
 use Rattle.session.specs.Core.{CoreState, Ground, shown_menu}
 use Rattle.session.specs.Keys.{TurnState, drop_all, keys_by, put_or, run_keys, stage_after, step}
-use Rattle.session.specs.Keys.{read_first, run_on, step_at, stop_by, stopped, with_begun, with_put}
+use Rattle.session.specs.Keys.{once_read, read_first, run_on, step_at, stop_by, stopped, with_begun}
+use Rattle.session.specs.Keys.{with_put}
 use Rattle.session.specs.Steps.{IsFileless, IsNext, IsSettled, next_of}
 
 -- the turn has settled
@@ -29,6 +30,7 @@ HasSettled turn = IsSettled turn.stage turn.core.frames
 pub next_is : (stage : Stage) (frames : List PlainFrame) → IsSettled stage frames
     → IsFileless stage frames → IsNext (next_of stage) stage
 next_is Idle frames h none = refl
+next_is Opening frames h none = absurd (h none)
 next_is Reading frames h none = absurd (h none)
 next_is Over frames h none = refl
 next_is _ frames h none = absurd h
@@ -36,22 +38,27 @@ next_is _ frames h none = absurd h
 module _ (g : Ground) where
   module _ (replaced : ℕ) (keys : List Key) (rest : CoreState → TurnState)
       (goes : (c : CoreState) → HasSettled (rest c)) where
+    first_settles : (frames : List PlainFrame) (c : CoreState) → c.frames ≡ frames
+        → HasSettled (read_first frames replaced keys rest c)
+    first_settles [] c is = goes c
+    first_settles (frame ∷ frames) c is = λ none. absurd (cc)
+
+    read_settles : (c : CoreState) → HasSettled (once_read replaced keys rest c)
+    read_settles c = first_settles c.frames c refl
+
     stop_settles : (answer : Press) (wanted : PlainWanted) (c : CoreState)
-        → HasSettled (stop_by (stage_after answer wanted) replaced keys rest c)
+        → HasSettled (stop_by (stage_after answer wanted) replaced keys
+        (once_read replaced keys rest) c)
     stop_settles press.Wait wanted c = tt
     stop_settles press.Loop wanted c = tt
     stop_settles press.Unbound ToEnd c = tt
-    stop_settles press.Unbound Unasked c = goes c
-    stop_settles press.Unbound (ToAnswer asking text) c = goes c
-    stop_settles press.Unbound (ToChoose asking choice) c = goes c
+    stop_settles press.Unbound _ c = read_settles c
     stop_settles (press.Function function) ToEnd c = tt
-    stop_settles (press.Function function) Unasked c = goes c
-    stop_settles (press.Function function) (ToAnswer asking text) c = goes c
-    stop_settles (press.Function function) (ToChoose asking choice) c = goes c
+    stop_settles (press.Function function) _ c = read_settles c
 
     answer_settles : (answer : Press) (c : CoreState)
         → HasSettled (stop_by (stage_after answer (acted g answer c).desk.wanted) replaced keys
-        rest (acted g answer c))
+        (once_read replaced keys rest) (acted g answer c))
     answer_settles answer c =
         stop_settles answer (acted g answer c).desk.wanted (acted g answer c)
 
@@ -67,11 +74,6 @@ module _ (g : Ground) where
         loops (text ++ keys) (with_begun [] c)
     step_settles again loops begun None Begun c = goes (with_begun begun c)
     step_settles again loops begun None Unbound c = answer_settles press.Unbound (with_begun [] c)
-
-    first_settles : (frames : List PlainFrame) (c : CoreState) → c.frames ≡ frames
-        → HasSettled (read_first frames replaced keys rest c)
-    first_settles [] c is = goes c
-    first_settles (frame ∷ frames) c is = λ none. absurd (cc)
 
     at_settles : (again : List Key → CoreState → TurnState)
         → ((more : List Key) (c : CoreState) → HasSettled (again more c))

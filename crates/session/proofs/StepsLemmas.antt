@@ -7,7 +7,7 @@ use Rattle.keymap.specs.declared.key.Key.{Key}
 use Rattle.session_state.specs.Frames.{PlainFrame}
 use Rattle.session_state.specs.declared.stage.Stage.{Stage}
 use Rattle.session_state.specs.declared.stage.Stage.TheVariants.{Unopened, Idle, Ready}
-use Rattle.session_state.specs.declared.stage.Stage.TheVariants.{Over, Reading}
+use Rattle.session_state.specs.declared.stage.Stage.TheVariants.{Opening, Over, Reading}
 use Rattle.session_events.specs.Events.{AreFiles, Happening, FileRead, FileRefused, IsFile}
 use Rattle.session_events.specs.Events.{KeyPressed, plain_event}
 use Rattle.session_events.specs.Events.{plain_events}
@@ -15,13 +15,15 @@ use Rattle.session_events.specs.declared.event.Event.{Event}
 use Rattle.session_events.specs.declared.event.Marks.{Marks}
 use Rattle.patterns.specs.Causes.{Keeps}
 use Rattle.people.specs.Judged.{PlainJudged}
-use Rattle.session.specs.Answers.{caught_up}
 use Rattle.session.specs.Given.{Given, IsGiven, given_of}
 use Rattle.session.specs.Runs.{Answers, IsRunFrom, State, after, after_events, screens_from}
 use Rattle.session_events.specs.Wishes.{Source, answered, moment_of}
-use Rattle.session.specs.Runs.{arrived, going_on, ground, pushed, putting, read_at, read_in, shown}
+use Rattle.session.specs.Runs.{arrived, begin_behind, going_on, ground, learning, pushed, putting}
+use Rattle.session.specs.Runs.{read_at, read_in, shown}
 use Rattle.session.specs.Runs.{skipped, stage_screens, taken, taken_at, typed, waiting, wish}
 use Rattle.session.specs.Runs.{wish_at, with_core}
+use Rattle.session.specs.Opening.{begun_in}
+use Rattle.session.specs.Showing.{resumed}
 use Rattle.mail_base.specs.declared.kind.Kind.{Kind}
 use Rattle.disk_model.specs.Seen.{Seen}
 use Rattle.session.specs.Starting.{PlainSetup, first_state}
@@ -216,15 +218,23 @@ key_settles {mails} {kept} key moment old new event is arrives =
     (turn_settles (ground given (record s { moment = moment }))
     (waiting (s.turn.queue ++ key ∷ []) (record s { moment = moment })).turn)
 
--- so have keys that commands have put
+push_settles : (given : Given) (s : State) (frames : List PlainFrame) → s.turn.core.frames ≡ frames
+    → IsSettled (begin_behind given frames s).turn.stage
+    (begin_behind given frames s).turn.core.frames
+push_settles given s [] is =
+    let begun : State = putting (with_core (begun_in given.mails s.turn.core) s) in
+    turn_settles (ground given begun) begun.turn
+push_settles given s (frame ∷ frames) is = λ none.
+    absurd (let no : frame ∷ frames ≡ [] = sym is ∙ none in cc)
+
+-- so have keys that commands have put, or a file is to be read first
 pub pushed_settles : {mails : List Mail} {kept : List PlainJudged} (old new : State)
     → ((given : Given) → IsGiven mails kept given → new ≡ pushed given old)
     → IsSettled new.turn.stage new.turn.core.frames
 pushed_settles {mails} {kept} old new goes =
-    let given = given_of mails kept in
     subst (λ (t : State). IsSettled t.turn.stage t.turn.core.frames)
-    (sym (goes given (given_here mails kept)))
-    (turn_settles (ground given (putting old)) (putting old).turn)
+    (sym (goes (given_of mails kept) (given_here mails kept)))
+    (push_settles (given_of mails kept) old old.turn.core.frames refl)
 
 -- files that were read are told
 pub files_told : (Has : Kind → Type 0) (a b : List Happening) (now next : Seen)
@@ -291,11 +301,20 @@ going_keeps : (given : Given) (frames : List PlainFrame) (s : State)
 going_keeps given [] s = (refl, refl)
 going_keeps given (frame ∷ frames) s = (refl, refl)
 
+-- the keys that commands have put leave what was told, and the window
+pub begin_keeps : (given : Given) (frames : List PlainFrame) (s : State)
+    → ((begin_behind given frames s).notes ≡ s.notes)
+    × ((begin_behind given frames s).window ≡ s.window)
+begin_keeps given [] s = (refl, refl)
+begin_keeps given (frame ∷ frames) s = (refl, refl)
+
 -- what keys make of it leaves what was told, and the window
 read_keeps : (stage : Stage) (given : Given) (s : State)
     → ((read_at stage given s).notes ≡ s.notes) × ((read_at stage given s).window ≡ s.window)
-read_keeps Reading given s = going_keeps given (caught_up given.mails s.turn.core).frames
-    (with_core (caught_up given.mails s.turn.core) s)
+read_keeps Opening given s =
+    begin_keeps given (learning given s).turn.core.frames (learning given s)
+read_keeps Reading given s =
+    going_keeps given (learning given s).turn.core.frames (learning given s)
 read_keeps _ given s = (refl, refl)
 
 file_notes : (given : Given) (s : State) (event : Happening) (marks : Marks)
@@ -311,8 +330,8 @@ file_notes given s _ marks cause = absurd cause
 
 unopened_read : (mails : List Mail) (stage : Stage) (given : Given) (s : State) → stage ≡ Unopened
     → (read_at stage given s ≡ s) × (read_at stage (given_of mails given.verdicts) s ≡ s)
-unopened_read mails Reading given s is = absurd (cc)
-unopened_read mails _ given s is = (refl, refl)
+unopened_read mails Unopened given s is = (refl, refl)
+unopened_read mails _ given s is = absurd (cc)
 
 module _ (mails : List Mail) (given : Given) (s : State) (unopened : s.turn.stage ≡ Unopened) where
   file_same : (event : Happening) (marks : Marks) → HasFileCause event marks
@@ -360,7 +379,8 @@ files_unopened given s (event ∷ files) are unopened =
 going_settles : (given : Given) (frames : List PlainFrame) (s : State) → s.turn.stage ≡ Reading
     → s.turn.core.frames ≡ frames
     → IsSettled (going_on given frames s).turn.stage (going_on given frames s).turn.core.frames
-going_settles given [] s is read = turn_settles (ground given s) s.turn
+going_settles given [] s is read =
+    turn_settles (ground given s) (with_core (resumed given.mails s.turn.core) s).turn
 going_settles given (frame ∷ frames) s is read =
     subst (λ (stage : Stage). IsSettled stage s.turn.core.frames) (sym is)
     (λ none. absurd (let no : frame ∷ frames ≡ [] = sym read ∙ none in cc))
@@ -369,12 +389,13 @@ read_settles : (stage : Stage) (given : Given) (old s : State) → old.turn.stag
     → s.turn.stage ≡ stage → IsSettled old.turn.stage old.turn.core.frames
     → IsSettled (read_at stage given s).turn.stage (read_at stage given s).turn.core.frames
 read_settles Idle given old s was is h =
-    subst (λ (stage : Stage). IsSettled stage s.turn.core.frames) (sym is) tt
-read_settles Reading given old s was is h = going_settles given
-    (caught_up given.mails s.turn.core).frames (with_core (caught_up given.mails s.turn.core) s)
-    is refl
+    subst (λ (stage : Stage). IsSettled stage (learning given s).turn.core.frames) (sym is) tt
+read_settles Opening given old s was is h =
+    push_settles given (learning given s) (learning given s).turn.core.frames refl
+read_settles Reading given old s was is h =
+    going_settles given (learning given s).turn.core.frames (learning given s) is refl
 read_settles Over given old s was is h =
-    subst (λ (stage : Stage). IsSettled stage s.turn.core.frames) (sym is) tt
+    subst (λ (stage : Stage). IsSettled stage (learning given s).turn.core.frames) (sym is) tt
 read_settles _ given old s was is h = absurd
     (subst (λ (stage : Stage). IsSettled stage old.turn.core.frames) was h)
 

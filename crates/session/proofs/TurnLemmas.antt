@@ -1,27 +1,30 @@
 -- How the loop over keys that wait goes on behind one press.
 use Rattle.std.proofs.Common.{◌≡◌, ◌+◌, ◌-◌, ◌*◌, ◌^◌, ◌<◌, ◌≤◌, ℕ, zero, suc, List, [], ◌∷◌, ◌++◌}
-use Rattle.std.proofs.Common.{Bool, Option, Some, None, is_some, true, false, length, nat_lt}
+use Rattle.std.proofs.Common.{Bool, Option, Some, None, true, false, length, nat_lt}
 use Rattle.std.proofs.Common.{refl, sym, ◌∙◌, ap, subst, arith, inl, inr}
 use Rattle.std.proofs.lemmas.Bool.Decides.{nat_tests}
+use Rattle.std.proofs.lemmas.Option.{none-some}
 use Rattle.keymap.specs.Press.{Pressed, pressed_queue}
 use Rattle.keymap.specs.Queue.{PlainQueue}
 use Rattle.keymap.specs.declared.key.Key.{Key}
 use Rattle.keymap.specs.declared.menu.Menu.{Menu}
 use Rattle.keymap.specs.declared.press.Press.{Press}
-use Rattle.keymap.specs.declared.press.Press.TheVariants as press
 use Rattle.session_index.specs.Desk.{PlainWanted}
 use Rattle.session_state.specs.Commands.{IsPressed}
 use Rattle.session_state.specs.Rules.{PlainRules}
 use Rattle.session.specs.Acting.{acted, prompted}
 use Rattle.session.specs.Answers.{granted}
-use Rattle.session.specs.Core.{CoreState, Ground, shown_menu}
-use Rattle.session.specs.Keys.{Steps, behind, run_keys, settled, stage_after, stop_by, stopped}
-use Rattle.session.specs.Keys.{turn_of, with_begun, with_put}
+use Rattle.session_index.specs.declared.notice.Notice.TheVariants.{MacroLoop}
+use Rattle.session.specs.Core.{CoreState, Ground, said, shown_menu}
+use Rattle.session.specs.Keys.{Steps, Stops, TurnState, behind, once_read, read_first, run_keys}
+use Rattle.session.specs.Keys.{settled, stage_after, stop_by, stopped, turn_of, with_begun}
+use Rattle.session.specs.Keys.{with_put}
+use Rattle.session_state.specs.Frames.{PlainFrame}
 use Rattle.session_state.specs.declared.stage.Stage.{Stage}
 use Rattle.session_state.specs.declared.stage.Stage.TheVariants.{Idle, Reading}
 use Rattle.session.proofs.KeysLemmas.{IsLess, by_pressed, less_is, none_left, press_is}
 use Rattle.session.proofs.KeysLemmas.{put_drops, put_is, type_is, wait_is}
-use Rattle.std.specs.Prelude.{MatchOption}
+use Rattle.std.specs.Prelude.{MatchOption, unwrap_or}
 
 abbrev answered : Press → PlainRules → PlainQueue → Pressed
 answered press rules queue =
@@ -42,9 +45,12 @@ module _ (g : Ground) (core next : CoreState) (rules : PlainRules) (queue queue'
   core_is =
       ap (λ (r : PlainRules). let c : CoreState = record core { rules = r } in c) (sym is.same)
 
+  abbrev rest : CoreState → TurnState
+  rest = run_keys g (1024 - queue'.replaced) queue'.replaced queue'.items
+
   settled_is : settled g core queue
       ≡ stop_by (stage_after press next.desk.wanted) queue'.replaced queue'.items
-      (run_keys g (1024 - queue'.replaced) queue'.replaced queue'.items) next
+      (once_read queue'.replaced queue'.items rest) next
   settled_is =
       let most : 1024 - queue.replaced + queue.replaced ≡ 1024 = omega arith in
       press_is g (1024 - queue.replaced) queue.replaced queue.items core empty none
@@ -53,39 +59,67 @@ module _ (g : Ground) (core next : CoreState) (rules : PlainRules) (queue queue'
       ∙ ap (λ (m : Menu). by_pressed g 1024 (pressed_queue core.rules.keymap m queue) core)
       (sym shows)
       ∙ ap (λ (p : Pressed). by_pressed g 1024 p core) (sym is.outcome)
-      ∙ ap (λ (c : CoreState). behind g press queue'.replaced queue'.items
-      (run_keys g (1024 - queue'.replaced) queue'.replaced queue'.items) c) core_is
+      ∙ ap (λ (c : CoreState). behind g press queue'.replaced queue'.items rest c) core_is
       ∙ ap (λ (c : CoreState). stop_by (stage_after press c.desk.wanted) queue'.replaced
-      queue'.items
-      (run_keys g (1024 - queue'.replaced) queue'.replaced queue'.items) c) (sym acts)
+      queue'.items (once_read queue'.replaced queue'.items rest) c) (sym acts)
+
+  abbrev stopped_by : Option Stage → TurnState
+  stopped_by o = stop_by o queue'.replaced queue'.items
+      (once_read queue'.replaced queue'.items rest) next
+
+  -- no file is to be read
+  reads_none : (frames : List PlainFrame) → frames ≡ []
+      → rest next ≡ read_first frames queue'.replaced queue'.items rest next
+  reads_none [] none = refl
+  reads_none (frame ∷ frames) none = absurd (cc)
+
+  -- a file is to be read
+  reads_some : (frames : List PlainFrame) → ¬ (frames ≡ [])
+      → stopped Reading queue'.replaced queue'.items next
+      ≡ read_first frames queue'.replaced queue'.items rest next
+  reads_some [] some = absurd (some refl)
+  reads_some (frame ∷ frames) some = refl
+
+  -- the keys go on, or wait for a file
+  goes_on : (o : Option Stage) (last : CoreState)
+      → MatchOption o ((last ≡ next) × (next.frames ≡ []))
+      (λ stage. (stage ≡ Reading) × (¬ (next.frames ≡ [])) × (last ≡ granted next))
+      → stage_after press next.desk.wanted ≡ None → Steps o g core last queue queue'
+  goes_on None last h at =
+      ap (λ (c : CoreState). settled g c queue') h.0 ∙ reads_none next.frames h.1
+      ∙ sym (settled_is ∙ ap stopped_by at)
+  goes_on (Some stage) last h at =
+      ap (λ (t : Stage). turn_of t last queue') h.0
+      ∙ ap (λ (c : CoreState). turn_of Reading c queue') h.2 ∙ reads_some next.frames h.1
+      ∙ sym (settled_is ∙ ap stopped_by at)
 
   -- the keys stop
-  stops_at : (stage : Stage) (last : CoreState) → stage_after press next.desk.wanted ≡ Some stage
-      → last
-      ≡ granted next
-      → turn_of stage last queue' ≡ settled g core queue
-  stops_at stage last stops grants =
-      ap (λ (c : CoreState). turn_of stage c queue') grants
-      ∙ sym (settled_is ∙ ap (λ (o : Option Stage). stop_by o queue'.replaced queue'.items
-      (run_keys g (1024 - queue'.replaced) queue'.replaced queue'.items) next) stops)
-
-  -- the keys go on
-  goes_on : stage_after press next.desk.wanted ≡ None → settled g next queue'
-      ≡ settled g core queue
-  goes_on goes =
-      sym (settled_is ∙ ap (λ (o : Option Stage). stop_by o queue'.replaced queue'.items
-      (run_keys g (1024 - queue'.replaced) queue'.replaced queue'.items) next) goes)
-
-  pub steps_stop : (o : Option Stage) (last : CoreState) → is_some o ≡ true
-      → o ≡ stage_after press next.desk.wanted → last ≡ granted next
+  stops_at : (stage : Stage) (o : Option Stage) (last : CoreState) → o ≡ Some stage
+      → last ≡ granted next → stage_after press next.desk.wanted ≡ Some stage
       → Steps o g core last queue queue'
-  steps_stop (Some stage) last some at grants = stops_at stage last (sym at) grants
-  steps_stop None last some at grants = absurd (cc)
+  stops_at stage None last is grants at = absurd (cc)
+  stops_at stage (Some other) last is grants at =
+      let same : other ≡ stage = ap (λ (o : Option Stage). unwrap_or o other) is in
+      ap (λ (t : Stage). turn_of t last queue') same
+      ∙ ap (λ (c : CoreState). turn_of stage c queue') grants
+      ∙ sym (settled_is ∙ ap stopped_by at)
 
-  pub steps_on : (o : Option Stage) → is_some o ≡ false
-      → o ≡ stage_after press next.desk.wanted → Steps o g core next queue queue'
-  steps_on (Some stage) none at = absurd (cc)
-  steps_on None none at = goes_on (sym at)
+  steps_at : (at o : Option Stage) (last : CoreState) → stage_after press next.desk.wanted ≡ at
+      → Stops at o next last → Steps o g core last queue queue'
+  steps_at None o last is h = goes_on o last h is
+  steps_at (Some stage) o last is h = stops_at stage o last h.0 h.1 is
+
+  -- the keys stop behind the answer, or go on
+  pub steps_behind : (o : Option Stage) (last : CoreState)
+      → Stops (stage_after press next.desk.wanted) o next last → Steps o g core last queue queue'
+  steps_behind o last h = steps_at (stage_after press next.desk.wanted) o last refl h
+
+-- keys that go on were not stopped
+pub none_stopped : (at o : Option Stage) (next last : CoreState) → Stops at o next last → o ≡ None
+    → at ≡ None
+none_stopped None o next last h none = refl
+none_stopped (Some stage) o next last h none =
+    absurd (none-some stage (sym none ∙ h.0))
 
 -- the prompt that stands took the first key
 module _ (g : Ground) (core next : CoreState) (queue queue' : PlainQueue) (key : Key)
@@ -152,35 +186,26 @@ few_left true n is full few =
     omega (arith, few, some)
 few_left false n is full few = absurd (cc)
 
-same_queue : (g : Ground) (core : CoreState) (queue queue' : PlainQueue)
+pub same_queue : (g : Ground) (core : CoreState) (queue queue' : PlainQueue)
     → queue'.items ≡ queue.items → queue'.replaced ≡ queue.replaced
     → settled g core queue' ≡ settled g core queue
 same_queue g core queue queue' items replaced =
     ap (λ (n : ℕ). run_keys g (1024 - n) n queue'.items core) replaced
     ∙ ap (λ (keys : List Key). run_keys g (1024 - queue.replaced) queue.replaced keys core) items
 
--- the same keys wait, whatever the room
-pub steps_same : (o : Option Stage) (g : Ground) (core last : CoreState)
-    (queue queue' next : PlainQueue)
-    → queue'.items ≡ queue.items → queue'.replaced ≡ queue.replaced
-    → Steps o g core last queue' next → Steps o g core last queue next
-steps_same None g core last queue queue' next items replaced h =
-    h ∙ same_queue g core queue queue' items replaced
-steps_same (Some stage) g core last queue queue' next items replaced h =
-    h ∙ same_queue g core queue queue' items replaced
-
 -- they are one replacement too many
 pub put_off : (g : Ground) (core last : CoreState) (queue queue' : PlainQueue)
     → queue.replaced ≡ 1024 → ¬ (core.rules.put ≡ [])
-    → last ≡ granted (acted g press.Loop (with_put [] core)) → queue'.items ≡ []
+    → last ≡ granted (said MacroLoop (with_put [] core)) → queue'.items ≡ []
     → queue'.replaced ≡ queue.replaced → turn_of Idle last queue' ≡ settled g core queue
+unfolding acted
 put_off g core last queue queue' full some is items replaced =
     let put = some_put core.rules.put some in
     let none : 1024 - queue.replaced ≡ zero = omega (arith, full) in
     ap (λ (c : CoreState). turn_of Idle c queue') is
     ∙ ap (λ (keys : List Key). stopped Idle queue'.replaced keys
-    (acted g press.Loop (with_put [] core))) items
-    ∙ ap (λ (n : ℕ). stopped Idle n [] (acted g press.Loop (with_put [] core))) replaced
+    (said MacroLoop (with_put [] core))) items
+    ∙ ap (λ (n : ℕ). stopped Idle n [] (said MacroLoop (with_put [] core))) replaced
     ∙ sym (put_drops g queue.replaced put.0 put.1 queue.items core put.2)
     ∙ sym (ap (λ (n : ℕ). run_keys g n queue.replaced queue.items core) none)
 

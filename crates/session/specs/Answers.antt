@@ -1,9 +1,10 @@
 -- What answers to prompts do (Mutt's manual, "Functions").
-use Rattle.std.specs.Prelude.{◌==◌, ◌||◌, ◌++◌, ℕ, Bool, true, false, List, [], ◌∷◌, Option, None}
-use Rattle.std.specs.Prelude.{Some, codes, length, if◌then◌else◌}
-use Rattle.std.specs.Str.{bytes_eq}
+use Rattle.std.specs.Prelude.{◌++◌, ℕ, Bool, true, false, List, [], ◌∷◌, Option, None, Some, codes}
+use Rattle.std.specs.Prelude.{if◌then◌else◌}
 use Rattle.folder_letters.specs.Letters.{Mail}
 use Rattle.index_items.specs.Kept.{kept}
+use Rattle.keymap.specs.declared.menu.Menu.{Menu}
+use Rattle.keymap.specs.declared.menu.Menu.TheVariants.{Pager}
 use Rattle.patterns_match.specs.Pattern.{PlainPattern}
 use Rattle.patterns_match.specs.Scores.{PlainEntry}
 use Rattle.people.specs.People.{with_alias, with_expr}
@@ -11,12 +12,13 @@ use Rattle.prompts.specs.declared.asking.Asking.{Asking}
 use Rattle.prompts.specs.declared.asking.Asking.TheVariants as asking
 use Rattle.rc_lang.specs.Settings.{outcome}
 use Rattle.rc_lang.specs.Values.{PlainValue}
-use Rattle.session_index.specs.Answering.{answered, chosen, limited}
-use Rattle.session_index.specs.Desk.{PlainWanted, ToAnswer, ToChoose, ToEnd, Unasked}
+use Rattle.session_index.specs.Answering.{answered, chosen, is_no_limit, limited}
+use Rattle.session_index.specs.Desk.{PlainWanted, ToAnswer, ToChoose, Unasked}
 use Rattle.session_index.specs.Effects.{with_index}
 use Rattle.session_index.specs.Index.{PlainIndex, given as given_index}
 use Rattle.session_index.specs.Opening.{tuned as tuned_desk}
-use Rattle.session.specs.Core.{CoreState, Ground, instant_of, with_desk}
+use Rattle.session.specs.Core.{CoreState, Ground, instant_of, refused, shown_menu, with_desk}
+use Rattle.session.specs.Reading.{expression_read, refreshed}
 use Rattle.session.specs.Rules.{rule_of}
 use Rattle.session_state.specs.Days.{reading_of}
 use Rattle.session_state.specs.Frames.{Script, typed_script}
@@ -28,14 +30,6 @@ use Rattle.session_screen.specs.declared.window.Window.{Window}
 
 -- Patterns.
 
--- a text takes the limit away
-abbrev pub is_no_limit : List ℕ → Bool
-is_no_limit text = (length text == 0) || bytes_eq text (codes "all")
-
--- the last line tells that a text is no pattern
-abbrev pub bad_pattern : List ℕ → CoreState → CoreState
-bad_pattern text c = with_desk (record c.desk { message = codes "bad pattern: " ++ text }) c
-
 -- the text of a limit is kept for the status line
 abbrev pub limit_kept : Asking → List ℕ → CoreState → CoreState
 limit_kept asking.Limit text c = record c { limit = Some text }
@@ -44,7 +38,7 @@ limit_kept _ text c = c
 -- a text that is this pattern, or none, is answered
 abbrev pub pattern_answered : List Mail → Asking → List ℕ → Option PlainPattern → CoreState
     → CoreState
-pattern_answered mails asking text None c = bad_pattern text c
+pattern_answered mails asking text None c = refused (codes "bad pattern: ") text c
 pattern_answered mails asking text (Some pattern) c =
     limit_kept asking text (with_desk (answered mails asking pattern c.desk) c)
 
@@ -115,11 +109,23 @@ commanded g text c = caught_up g.given.mails (ran_to (typed_script (instant_of g
 
 -- Texts.
 
+-- what a text does that is answered in the index
+abbrev pub text_done : Ground → Asking → List ℕ → CoreState → CoreState
+text_done g asking.Limit text c = limit_answered g text c
+text_done g asking.Command text c = commanded g text c
+text_done g asking text c = text_read g asking text c
+
+-- a text is answered in a menu: in the pager that searches it, and behind all else what is shown is
+-- made anew
+abbrev pub answered_in : Ground → Menu → Asking → List ℕ → CoreState → CoreState
+answered_in g Pager asking.Search text c =
+    expression_read g.given.verdicts g.given.mails g.window text c
+answered_in g menu asking text c =
+    refreshed g.given.mails g.window (text_done g asking text c)
+
 -- a text is answered to a prompt
 abbrev pub text_answered : Ground → Asking → List ℕ → CoreState → CoreState
-text_answered g asking.Limit text c = limit_answered g text c
-text_answered g asking.Command text c = commanded g text c
-text_answered g asking text c = text_read g asking text c
+text_answered g asking text c = answered_in g (shown_menu c) asking text c
 
 -- Orders.
 
@@ -147,11 +153,11 @@ granted c = with_desk (record c.desk { wanted = Unasked }) c
 
 -- what is wanted is taken up
 abbrev pub heeded_by : Ground → PlainWanted → CoreState → CoreState
-heeded_by g Unasked c = c
-heeded_by g ToEnd c = c
 heeded_by g (ToAnswer asking text) c = text_answered g asking text (granted c)
-heeded_by g (ToChoose asking key) c = choice_made g.given.mails g.window asking key (granted c)
+heeded_by g (ToChoose asking key) c = refreshed g.given.mails g.window
+    (choice_made g.given.mails g.window asking key (granted c))
+heeded_by g _ c = c
 
--- an answer to a prompt is taken up; only an end is still wanted then
+-- an answer to a prompt is taken up
 abbrev pub heeded : Ground → CoreState → CoreState
 heeded g c = heeded_by g c.desk.wanted c

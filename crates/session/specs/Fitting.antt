@@ -1,14 +1,17 @@
 -- What holds of a session between its events.
 use Rattle.std.specs.Prelude.{◌≡◌, ◌≤◌, List}
 use Rattle.folder_letters.specs.Letters.{Mail}
-use Rattle.index_view.specs.View.{IsOf, PlainView}
+use Rattle.index_view.specs.View.{IsOf}
 use Rattle.session_events.specs.Events.{Happening, KeyPressed, FolderOpened}
 use Rattle.session_events.specs.Events.{FolderRefused}
 use Rattle.keymap.specs.Queue.{most_replacements}
 use Rattle.session_events.specs.Happened.{IsFresh}
-use Rattle.session.specs.Core.{IsEmpty}
+use Rattle.session_pager.specs.Reader.{PlainReader, Index}
+use Rattle.session_pager.specs.Reads.{plain_reader}
+use Rattle.session.specs.Core.{IsEmpty, IsOver, Reads}
 use Rattle.session_screen.specs.Window.{IsWindow}
 use Rattle.session_state.specs.Instants.{IsMoment}
+use Rattle.session_state.specs.declared.stage.Stage.{Stage}
 use Rattle.session_state.specs.declared.stage.Stage.TheVariants.{Unopened}
 use Rattle.session.specs.declared.session_type.Session.{Session}
 
@@ -19,23 +22,48 @@ pub record CanRead (session : Session) : Type 0 where
   pub moment : IsMoment session.moment.0
   pub few : session.queue.replaced ≤ most_replacements
 
--- the same, and the index is of these letters
-pub record Fits (mails : List Mail) (session : Session) : Type 0 where
+-- before a folder is open the index is shown
+abbrev pub IsClosedAt : Stage → PlainReader → Type 0
+IsClosedAt Unopened reader = reader.showing ≡ Index
+IsClosedAt _ reader = Unit {0}
+
+-- what is kept of the message that is shown is of these letters
+abbrev pub ReadsAt : Stage → List Mail → Session → Type 0
+ReadsAt Unopened mails session = (plain_reader session.core.reader).showing ≡ Index
+ReadsAt _ mails session = Reads mails session.window session.core
+
+-- the index is of these letters, and can learn what commands tell it
+pub record CanLearn (mails : List Mail) (session : Session) : Type 0 where
   pub is_of : IsOf mails session.core.desk.view
+  pub closed : IsClosedAt session.stage (plain_reader session.core.reader)
   pub can : CanRead session
 
--- what an event needs of an index, over the letters that were met up to it: the first opening an
--- empty one, and others one of these letters
-abbrev pub CanTake : List Mail → PlainView → Happening → Type 0
-CanTake mails view (KeyPressed key moment) = IsOf mails view × IsMoment moment
-CanTake mails view (FolderOpened path kind moment came marks) =
-    IsEmpty view × IsFresh mails came × IsMoment moment
-CanTake mails view (FolderRefused path why marks) = Unit {0}
-CanTake mails view _ = IsOf mails view
+-- index and message are of these letters, and keys can act
+pub record CanAct (mails : List Mail) (session : Session) : Type 0 where
+  pub over : IsOver mails session.window session.core
+  pub can : CanRead session
 
--- commands were run, or the message line was emptied: the rest of the session is as before
+-- the same of a session at any stage
+pub record Fits (mails : List Mail) (session : Session) : Type 0 where
+  pub is_of : IsOf mails session.core.desk.view
+  pub reads : ReadsAt session.stage mails session
+  pub can : CanRead session
+
+-- what an event needs of a session, over the letters that were met up to it: the first opening an
+-- empty index, a key all that is shown, and others an index that can learn
+abbrev pub CanTake : List Mail → Session → Happening → Type 0
+CanTake mails session (KeyPressed key moment) =
+    IsOver mails session.window session.core × IsMoment moment
+CanTake mails session (FolderOpened path kind moment came marks) =
+    IsEmpty session.core.desk.view × IsFresh mails came × IsMoment moment
+CanTake mails session (FolderRefused path why marks) = Unit {0}
+CanTake mails session _ = CanLearn mails session
+
+-- commands were run: the rest of the session is as before
 pub record IsReadIn (old new : Session) : Type 0 where
   pub view : new.core.desk.view ≡ old.core.desk.view
+  pub reader : new.core.reader ≡ old.core.reader
+  pub stage : new.stage ≡ old.stage
   pub window : new.window ≡ old.window
   pub moment : new.moment ≡ old.moment
   pub replaced : new.queue.replaced ≡ old.queue.replaced

@@ -1,7 +1,7 @@
 -- Keys that wait act one after the other; a macro's text stands in place of its keys, and what
 -- commands put stands before those that wait.
 use Rattle.std.specs.Prelude.{◌≡◌, ◌+◌, ◌-◌, ◌*◌, ◌^◌, ℕ, zero, suc, List, [], ◌∷◌, ◌++◌, Option}
-use Rattle.std.specs.Prelude.{Some, None, length}
+use Rattle.std.specs.Prelude.{◌≢◌, Some, None, length, MatchOption}
 use Rattle.keymap.specs.Bindings.{Begun, Bound, Found, Replace, Run, Unbound}
 use Rattle.keymap.specs.Keymap.{found_in}
 use Rattle.keymap.specs.Press.{called}
@@ -11,7 +11,7 @@ use Rattle.keymap.specs.declared.key.Key.{Key}
 use Rattle.keymap.specs.declared.press.Press.{Press}
 use Rattle.keymap.specs.declared.press.Press.TheVariants as press
 use Rattle.prompts.specs.Prompts.{PlainPrompt}
-use Rattle.session_index.specs.Desk.{PlainWanted, ToAnswer, ToChoose, ToEnd, Unasked}
+use Rattle.session_index.specs.Desk.{PlainWanted, ToEnd}
 use Rattle.session.specs.Acting.{acted, prompted}
 use Rattle.session.specs.Answers.{granted}
 use Rattle.session.specs.Core.{CoreState, Ground, shown_menu}
@@ -40,9 +40,7 @@ stopped stage replaced keys c =
 -- where keys stop behind an answer: none waits any more, or something is wanted
 abbrev pub stage_wanted : PlainWanted → Option Stage
 stage_wanted ToEnd = Some Over
-stage_wanted Unasked = None
-stage_wanted (ToAnswer asking text) = None
-stage_wanted (ToChoose asking choice) = None
+stage_wanted _ = None
 
 -- the stage to which an answer of keys leads, if they do not go on
 abbrev pub stage_after : Press → PlainWanted → Option Stage
@@ -56,11 +54,21 @@ abbrev pub stop_by : Option Stage → ℕ → List Key → (CoreState → TurnSt
 stop_by None replaced keys rest c = rest c
 stop_by (Some stage) replaced keys rest c = stopped stage replaced keys c
 
+-- the keys wait while files are read that commands have named
+abbrev pub read_first : List PlainFrame → ℕ → List Key → (CoreState → TurnState) → CoreState
+    → TurnState
+read_first [] replaced keys rest c = rest c
+read_first (frame ∷ frames) replaced keys rest c = stopped Reading replaced keys c
+
+-- the keys behind what was done: a file that commands have named is read first
+abbrev pub once_read : ℕ → List Key → (CoreState → TurnState) → CoreState → TurnState
+once_read replaced keys rest c = read_first c.frames replaced keys rest c
+
 -- an answer is acted on, and then these keys act, unless it stops them
 abbrev pub behind : Ground → Press → ℕ → List Key → (CoreState → TurnState) → CoreState → TurnState
 behind g answer replaced keys rest c =
-    stop_by (stage_after answer (acted g answer c).desk.wanted) replaced keys rest
-    (acted g answer c)
+    stop_by (stage_after answer (acted g answer c).desk.wanted) replaced keys
+    (once_read replaced keys rest) (acted g answer c)
 
 -- the first key where no prompt stands: it calls a function, ends a bound sequence, goes on with
 -- one, or is bound to nothing
@@ -76,21 +84,11 @@ step g replaced again keys rest begun None Begun c = rest (with_begun begun c)
 step g replaced again keys rest begun None Unbound c =
     behind g press.Unbound replaced keys rest (with_begun [] c)
 
--- the keys wait while files are read that commands have named
-abbrev pub read_first : List PlainFrame → ℕ → List Key → (CoreState → TurnState) → CoreState
-    → TurnState
-read_first [] replaced keys rest c = rest c
-read_first (frame ∷ frames) replaced keys rest c = stopped Reading replaced keys c
-
--- the keys behind an answer to a prompt: a file that it named is read first
-abbrev pub behind_prompt : ℕ → List Key → (CoreState → TurnState) → CoreState → TurnState
-behind_prompt replaced keys rest c = read_first c.frames replaced keys rest c
-
 -- the first key: a prompt that stands takes it
 abbrev pub step_at : Ground → ℕ → (List Key → CoreState → TurnState) → Key → List Key
     → (CoreState → TurnState) → Option PlainPrompt → CoreState → TurnState
 step_at g replaced again key keys rest (Some prompt) c =
-    behind_prompt replaced keys rest (prompted g key c)
+    once_read replaced keys rest (prompted g key c)
 step_at g replaced again key keys rest None c =
     step g replaced again keys rest (c.rules.keymap.begun ++ key ∷ []) (called key)
     (found_in c.rules.keymap (shown_menu c) (c.rules.keymap.begun ++ key ∷ [])) c
@@ -143,6 +141,12 @@ turn_of stage c queue =
 abbrev pub Steps : Option Stage → Ground → CoreState → CoreState → PlainQueue → PlainQueue → Type 0
 Steps None g old new queue queue' = settled g new queue' ≡ settled g old queue
 Steps (Some stage) g old new queue queue' = turn_of stage new queue' ≡ settled g old queue
+
+-- the keys stop at a stage, wait for a file, or go on
+abbrev pub Stops : Option Stage → Option Stage → CoreState → CoreState → Type 0
+Stops (Some stage) stopped old new = (stopped ≡ Some stage) × (new ≡ granted old)
+Stops None stopped old new = MatchOption stopped ((new ≡ old) × (old.frames ≡ []))
+    (λ stage. (stage ≡ Reading) × (old.frames ≢ []) × (new ≡ granted old))
 
 -- what is left to be done with a queue
 abbrev pub fuel : PlainQueue → ℕ

@@ -1,7 +1,9 @@
 pub mod Given
 pub mod Core
 pub mod Rules
+pub mod Reading
 pub mod Answers
+pub mod Showing
 pub mod Acting
 pub mod Keys
 pub mod Opening

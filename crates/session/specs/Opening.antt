@@ -7,6 +7,7 @@ use Rattle.mail_base.specs.Series.{Held}
 use Rattle.session_index.specs.Opening.{begun, taken_in}
 use Rattle.session.specs.Answers.{learnt, tuned}
 use Rattle.session.specs.Core.{CoreState, with_desk}
+use Rattle.session.specs.Reading.{left}
 
 -- a list without room
 abbrev pub held : {X : Type 0} → List X → Held X
@@ -16,7 +17,8 @@ held items = record { items = items; room = 0 }
 abbrev pub first_found : List Listed → Found
 first_found came = record { gone = held []; reflagged = held []; came = held came }
 
--- the cursor stands where a reader begins
+-- the cursor stands where a reader begins: on the first new message, else on the first unread one,
+-- else on the last
 abbrev pub begun_in : List Mail → CoreState → CoreState
 begun_in mails c = with_desk (begun mails c.desk) c
 
@@ -24,8 +26,7 @@ begun_in mails c = with_desk (begun mails c.desk) c
 abbrev pub found_in : List Mail → List Listed → CoreState → CoreState
 found_in mails came c = with_desk (taken_in mails (first_found came) c.desk) c
 
--- a folder with these messages is open: the index has learnt what commands told it and stands by
--- the variables, and the cursor on the first new message, else on the first unread one, else on the
--- last
+-- a folder with these messages is open: the index, which is shown, has learnt what commands told it
+-- and stands by the variables
 unfoldable pub opened : List Mail → List Listed → CoreState → CoreState
-opened mails came c = begun_in mails (found_in mails came (tuned mails (learnt mails c)))
+opened mails came c = left (found_in mails came (tuned mails (learnt mails c)))

@@ -5,6 +5,7 @@ use Rattle.mail_base.specs.declared.kind.Kind.{Kind}
 use Rattle.disk_model.specs.declared.answers.DiskError.{DiskError}
 use Rattle.folder_letters.specs.Letters.{Mail}
 use Rattle.folder_letters.specs.declared.listing.Listed.{Listed}
+use Rattle.hooks.specs.Hooks.{commands_for}
 use Rattle.keymap.specs.declared.key.Key.{Key}
 use Rattle.people.specs.Judged.{PlainJudged}
 use Rattle.session_events.specs.Events.{Happening, FileRead, FileRefused, KeyPressed, FolderOpened}
@@ -12,9 +13,9 @@ use Rattle.session_events.specs.Events.{FolderRefused}
 use Rattle.session_events.specs.Wishes.{Nothing, Open, Press, Source, Wish, answered, moment_of}
 use Rattle.session_state.specs.declared.stage.Stage.{Stage}
 use Rattle.session_state.specs.declared.stage.Stage.TheVariants.{Unopened, Pushing, Idle, Ready}
-use Rattle.session_state.specs.declared.stage.Stage.TheVariants.{Over, Reading}
+use Rattle.session_state.specs.declared.stage.Stage.TheVariants.{Opening, Over, Reading}
 use Rattle.session_screen.specs.declared.window.Window.{Window}
-use Rattle.session_state.specs.Frames.{PlainFrame, Script, read_script, skip_script}
+use Rattle.session_state.specs.Frames.{PlainFrame, Script, hooked_script, read_script, skip_script}
 use Rattle.session_screen.specs.Places.{folder_path}
 use Rattle.session_state.specs.Rules.{put_all, without_puts}
 use Rattle.session_state.specs.Told.{nothing_told}
@@ -22,8 +23,10 @@ use Rattle.session.specs.Answers.{caught_up, ran_to}
 use Rattle.session.specs.Core.{CoreState, Ground, instant_of, plain_core, with_desk}
 use Rattle.session.specs.Given.{Given}
 use Rattle.session.specs.Keys.{TurnState, run_on}
-use Rattle.session.specs.Opening.{opened}
+use Rattle.session.specs.Opening.{begun_in, opened}
+use Rattle.session.specs.Reading.{refreshed}
 use Rattle.session.specs.Screen.{Folder, screen}
+use Rattle.session.specs.Showing.{resumed}
 use Rattle.session.specs.declared.session_type.Session.{Session}
 
 -- what keys act on; what was told of files of commands; the screen's size; the open folder, its
@@ -70,6 +73,7 @@ wish_at Unopened s moment = file_wish s.turn.core.frames
     (Open (folder_path s.turn.core.rules.settings s.named))
 wish_at Idle s moment = Press moment
 wish_at Ready s moment = Press moment
+wish_at Opening s moment = file_wish s.turn.core.frames Nothing
 wish_at Reading s moment = file_wish s.turn.core.frames Nothing
 wish_at _ s moment = Nothing
 
@@ -126,19 +130,40 @@ abbrev pub putting : State → State
 putting s = waiting (put_all s.turn.core.rules.put)
     (with_core (record s.turn.core { rules = without_puts s.turn.core.rules }) s)
 
--- they act, at the moment of the opening
-abbrev pub pushed : Given → State → State
-pushed given s = acting given (putting s)
+-- a reader begins to read: the cursor is set, and they act
+abbrev pub beginning : Given → State → State
+beginning given s =
+    acting given (putting (with_core (begun_in given.mails s.turn.core) s))
 
--- a folder was opened in which these messages stand
-abbrev pub opened_by : List Mail → List ℕ → Kind → ℤ → List Listed → State → State
-opened_by mails path kind moment came s = record s {
+-- a file that hooks of the folder have named is read first
+abbrev pub begin_behind : Given → List PlainFrame → State → State
+begin_behind given [] s = beginning given s
+begin_behind given (frame ∷ frames) s = at_stage Opening s
+
+-- behind the hooks of an opened folder a reader begins, at the moment of the opening
+abbrev pub pushed : Given → State → State
+pushed given s = begin_behind given s.turn.core.frames s
+
+-- the commands of the hooks that count for a folder were run, up to one that names a file
+abbrev pub hooked_by : List PlainJudged → List ℕ → ℤ → State → State
+hooked_by verdicts path moment s = with_script (hooked_script (instant_of s.window moment) verdicts
+    (commands_for path s.turn.core.rules.hooks.folders) s.turn.core.frames s.turn.core.rules
+    nothing_told) s
+
+-- the messages of a folder are taken in
+abbrev pub found_by : List Mail → List ℕ → Kind → ℤ → List Listed → State → State
+found_by mails path kind moment came s = record s {
   turn = record s.turn { core = opened mails came s.turn.core; stage = Pushing };
   folder = record { path = path; kind = kind };
   listing = came;
   checked = moment;
   moment = moment;
 }
+
+-- a folder was opened in which these messages stand
+abbrev pub opened_by : Given → List ℕ → Kind → ℤ → List Listed → State → State
+opened_by given path kind moment came s =
+    found_by given.mails path kind moment came (hooked_by given.verdicts path moment s)
 
 -- the text of the file that was wished was read
 abbrev pub read_in : List PlainJudged → List ℕ → State → State
@@ -150,20 +175,26 @@ abbrev pub skipped : List PlainJudged → DiskError → State → State
 skipped verdicts why s = with_script (skip_script (instant_of s.window s.moment) verdicts why
     s.turn.core.frames s.turn.core.rules nothing_told) s
 
--- behind the last file the keys go on that have named it
+-- the index learns what the commands of a file tell it, and what is shown is made anew
+abbrev pub learning : Given → State → State
+learning given s =
+    with_core (refreshed given.mails s.window (caught_up given.mails s.turn.core)) s
+
+-- behind the last file the keys go on that have named it, and a message is shown that waited for it
 abbrev pub going_on : Given → List PlainFrame → State → State
-going_on given [] s = acting given s
+going_on given [] s = acting given (with_core (resumed given.mails s.turn.core) s)
 going_on given (frame ∷ frames) s = s
 
--- behind a file that keys have named, the index learns what its commands tell it
+-- behind a file that keys have named
 abbrev pub reading_on : Given → State → State
-reading_on given s = going_on given (caught_up given.mails s.turn.core).frames
-    (with_core (caught_up given.mails s.turn.core) s)
+reading_on given s = going_on given s.turn.core.frames s
 
--- behind a file
+-- behind a file; before a folder is open there is no index yet
 abbrev pub read_at : Stage → Given → State → State
-read_at Reading given s = reading_on given s
-read_at _ given s = s
+read_at Unopened given s = s
+read_at Opening given s = pushed given (learning given s)
+read_at Reading given s = reading_on given (learning given s)
+read_at _ given s = learning given s
 
 -- the state behind a file: where no other is to be read, the index learns and keys go on
 abbrev pub read_on : Given → State → State
@@ -180,7 +211,7 @@ arrived given s (FileRead path text marks) = read_on given (read_in given.verdic
 arrived given s (FileRefused path why marks) = read_on given (skipped given.verdicts why s)
 arrived given s (KeyPressed key moment) = typed given key moment (taken s)
 arrived given s (FolderOpened path kind moment came marks) =
-    opened_by given.mails path kind moment came s
+    opened_by given path kind moment came s
 arrived given s (FolderRefused path why marks) = at_stage Over s
 
 -- the state after an event

@@ -8,7 +8,7 @@ use Rattle.patterns.specs.Causes.{Keeps}
 use Rattle.people.specs.Judged.{PlainJudged}
 use Rattle.session_state.specs.declared.stage.Stage.{Stage}
 use Rattle.session_state.specs.declared.stage.Stage.TheVariants.{Unopened, Idle}
-use Rattle.session_state.specs.declared.stage.Stage.TheVariants.{Over, Reading}
+use Rattle.session_state.specs.declared.stage.Stage.TheVariants.{Opening, Over, Reading}
 use Rattle.session_events.specs.declared.setup.Next.{Next}
 use Rattle.session_events.specs.declared.setup.Next.TheVariants.{Go, Quit}
 use Rattle.session_events.specs.Events.{AreFiles, Happening, KeyPressed}
@@ -94,12 +94,15 @@ pub record ReadsFiles (events events' : List Happening) (old new : Seen) : Type 
 -- no file of commands is wished
 abbrev pub IsFileless : Stage → List PlainFrame → Type 0
 IsFileless Unopened frames = frames ≡ []
+IsFileless Opening frames = frames ≡ []
 IsFileless Reading frames = frames ≡ []
 IsFileless _ frames = Unit {0}
 
--- keys have acted: one is wanted, or a file that they came to, or the run is over
+-- keys have acted, or hooks of a folder have: a key is wanted, or a file that they came to, or the
+-- run is over
 abbrev pub IsSettled : Stage → List PlainFrame → Type 0
 IsSettled Idle frames = Unit {0}
+IsSettled Opening frames = frames ≢ []
 IsSettled Reading frames = frames ≢ []
 IsSettled Over frames = Unit {0}
 IsSettled _ frames = ⊥

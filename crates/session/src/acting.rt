@@ -1,28 +1,28 @@
 //! How keys act.
 
-ghost use Rattle.std.specs.Prelude.{◌≡◌, IfOk};
-ghost use Rattle.mail_base.specs.Series.{plain_texts};
+ghost use Rattle.std.specs.Prelude.{◌≡◌};
 ghost use Rattle.session.specs.Acting as spec;
 
 use crate::core_state::Core;
 use folder_core::Archive;
-use keymap::{Function, Key, Press};
-use mail_base::{Bytes, NoMemory, Words};
+use keymap::{Function, Key, Menu, Press};
+use mail_base::{Id, NoMemory};
 use people::Verdicts;
 use rc_lang::Variable;
-use session_index::{Notice, Rule};
-use session_screen::{Window, is_set};
+use session_index::{Notice, Rule, Wanted};
+use session_pager::{PagerDeed, attach_deed, pager_deed};
+use session_screen::{Window, is_set, toggle_words};
 use session_state::Moment;
-use std::alloc::Global;
 
-// The words of the command that turns a variable over.
-fn toggle_words(alloc: Global, name: &[u8]) -> Result<Words, NoMemory>
-    ensures { IfOk result (λ words. plain_texts words ≡ spec.toggle_words name.now) }
+// Whether two cursors are on one message.
+fn is_at(cursor: Option<Id>, other: Option<Id>) -> bool
+    ensures { result ≡ spec.is_at cursor other }
 {
-    let mut words = Words::new(alloc);
-    words.push(Bytes::copy_of(alloc, b"toggle")?)?;
-    words.push(Bytes::copy_of(alloc, name)?)?;
-    Ok(words)
+    match (cursor, other) {
+        (None, None) => true,
+        (Some(id), Some(other)) => id.0 == other.0,
+        _ => false,
+    }
 }
 
 impl Core {
@@ -31,7 +31,7 @@ impl Core {
     ghost use Rattle.index_view.specs.View.{IsOf};
     ghost use Rattle.people.specs.Judged.{PlainJudged};
     ghost use Rattle.session.specs.Acting as spec;
-    ghost use Rattle.session.specs.Core.{Stands, ground_of, plain_core};
+    ghost use Rattle.session.specs.Core.{IsOver, Stands, ground_of, plain_core};
     ghost use Rattle.session.specs.Rules.{rule_of};
     ghost use Rattle.session_screen.specs.Window.{IsWindow};
     ghost use Rattle.session_state.specs.Instants.{IsMoment};
@@ -50,46 +50,241 @@ impl Core {
     }
 
     // Turns over the variable that a function turns over, if any.
-    fn turn_over(&mut self, function: Function) -> Result<(), NoMemory>
-        ensures core { OnOk result
-            (plain_core self.new ≡ spec.turned_over function (plain_core self.old)) }
-        ensures view { self.new.desk.view ≡ self.old.desk.view }
-    {
-        match function {
-            Function::DisplayToggleWeed => {
-                let words = toggle_words(self.desk.alloc, b"weed")?;
-                self.rules.set_by(&words)
-            }
-            _ => Ok(()),
-        }
-    }
-
-    // Does what a function does to the index.
-    fn perform(
+    fn turn_over(
         &mut self,
         window: Window,
         archive: &Archive,
         function: Function,
     ) -> Result<(), NoMemory>
         requires window { IsWindow window }
-        requires is_of { IsOf (map plain_letter archive.now.items) self.old.desk.view }
-        ensures { OnOk result (Stands (map plain_letter archive.now.items)
-            (spec.performed_in window (map plain_letter archive.now.items) function
-            (plain_core self.old)) self.new) }
+        requires over { IsOver (map plain_letter archive.now.items) window self.old }
+        ensures core { OnOk result (plain_core self.new ≡ spec.turned_over
+            (map plain_letter archive.now.items) window function (plain_core self.old)) }
+        ensures over { OnOk result (IsOver (map plain_letter archive.now.items) window self.new) }
     {
+        match function {
+            Function::DisplayToggleWeed => {
+                let words = toggle_words(self.desk.alloc, b"weed")?;
+                self.rules.set_by(&words)?;
+                self.refresh(window, archive)
+            }
+            _ => Ok(()),
+        }
+    }
+
+    // Does what a function does that leaves the index.
+    fn serve(
+        &mut self,
+        window: Window,
+        moment: Moment,
+        archive: &Archive,
+        verdicts: &mut Verdicts,
+    ) -> Result<(), NoMemory>
+        requires window { IsWindow window }
+        requires moment { IsMoment moment.0 }
+        requires over { IsOver (map plain_letter archive.now.items) window self.old }
+        ensures keeps { Keeps verdicts.old.kept verdicts.new.kept }
+        ensures core { OnOk result ((later : List PlainJudged) → Keeps verdicts.new.kept later
+            → plain_core self.new ≡ spec.serving
+            (ground_of (map plain_letter archive.now.items) later window moment.0)
+            (plain_core self.old)) }
+        ensures over { OnOk result (IsOver (map plain_letter archive.now.items) window self.new) }
+    {
+        match self.desk.wanted {
+            Wanted::ToDisplay => {
+                self.grant();
+                self.display_at_cursor(window, moment, archive, verdicts)
+            }
+            Wanted::ToList => {
+                self.grant();
+                self.list_parts(window, archive)
+            }
+            _ => Ok(()),
+        }
+    }
+
+    // Does what a function does in the index.
+    fn do_in_index(
+        &mut self,
+        window: Window,
+        moment: Moment,
+        archive: &Archive,
+        verdicts: &mut Verdicts,
+        function: Function,
+    ) -> Result<(), NoMemory>
+        requires window { IsWindow window }
+        requires moment { IsMoment moment.0 }
+        requires over { IsOver (map plain_letter archive.now.items) window self.old }
+        ensures keeps { Keeps verdicts.old.kept verdicts.new.kept }
+        ensures core { OnOk result ((later : List PlainJudged) → Keeps verdicts.new.kept later
+            → plain_core self.new ≡ spec.in_index
+            (ground_of (map plain_letter archive.now.items) later window moment.0) function
+            (plain_core self.old)) }
+        ensures over { OnOk result (IsOver (map plain_letter archive.now.items) window self.new) }
+    {
+        self.turn_over(window, archive, function)?;
         let rule = self.rule(window);
-        self.desk.perform(rule, archive, function)
+        self.desk.perform(rule, archive, function)?;
+        self.serve(window, moment, archive, verdicts)
+    }
+
+    // Shows the message to which the cursor comes by a function, unless it stays.
+    fn follow(
+        &mut self,
+        window: Window,
+        moment: Moment,
+        archive: &Archive,
+        verdicts: &mut Verdicts,
+        function: Function,
+    ) -> Result<(), NoMemory>
+        requires window { IsWindow window }
+        requires moment { IsMoment moment.0 }
+        requires over { IsOver (map plain_letter archive.now.items) window self.old }
+        ensures keeps { Keeps verdicts.old.kept verdicts.new.kept }
+        ensures core { OnOk result ((later : List PlainJudged) → Keeps verdicts.new.kept later
+            → plain_core self.new ≡ spec.following
+            (ground_of (map plain_letter archive.now.items) later window moment.0) function
+            (plain_core self.old)) }
+        ensures over { OnOk result (IsOver (map plain_letter archive.now.items) window self.new) }
+    {
+        let cursor = self.desk.view.cursor();
+        self.do_in_index(window, moment, archive, verdicts, function)?;
+        if is_at(cursor, self.desk.view.cursor()) {
+            return Ok(());
+        }
+        self.display_at_cursor(window, moment, archive, verdicts)
+    }
+
+    // Shows the next message that is not deleted; where there is none, the index comes back.
+    fn go_on_or_leave(
+        &mut self,
+        rule: Rule,
+        window: Window,
+        moment: Moment,
+        archive: &Archive,
+        verdicts: &mut Verdicts,
+    ) -> Result<(), NoMemory>
+        requires page { 0 < rule.page }
+        requires window { IsWindow window }
+        requires moment { IsMoment moment.0 }
+        requires over { IsOver (map plain_letter archive.now.items) window self.old }
+        ensures keeps { Keeps verdicts.old.kept verdicts.new.kept }
+        ensures core { OnOk result ((later : List PlainJudged) → Keeps verdicts.new.kept later
+            → plain_core self.new ≡ spec.on_or_left
+            (ground_of (map plain_letter archive.now.items) later window moment.0) rule
+            (plain_core self.old)) }
+        ensures over { OnOk result (IsOver (map plain_letter archive.now.items) window self.new) }
+    {
+        if self.desk.next_undeleted(rule, archive)? {
+            return self.display_at_cursor(window, moment, archive, verdicts);
+        }
+        self.reader.close();
+        Ok(())
+    }
+
+    // Deletes the cursor's message, and shows what comes behind it, unless that is refused.
+    fn delete_on(
+        &mut self,
+        window: Window,
+        moment: Moment,
+        archive: &Archive,
+        verdicts: &mut Verdicts,
+        function: Function,
+    ) -> Result<(), NoMemory>
+        requires window { IsWindow window }
+        requires moment { IsMoment moment.0 }
+        requires over { IsOver (map plain_letter archive.now.items) window self.old }
+        ensures keeps { Keeps verdicts.old.kept verdicts.new.kept }
+        ensures core { OnOk result ((later : List PlainJudged) → Keeps verdicts.new.kept later
+            → plain_core self.new ≡ spec.deleting
+            (ground_of (map plain_letter archive.now.items) later window moment.0) function
+            (plain_core self.old)) }
+        ensures over { OnOk result (IsOver (map plain_letter archive.now.items) window self.new) }
+    {
+        let rule = Rule {
+            resolves: false,
+            page: window.rows as usize - 2,
+        };
+        let allowed = self.desk.allows(function);
+        self.desk.perform(rule, archive, function)?;
+        if allowed {
+            return self.go_on_or_leave(rule, window, moment, archive, verdicts);
+        }
+        Ok(())
+    }
+
+    // Does what a function does in the pager.
+    fn do_in_pager(
+        &mut self,
+        window: Window,
+        moment: Moment,
+        archive: &Archive,
+        verdicts: &mut Verdicts,
+        function: Function,
+    ) -> Result<(), NoMemory>
+        requires window { IsWindow window }
+        requires moment { IsMoment moment.0 }
+        requires over { IsOver (map plain_letter archive.now.items) window self.old }
+        ensures keeps { Keeps verdicts.old.kept verdicts.new.kept }
+        ensures core { OnOk result ((later : List PlainJudged) → Keeps verdicts.new.kept later
+            → plain_core self.new ≡ spec.in_pager
+            (ground_of (map plain_letter archive.now.items) later window moment.0) function
+            (plain_core self.old)) }
+        ensures over { OnOk result (IsOver (map plain_letter archive.now.items) window self.new) }
+    {
+        match pager_deed(function) {
+            PagerDeed::Follow => self.follow(window, moment, archive, verdicts, function),
+            PagerDeed::AsInIndex => self.do_in_index(window, moment, archive, verdicts, function),
+            PagerDeed::DeleteOn => self.delete_on(window, moment, archive, verdicts, function),
+            deed => self.do_on_pages(window, archive, deed),
+        }
+    }
+
+    // Does what a function does in a menu.
+    fn run(
+        &mut self,
+        window: Window,
+        moment: Moment,
+        archive: &Archive,
+        verdicts: &mut Verdicts,
+        function: Function,
+    ) -> Result<(), NoMemory>
+        requires window { IsWindow window }
+        requires moment { IsMoment moment.0 }
+        requires over { IsOver (map plain_letter archive.now.items) window self.old }
+        ensures keeps { Keeps verdicts.old.kept verdicts.new.kept }
+        ensures core { OnOk result ((later : List PlainJudged) → Keeps verdicts.new.kept later
+            → plain_core self.new ≡ spec.in_menu
+            (ground_of (map plain_letter archive.now.items) later window moment.0) function
+            (plain_core self.old)) }
+        ensures over { OnOk result (IsOver (map plain_letter archive.now.items) window self.new) }
+    {
+        match self.reader.menu() {
+            Menu::Pager => self.do_in_pager(window, moment, archive, verdicts, function),
+            Menu::Attach => self.do_in_list(window, archive, attach_deed(function)),
+            _ => self.do_in_index(window, moment, archive, verdicts, function),
+        }
     }
 
     /// Does what keys have come to.
     #[tactic(auto, unfolding(crate::specs::Acting::acted))]
-    pub fn act(&mut self, window: Window, archive: &Archive, press: Press) -> Result<(), NoMemory>
+    pub fn act(
+        &mut self,
+        window: Window,
+        moment: Moment,
+        archive: &Archive,
+        verdicts: &mut Verdicts,
+        press: Press,
+    ) -> Result<(), NoMemory>
         requires window { IsWindow window }
-        requires is_of { IsOf (map plain_letter archive.now.items) self.old.desk.view }
-        ensures { OnOk result ((verdicts : List PlainJudged) → (moment : ℤ)
-            → Stands (map plain_letter archive.now.items) (spec.acted
-            (ground_of (map plain_letter archive.now.items) verdicts window moment)
-            press (plain_core self.old)) self.new) }
+        requires moment { IsMoment moment.0 }
+        requires over { IsOver (map plain_letter archive.now.items) window self.old }
+        ensures keeps { Keeps verdicts.old.kept verdicts.new.kept }
+        ensures core { OnOk result ((later : List PlainJudged) → Keeps verdicts.new.kept later
+            → plain_core self.new ≡ spec.acted
+            (ground_of (map plain_letter archive.now.items) later window moment.0) press
+            (plain_core self.old)) }
+        ensures over { OnOk result (IsOver (map plain_letter archive.now.items) window self.new) }
     {
         match press {
             Press::Wait => Ok(()),
@@ -97,10 +292,7 @@ impl Core {
                 self.desk.say(Notice::NotBound);
                 Ok(())
             }
-            Press::Function(function) => {
-                self.turn_over(function)?;
-                self.perform(window, archive, function)
-            }
+            Press::Function(function) => self.run(window, moment, archive, verdicts, function),
             Press::Loop => {
                 self.desk.say(Notice::MacroLoop);
                 Ok(())
@@ -120,12 +312,13 @@ impl Core {
     ) -> Result<(), NoMemory>
         requires window { IsWindow window }
         requires moment { IsMoment moment.0 }
-        requires is_of { IsOf (map plain_letter archive.now.items) self.old.desk.view }
+        requires over { IsOver (map plain_letter archive.now.items) window self.old }
         ensures keeps { Keeps verdicts.old.kept verdicts.new.kept }
         ensures core { OnOk result ((later : List PlainJudged) → Keeps verdicts.new.kept later
-            → Stands (map plain_letter archive.now.items) (spec.prompted
-            (ground_of (map plain_letter archive.now.items) later window moment.0)
-            key (plain_core self.old)) self.new) }
+            → plain_core self.new ≡ spec.prompted
+            (ground_of (map plain_letter archive.now.items) later window moment.0) key
+            (plain_core self.old)) }
+        ensures over { OnOk result (IsOver (map plain_letter archive.now.items) window self.new) }
     {
         self.desk.type_key(key)?;
         self.heed(window, moment, archive, verdicts)

@@ -5,21 +5,15 @@ ghost use Rattle.session.specs.Answers as spec;
 
 use crate::core_state::Core;
 use folder_core::Archive;
+use keymap::Menu;
 use mail_base::{Line, NoMemory};
 use patterns_match::Pattern;
 use people::Verdicts;
 use prompts::Asking;
-use session_index::{Message, Wanted};
+use session_index::{Message, Wanted, is_no_limit};
 use session_screen::{Window, options_of, sort_words};
 use session_state::{Instant, Moment, Told, read_at, run_typed};
 use std::alloc::Global;
-
-// Whether a text takes the limit away.
-fn is_no_limit(text: &[u8]) -> bool
-    ensures { result ≡ spec.is_no_limit text.now }
-{
-    text.is_empty() || text == b"all".as_slice()
-}
 
 impl Core {
     ghost use Rattle.std.specs.Prelude.{◌≡◌, Some, List, map, OnOk};
@@ -29,7 +23,7 @@ impl Core {
     ghost use Rattle.people.specs.Judged.{PlainJudged};
     ghost use Rattle.session_index.specs.Desk.{plain_wanted};
     ghost use Rattle.session.specs.Answers as spec;
-    ghost use Rattle.session.specs.Core.{Stands, ground_of, plain_core};
+    ghost use Rattle.session.specs.Core.{IsOver, Stands, ground_of, plain_core, refused};
     ghost use Rattle.session_screen.specs.Window.{IsWindow};
     ghost use Rattle.session_state.specs.Instants.{IsInstant, IsMoment};
     ghost use Rattle.patterns.specs.Causes.{Keeps};
@@ -37,14 +31,15 @@ impl Core {
     ghost use Rattle.session_state.specs.Frames.{typed_script};
     ghost use Rattle.session_state.specs.Told.{nothing_told};
 
-    // Tells that a text is no pattern.
-    fn refuse_pattern(&mut self, text: &Line) -> Result<(), NoMemory>
+    /// Tells what a text is not.
+    pub fn refuse(&mut self, front: &str, text: &Line) -> Result<(), NoMemory>
         ensures core { OnOk result
-            (plain_core self.new ≡ spec.bad_pattern text.now.items (plain_core self.old)) }
+            (plain_core self.new ≡ refused front.now text.now.items (plain_core self.old)) }
+        ensures rest { self.new ≡ record self.old { desk = self.new.desk } }
         ensures view { self.new.desk.view ≡ self.old.desk.view }
     {
         let mut line = Line::new(self.desk.alloc);
-        line.append("bad pattern: ")?;
+        line.append(front)?;
         line.append(text.as_str())?;
         self.desk.message = Message::Text(line);
         Ok(())
@@ -99,9 +94,9 @@ impl Core {
             asking text.items (plain_core self.old)) self.new) }
     {
         let time = moment.with_offset(window.offset);
-        match read_at(self.desk.alloc, &text, time, verdicts)? {
+        match read_at(self.desk.alloc, text.as_slice(), time, verdicts)? {
             Some(pattern) => self.take_pattern(archive, asking, text, pattern),
-            None => self.refuse_pattern(&text),
+            None => self.refuse("bad pattern: ", &text),
         }
     }
 
@@ -116,8 +111,8 @@ impl Core {
         Ok(())
     }
 
-    // Does what a text does that is answered to a prompt.
-    fn take_text(
+    // Does what a text does that is answered in the index.
+    fn do_text(
         &mut self,
         window: Window,
         moment: Moment,
@@ -131,7 +126,7 @@ impl Core {
         requires is_of { IsOf (map plain_letter archive.now.items) self.old.desk.view }
         ensures keeps { Keeps verdicts.old.kept verdicts.new.kept }
         ensures core { OnOk result ((later : List PlainJudged) → Keeps verdicts.new.kept later
-            → Stands (map plain_letter archive.now.items) (spec.text_answered
+            → Stands (map plain_letter archive.now.items) (spec.text_done
             (ground_of (map plain_letter archive.now.items) later window moment.0)
             asking text.items (plain_core self.old)) self.new) }
     {
@@ -142,11 +137,41 @@ impl Core {
         }
     }
 
+    // Does what a text does that is answered to a prompt.
+    fn take_text(
+        &mut self,
+        window: Window,
+        moment: Moment,
+        archive: &Archive,
+        verdicts: &mut Verdicts,
+        asking: Asking,
+        text: Line,
+    ) -> Result<(), NoMemory>
+        requires window { IsWindow window }
+        requires moment { IsMoment moment.0 }
+        requires over { IsOver (map plain_letter archive.now.items) window self.old }
+        ensures keeps { Keeps verdicts.old.kept verdicts.new.kept }
+        ensures core { OnOk result ((later : List PlainJudged) → Keeps verdicts.new.kept later
+            → plain_core self.new ≡ spec.text_answered
+            (ground_of (map plain_letter archive.now.items) later window moment.0)
+            asking text.items (plain_core self.old)) }
+        ensures over { OnOk result (IsOver (map plain_letter archive.now.items) window self.new) }
+    {
+        match (self.reader.menu(), asking) {
+            (Menu::Pager, Asking::Search) => self.search_text(window, archive, verdicts, &text),
+            _ => {
+                self.do_text(window, moment, archive, verdicts, asking, text)?;
+                self.refresh(window, archive)
+            }
+        }
+    }
+
     /// The last line shows this, if anything.
     pub fn show(&mut self, shown: Option<Line>)
         ensures core { plain_core self.new
             ≡ spec.shown_on (plain_shown shown) (plain_core self.old) }
         ensures view { self.new.desk.view ≡ self.old.desk.view }
+        ensures rest { self.new ≡ record self.old { desk = self.new.desk } }
     {
         if let Some(line) = shown {
             self.desk.message = Message::Text(line);
@@ -274,23 +299,26 @@ impl Core {
     ) -> Result<(), NoMemory>
         requires window { IsWindow window }
         requires moment { IsMoment moment.0 }
-        requires is_of { IsOf (map plain_letter archive.now.items) self.old.desk.view }
+        requires over { IsOver (map plain_letter archive.now.items) window self.old }
         ensures keeps { Keeps verdicts.old.kept verdicts.new.kept }
         ensures core { OnOk result ((later : List PlainJudged) → Keeps verdicts.new.kept later
-            → Stands (map plain_letter archive.now.items) (spec.heeded
+            → plain_core self.new ≡ spec.heeded
             (ground_of (map plain_letter archive.now.items) later window moment.0)
-            (plain_core self.old)) self.new) }
+            (plain_core self.old)) }
+        ensures over { OnOk result (IsOver (map plain_letter archive.now.items) window self.new) }
     {
         match self.take_wanted() {
-            Wanted::Unasked => Ok(()),
-            Wanted::ToEnd => {
-                self.desk.wanted = Wanted::ToEnd;
-                Ok(())
-            }
             Wanted::ToAnswer(asking, text) => {
                 self.take_text(window, moment, archive, verdicts, asking, text)
             }
-            Wanted::ToChoose(asking, key) => self.take_choice(window, archive, asking, key),
+            Wanted::ToChoose(asking, key) => {
+                self.take_choice(window, archive, asking, key)?;
+                self.refresh(window, archive)
+            }
+            wanted => {
+                self.desk.wanted = wanted;
+                Ok(())
+            }
         }
     }
 
@@ -299,6 +327,7 @@ impl Core {
         ensures wanted { plain_wanted result ≡ (plain_core self.old).desk.wanted }
         ensures core { plain_core self.new ≡ spec.granted (plain_core self.old) }
         ensures view { self.new.desk.view ≡ self.old.desk.view }
+        ensures rest { self.new ≡ record self.old { desk = self.new.desk } }
     {
         std::mem::replace(&mut self.desk.wanted, Wanted::Unasked)
     }
@@ -307,6 +336,7 @@ impl Core {
     pub fn grant(&mut self)
         ensures core { plain_core self.new ≡ spec.granted (plain_core self.old) }
         ensures view { self.new.desk.view ≡ self.old.desk.view }
+        ensures rest { self.new ≡ record self.old { desk = self.new.desk } }
     {
         self.desk.wanted = Wanted::Unasked;
     }

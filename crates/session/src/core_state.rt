@@ -1,21 +1,22 @@
 //! What keys act on.
 
 use index_view::View;
-use keymap::Menu;
 use mail_base::{Line, NoMemory};
 use patterns_match::Scores;
 use people::People;
 use session_index::{Desk, Message, Wanted};
+use session_pager::Reader;
 use session_screen::options_of;
 use session_state::{Frame, Rules};
 use std::alloc::Global;
 
-/// What keys act on: what muttrc has set, the index, the text of its limit, and the files of
-/// commands that are not at their ends.
+/// What keys act on: what muttrc has set, the index, the text of its limit, what is shown in its
+/// place, and the files of commands that are not at their ends.
 pub struct Core {
     pub rules: Rules,
     pub desk: Desk,
     pub limit: Option<Line>,
+    pub reader: Reader,
     pub frames: Vec<Frame>,
 }
 
@@ -25,6 +26,7 @@ impl Drop for Core {
             rules: _,
             desk: _,
             limit: _,
+            reader: _,
             frames: _,
         } = self;
     }
@@ -33,7 +35,7 @@ impl Drop for Core {
 impl Core {
     ghost use Rattle.std.specs.Prelude.{◌≡◌, [], IfOk, true, false};
     ghost use Rattle.session_state.specs.Frames.{plain_frames};
-    ghost use Rattle.session.specs.Core.{IsEmpty, first_core, plain_core, shown_menu};
+    ghost use Rattle.session.specs.Core.{IsEmpty, first_core, plain_core};
 
     /// What keys act on before these files of commands are read and a folder is open.
     pub fn new(alloc: Global, read_only: bool, frames: Vec<Frame>) -> Result<Core, NoMemory>
@@ -56,15 +58,9 @@ impl Core {
                 wanted: Wanted::Unasked,
             },
             limit: None,
+            reader: Reader::new(alloc),
             frames,
         })
-    }
-
-    /// The menu whose bindings keys are looked up in.
-    pub fn menu(&self) -> Menu
-        ensures { result ≡ shown_menu (plain_core self.now) }
-    {
-        Menu::Index
     }
 
     /// Whether a file of commands is still to be read.

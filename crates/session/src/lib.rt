@@ -12,9 +12,11 @@ mod beginning;
 mod core_state;
 mod learning;
 mod opening;
+mod paging;
 mod pressing;
 mod screen;
 mod session_type;
+mod showing;
 mod source;
 mod turn;
 

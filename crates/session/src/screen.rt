@@ -1,61 +1,25 @@
-//! The screen: the page of the index that holds the cursor, the status line and the last line.
+//! The screen: the page of the index that holds the cursor, of the message that is shown, or of the
+//! list of its parts; the status line and the last line.
 
 ghost use Rattle.std.specs.Prelude.{◌≡◌, length, map, IfOk};
 ghost use Rattle.folder_letters.specs.Letters.{plain_letter};
-ghost use Rattle.index_view.specs.View.{IsOf};
 ghost use Rattle.mail_base.specs.Series.{plain_texts};
-ghost use Rattle.session.specs.Core.{plain_core};
+ghost use Rattle.session.specs.Core.{IsOver, plain_core};
 ghost use Rattle.session.specs.Screen as spec;
-ghost use Rattle.session_index.specs.Desk.{message_text as text_of_message};
 ghost use Rattle.session_screen.specs.Window.{IsWindow};
 
 use crate::core_state::Core;
-use expando::cut;
 use folder_core::Archive;
+use keymap::Menu;
 use mail_base::{Line, Lines, NoMemory};
-use session_index::Message;
-use session_screen::{Banner, Place, Window, page_lines, status_line};
+use session_screen::{Banner, Place, Window, page_lines, pager_line, status_line};
 use std::alloc::Global;
-
-// The text of the last line where no prompt stands.
-fn message_text(message: &Message) -> &str
-    ensures { result.now ≡ text_of_message message.now }
-{
-    match message {
-        Message::Blank => "",
-        Message::Says(notice) => notice.text(),
-        Message::Text(line) => line.as_str(),
-    }
-}
-
-fn last_line(alloc: Global, core: &Core, cols: usize) -> Result<Line, NoMemory>
-    ensures { (window : Window) → window.cols ≡ cols
-        → IfOk result (λ line. line.items ≡ spec.last_line window (plain_core core.now)) }
-{
-    match &core.desk.prompt {
-        Some(prompt) => {
-            let shown = prompt.shown(alloc)?;
-            cut(alloc, shown.as_str(), cols)
-        }
-        None => cut(alloc, message_text(&core.desk.message), cols),
-    }
-}
 
 impl Core {
     ghost use Rattle.std.specs.Prelude.{◌≡◌, option_map};
     ghost use Rattle.session.specs.Core.{plain_core};
     ghost use Rattle.session.specs.Screen as spec;
     ghost use Rattle.session_screen.specs.Status.{plain_banner};
-
-    // The text of the limit.
-    fn limit_text(&self) -> Option<&[u8]>
-        ensures { option_map (λ text. text.now) result ≡ (plain_core self.now).limit }
-    {
-        match &self.limit {
-            Some(text) => Some(text.as_slice()),
-            None => None,
-        }
-    }
 
     // What the status line shows beside the index and the settings.
     fn banner<'a>(&'a self, place: Place<'a>) -> Banner<'a>
@@ -65,8 +29,58 @@ impl Core {
         Banner {
             place,
             read_only: self.desk.read_only,
-            limit: self.limit_text(),
+            limit: match &self.limit {
+                Some(text) => Some(text.as_slice()),
+                None => None,
+            },
         }
+    }
+}
+
+// The lines of the page, exactly as many as the window has beside its last two.
+fn body_lines(
+    alloc: Global,
+    archive: &Archive,
+    core: &Core,
+    window: Window,
+) -> Result<Lines, NoMemory>
+    requires window { IsWindow window }
+    requires over { IsOver (map plain_letter archive.now.items) window core.now }
+    ensures { IfOk result (λ lines. plain_texts lines ≡ spec.page_lines
+        (map plain_letter archive.now.items) window (plain_core core.now)) }
+{
+    match core.reader.menu() {
+        Menu::Pager => core.reader.page_lines(alloc, window.rows - 2),
+        Menu::Attach => core.reader.part_lines(alloc, window.rows - 2, window.cols),
+        _ => page_lines(
+            alloc,
+            archive,
+            &core.desk.view,
+            core.rules.settings(),
+            window,
+        ),
+    }
+}
+
+// The status line: that of a message where one is shown.
+fn state_line(
+    alloc: Global,
+    archive: &Archive,
+    core: &Core,
+    window: Window,
+    place: Place<'_>,
+) -> Result<Line, NoMemory>
+    requires window { IsWindow window }
+    requires over { IsOver (map plain_letter archive.now.items) window core.now }
+    ensures { IfOk result (λ line. line.items ≡ spec.status_line
+        (map plain_letter archive.now.items) window (spec.plain_place place.entry)
+        (plain_core core.now)) }
+{
+    let view = &core.desk.view;
+    let settings = core.rules.settings();
+    match core.reader.shown_id() {
+        Some(id) => pager_line(alloc, archive, view, settings, window, id),
+        None => status_line(alloc, view, settings, window, core.banner(place)),
     }
 }
 
@@ -80,17 +94,15 @@ pub fn screen_lines(
     place: Place<'_>,
 ) -> Result<Lines, NoMemory>
     requires window { IsWindow window }
-    requires is_of { IsOf (map plain_letter archive.now.items) core.now.desk.view }
+    requires over { IsOver (map plain_letter archive.now.items) window core.now }
     ensures lines { IfOk result (λ lines. plain_texts lines ≡ spec.screen
         (map plain_letter archive.now.items) window (spec.plain_place place.entry)
         (plain_core core.now)) }
     ensures rows { length (spec.screen (map plain_letter archive.now.items) window
         (spec.plain_place place.entry) (plain_core core.now)) ≡ window.rows }
 {
-    let view = &core.desk.view;
-    let settings = core.rules.settings();
-    let mut lines = page_lines(alloc, archive, view, settings, window)?;
-    lines.push(status_line(alloc, view, settings, window, core.banner(place))?)?;
-    lines.push(last_line(alloc, core, window.cols as usize)?)?;
+    let mut lines = body_lines(alloc, archive, core, window)?;
+    lines.push(state_line(alloc, archive, core, window, place)?)?;
+    lines.push(core.desk.last_line(alloc, window.cols as usize)?)?;
     Ok(lines)
 }

@@ -1,11 +1,5 @@
 //! A session, and how it takes in what happened.
 
-ghost use Rattle.std.specs.Prelude.{◌≡◌, [], MatchOption, map};
-ghost use Rattle.session_events.specs.Wishes as wish;
-ghost use Rattle.session_events.specs.Wishes.{Wish};
-ghost use Rattle.session_state.specs.Frames.{plain_frame};
-ghost use Rattle.session.specs.Runs as spec;
-
 use crate::core_state::Core;
 use crate::turn::settle;
 use disk_model::DiskError;
@@ -16,7 +10,7 @@ use people::Verdicts;
 use session_events::{Event, Trace};
 use session_index::Message;
 use session_screen::Window;
-use session_state::{Frame, Moment, Stage, Told, add_notes, read_first, skip_first};
+use session_state::{Moment, Stage, Told, add_notes, read_first, run_folder_hooks, skip_first};
 use std::alloc::Global;
 
 /// What a run stands on between its events.
@@ -59,7 +53,7 @@ impl Session {
     ghost use Rattle.std.specs.Prelude.{◌≡◌, ◌<◌, ◌++◌, ℕ, ℤ, List, OnOk, MatchOption};
     ghost use Rattle.std.specs.Prelude.{map};
     ghost use Rattle.mail_base.specs.Series.{Held, plain_texts};
-    ghost use Rattle.folder_letters.specs.Letters.{plain_letter};
+    ghost use Rattle.folder_letters.specs.Letters.{Mail, plain_letter};
     ghost use Rattle.index_view.specs.View.{IsOf};
     ghost use Rattle.patterns.specs.Causes.{Keeps};
     ghost use Rattle.people.specs.Judged.{PlainJudged};
@@ -68,11 +62,11 @@ impl Session {
     ghost use Rattle.session_events.specs.Wishes as wish;
     ghost use Rattle.session.specs.Answers.{shown_on};
     ghost use Rattle.session.specs.Calls.{Becomes, Happens, TakesIn, letters_in};
-    ghost use Rattle.session.specs.Core.{IsEmpty, plain_core};
+    ghost use Rattle.session.specs.Core.{IsEmpty, IsOver, plain_core};
     ghost use Rattle.session_screen.specs.Window.{IsWindow};
     ghost use Rattle.session_state.specs.Instants.{IsMoment};
-    ghost use Rattle.session.specs.Fitting.{CanRead, CanTake, Fits, IsLeft, IsReadIn};
-    ghost use Rattle.session.specs.Fitting.{StaysUnopened};
+    ghost use Rattle.session.specs.Fitting.{CanAct, CanLearn, CanRead, CanTake, Fits, IsLeft};
+    ghost use Rattle.session.specs.Fitting.{IsReadIn, StaysUnopened};
     ghost use Rattle.session.specs.Given.{Given, IsGiven};
     ghost use Rattle.session.specs.Steps.{IsFileless};
     ghost use Rattle.session_state.specs.Frames.{plain_frames};
@@ -89,7 +83,7 @@ impl Session {
         event: &Event,
     ) -> Result<(), NoMemory>
         requires read { CanRead self.old }
-        requires fits { CanTake (map plain_letter archive.now.items) self.old.core.desk.view
+        requires fits { CanTake (map plain_letter archive.now.items) self.old
             (plain_event event.now) }
         ensures arrived { OnOk result ((given : Given)
             → IsGiven (map plain_letter archive.now.items) verdicts.new.kept given
@@ -119,7 +113,11 @@ impl Session {
                 moment,
                 came,
                 ..
-            } => self.open(path, *kind, Moment(*moment), came, archive),
+            } => {
+                let moment = Moment(*moment);
+                self.run_hooks(path.as_slice(), moment, verdicts, notes)?;
+                self.open(path, *kind, moment, came, archive)
+            }
             Event::NotOpened { .. } => {
                 self.stage = Stage::Over;
                 Ok(())
@@ -131,7 +129,7 @@ impl Session {
     pub(crate) fn happen(&mut self, event: Event, trace: &mut Trace) -> Result<(), NoMemory>
         requires room { 0 < trace.old.events.room }
         requires read { CanRead self.old }
-        requires fits { CanTake (letters_in trace.old) self.old.core.desk.view (plain_event event) }
+        requires fits { CanTake (letters_in trace.old) self.old (plain_event event) }
         ensures happens { Happens (plain_event event) self.old self.new trace.old trace.new }
         ensures taken { OnOk result
             (TakesIn (plain_event event) self.old self.new trace.old trace.new) }
@@ -150,7 +148,10 @@ impl Session {
             ≡ wish.Source file.now.items) }
     {
         match self.stage {
-            Stage::Unopened | Stage::Reading => first_file(self.core.frames.as_slice()),
+            Stage::Unopened | Stage::Opening | Stage::Reading => match self.core.frames.first() {
+                Some(frame) => Some(&frame.file),
+                None => None,
+            },
             _ => None,
         }
     }
@@ -167,7 +168,6 @@ impl Session {
             ≡ spec.read_in later text.now (spec.plain_session self.old notes.old)) }
         ensures kept { Keeps verdicts.old.kept verdicts.new.kept }
         ensures rest { IsReadIn self.old self.new }
-        ensures stage { self.new.stage ≡ self.old.stage }
     {
         let time = self.moment.with_offset(self.window.offset);
         let mut told = Told::new(self.alloc);
@@ -189,13 +189,38 @@ impl Session {
             ≡ spec.skipped later why (spec.plain_session self.old notes.old)) }
         ensures kept { Keeps verdicts.old.kept verdicts.new.kept }
         ensures rest { IsReadIn self.old self.new }
-        ensures stage { self.new.stage ≡ self.old.stage }
     {
         let time = self.moment.with_offset(self.window.offset);
         let mut told = Told::new(self.alloc);
         let (alloc, core) = (self.alloc, &mut self.core);
         let (rules, frames) = (&mut core.rules, &mut core.frames);
         skip_first(alloc, rules, time, verdicts, frames, &mut told, why)?;
+        self.tell(notes, told)
+    }
+
+    // Runs the commands of the hooks that count for a folder, up to one that names a file.
+    fn run_hooks(
+        &mut self,
+        path: &[u8],
+        moment: Moment,
+        verdicts: &mut Verdicts,
+        notes: &mut Lines,
+    ) -> Result<(), NoMemory>
+        requires read { CanRead self.old }
+        requires moment { IsMoment moment.0 }
+        ensures hooked { OnOk result ((later : List PlainJudged) → Keeps verdicts.new.kept later
+            → spec.plain_session self.new notes.new ≡ spec.hooked_by later path.now moment.0
+            (spec.plain_session self.old notes.old)) }
+        ensures kept { Keeps verdicts.old.kept verdicts.new.kept }
+        ensures rest { IsReadIn self.old self.new }
+    {
+        let time = moment.with_offset(self.window.offset);
+        let mut told = Told::new(self.alloc);
+        let (alloc, core) = (self.alloc, &mut self.core);
+        let commands = core.rules.folder_hooks(path)?;
+        let commands = commands.as_slice();
+        let (rules, frames) = (&mut core.rules, &mut core.frames);
+        run_folder_hooks(alloc, rules, time, verdicts, frames, &mut told, commands)?;
         self.tell(notes, told)
     }
 
@@ -206,6 +231,7 @@ impl Session {
         ensures core { OnOk result (plain_core self.new.core
             ≡ shown_on (plain_told told).shown (plain_core self.old.core)) }
         ensures view { self.new.core.desk.view ≡ self.old.core.desk.view }
+        ensures reader { self.new.core.reader ≡ self.old.core.reader }
         ensures same { self.new ≡ record self.old { core = self.new.core } }
     {
         add_notes(self.alloc, notes, &told.notes)?;
@@ -213,10 +239,10 @@ impl Session {
         Ok(())
     }
 
-    // Behind a file that keys have named, the index learns what its commands tell it, and behind
-    // the last one the keys go on.
+    // Behind a file the index learns what its commands tell it, and behind the last one a reader
+    // begins, or the keys go on that have named it.
     fn read_on(&mut self, archive: &Archive, verdicts: &mut Verdicts) -> Result<(), NoMemory>
-        requires { Fits (map plain_letter archive.now.items) self.old }
+        requires { CanLearn (map plain_letter archive.now.items) self.old }
         ensures on { OnOk result (Becomes (map plain_letter archive.now.items) verdicts.new.kept
             spec.read_on self.old self.new) }
         ensures fits { OnOk result (Fits (map plain_letter archive.now.items) self.new) }
@@ -225,12 +251,34 @@ impl Session {
         ensures kept { Keeps verdicts.old.kept verdicts.new.kept }
     {
         match self.stage {
-            Stage::Reading => self.go_on(archive, verdicts),
-            _ => Ok(()),
+            Stage::Unopened => Ok(()),
+            Stage::Opening => {
+                self.learn(archive)?;
+                self.push_keys(archive, verdicts)
+            }
+            Stage::Reading => {
+                self.learn(archive)?;
+                self.go_on(archive, verdicts)
+            }
+            _ => self.learn(archive),
         }
     }
 
-    // The index learns, and where no file is left the keys go on.
+    // The index learns what commands tell it, and what is shown is made anew.
+    fn learn(&mut self, archive: &Archive) -> Result<(), NoMemory>
+        requires { CanLearn (map plain_letter archive.now.items) self.old }
+        ensures learns { OnOk result ((kept : List PlainJudged) → Becomes
+            (map plain_letter archive.now.items) kept spec.learning self.old self.new) }
+        ensures fits { OnOk result (Fits (map plain_letter archive.now.items) self.new) }
+        ensures stage { self.new.stage ≡ self.old.stage }
+        ensures window { self.new.window ≡ self.old.window }
+    {
+        self.core.catch_up(archive)?;
+        self.core.refresh(self.window, archive)?;
+        Ok(())
+    }
+
+    // Where no file is left, a message is shown that waited for it, and the keys go on.
     fn go_on(&mut self, archive: &Archive, verdicts: &mut Verdicts) -> Result<(), NoMemory>
         requires { Fits (map plain_letter archive.now.items) self.old }
         ensures on { OnOk result (Becomes (map plain_letter archive.now.items) verdicts.new.kept
@@ -239,10 +287,10 @@ impl Session {
         ensures window { self.new.window ≡ self.old.window }
         ensures kept { Keeps verdicts.old.kept verdicts.new.kept }
     {
-        self.core.catch_up(archive)?;
         if self.core.waits_for_file() {
             return Ok(());
         }
+        self.core.resume(self.window, archive)?;
         self.settle(archive, verdicts)
     }
 
@@ -250,7 +298,9 @@ impl Session {
     pub(crate) fn take_key(&mut self)
         ensures taken { (notes : Held (Held ℕ)) → spec.plain_session self.new notes
             ≡ spec.taken (spec.plain_session self.old notes) }
-        ensures rest { IsReadIn self.old self.new }
+        ensures fits { (mails : List Mail) → Fits mails self.old → Fits mails self.new }
+        ensures act { (mails : List Mail) → CanAct mails self.old → CanAct mails self.new }
+        ensures window { self.new.window ≡ self.old.window }
         ensures stage { self.old.stage ≡ Idle → self.new.stage ≡ Ready }
     {
         if let Stage::Idle = self.stage {
@@ -268,7 +318,7 @@ impl Session {
     ) -> Result<(), NoMemory>
         requires window { IsWindow self.old.window }
         requires moment { IsMoment moment.0 }
-        requires is_of { IsOf (map plain_letter archive.now.items) self.old.core.desk.view }
+        requires over { IsOver (map plain_letter archive.now.items) self.old.window self.old.core }
         ensures typed { OnOk result (Becomes (map plain_letter archive.now.items) verdicts.new.kept
             (λ given. spec.typed given key moment.0) self.old self.new) }
         ensures fits { OnOk result (Fits (map plain_letter archive.now.items) self.new) }
@@ -282,7 +332,7 @@ impl Session {
 
     // Lets the keys that wait act.
     fn settle(&mut self, archive: &Archive, verdicts: &mut Verdicts) -> Result<(), NoMemory>
-        requires { Fits (map plain_letter archive.now.items) self.old }
+        requires { CanAct (map plain_letter archive.now.items) self.old }
         ensures acting { OnOk result (Becomes (map plain_letter archive.now.items) verdicts.new.kept
             spec.acting self.old self.new) }
         ensures fits { OnOk result (Fits (map plain_letter archive.now.items) self.new) }
@@ -308,7 +358,7 @@ impl Session {
         requires fresh { IsFresh (map plain_letter archive.now.items) came.now.items }
         requires moment { IsMoment moment.0 }
         ensures opened { OnOk result ((notes : Held (Held ℕ)) → spec.plain_session self.new notes
-            ≡ spec.opened_by (map plain_letter archive.now.items) path.now.items kind moment.0
+            ≡ spec.found_by (map plain_letter archive.now.items) path.now.items kind moment.0
             came.now.items (spec.plain_session self.old notes)) }
         ensures fits { OnOk result (Fits (map plain_letter archive.now.items) self.new) }
         ensures window { self.new.window ≡ self.old.window }
@@ -323,31 +373,27 @@ impl Session {
         Ok(())
     }
 
-    /// Lets the keys act that commands have put, at the moment of the opening.
+    /// Behind the hooks of an opened folder the cursor is set, and the keys act that commands have
+    /// put, at the moment of the opening.
     pub(crate) fn push_keys(
         &mut self,
         archive: &Archive,
         verdicts: &mut Verdicts,
     ) -> Result<(), NoMemory>
         requires { Fits (map plain_letter archive.now.items) self.old }
-        ensures pushed { OnOk result (Becomes (map plain_letter archive.now.items) verdicts.new.kept
-            spec.pushed self.old self.new) }
+        ensures pushed { OnOk result (Becomes (map plain_letter archive.now.items)
+            verdicts.new.kept spec.pushed self.old self.new) }
         ensures fits { OnOk result (Fits (map plain_letter archive.now.items) self.new) }
         ensures window { self.new.window ≡ self.old.window }
         ensures kept { Keeps verdicts.old.kept verdicts.new.kept }
     {
+        if self.core.waits_for_file() {
+            self.stage = Stage::Opening;
+            return Ok(());
+        }
+        self.core.desk.begin();
         self.queue = KeyQueue::new(self.alloc);
         self.core.rules.put_into(&mut self.queue)?;
         self.settle(archive, verdicts)
-    }
-}
-
-fn first_file(frames: &[Frame]) -> Option<&Line>
-    ensures { MatchOption result (map plain_frame frames.now ≡ []) (λ file. (other : Wish)
-        → spec.file_wish (map plain_frame frames.now) other ≡ wish.Source file.now.items) }
-{
-    match frames.split_first() {
-        Some((frame, _)) => Some(&frame.file),
-        None => None,
     }
 }

@@ -2,26 +2,24 @@
 
 ghost use Rattle.std.specs.Prelude.{◌≡◌, ◌≢◌, ◌≤◌, ◌<◌, ◌^◌, ◌+◌, ℤ, None, List, [], nat_lt};
 ghost use Rattle.std.specs.Prelude.{IfOk, MatchOption, OnOk, length, map};
-ghost use Rattle.folder_letters.specs.Letters.{plain_letter};
-ghost use Rattle.index_view.specs.View.{IsOf};
+ghost use Rattle.folder_letters.specs.Letters.{Mail, plain_letter};
 ghost use Rattle.keymap.specs.Queue.{most_replacements};
 ghost use Rattle.people.specs.Judged.{PlainJudged};
-ghost use Rattle.session_index.specs.Desk.{plain_wanted};
 ghost use Rattle.session.specs.Answers.{granted};
-ghost use Rattle.session.specs.Core.{ground_of, plain_core};
+ghost use Rattle.session.specs.Core.{Ground, IsOver, ground_of, plain_core};
 ghost use Rattle.session_screen.specs.Window.{IsWindow};
 ghost use Rattle.session_state.specs.Instants.{IsMoment};
 ghost use Rattle.patterns.specs.Causes.{Keeps};
-ghost use Rattle.session.specs.Keys.{Steps, fuel, settled, turn_of};
-ghost use Rattle.session.specs.Keys.{stage_after as stage_after_press};
-ghost use Rattle.session_state.specs.declared.stage.Stage.TheVariants.{Reading};
+ghost use Rattle.session.specs.Keys.{Steps, Stops, fuel, settled, turn_of};
+ghost use Rattle.session.specs.Keys.{stage_after};
+ghost use Rattle.session_state.specs.declared.stage.Stage.TheVariants.{Idle, Reading};
 
 use crate::core_state::Core;
 use folder_core::Archive;
 use keymap::{KeyQueue, Press};
 use mail_base::NoMemory;
 use people::Verdicts;
-use session_index::Wanted;
+use session_index::{Notice, Wanted};
 use session_screen::Window;
 use session_state::{Moment, Stage};
 
@@ -36,10 +34,10 @@ pub fn settle(
 ) -> Result<Stage, NoMemory>
     requires window { IsWindow window }
     requires moment { IsMoment moment.0 }
-    requires is_of { IsOf (map plain_letter archive.now.items) core.old.desk.view }
+    requires over { IsOver (map plain_letter archive.now.items) window core.old }
     requires few { queue.old.replaced ≤ most_replacements }
     ensures keeps { Keeps verdicts.old.kept verdicts.new.kept }
-    ensures is_of { OnOk result (IsOf (map plain_letter archive.now.items) core.new.desk.view) }
+    ensures over { OnOk result (IsOver (map plain_letter archive.now.items) window core.new) }
     ensures few { OnOk result (queue.new.replaced ≤ most_replacements) }
     ensures settled { IfOk result (λ stage. (later : List PlainJudged)
         → Keeps verdicts.new.kept later
@@ -81,11 +79,11 @@ fn go_on(
 ) -> Result<Option<Stage>, NoMemory>
     requires window { IsWindow window }
     requires moment { IsMoment moment.0 }
-    requires is_of { IsOf (map plain_letter archive.now.items) core.old.desk.view }
+    requires over { IsOver (map plain_letter archive.now.items) window core.old }
     requires some { 0 < length (plain_core core.old).rules.put + length queue.old.items }
     requires few { queue.old.replaced ≤ most_replacements }
     ensures keeps { Keeps verdicts.old.kept verdicts.new.kept }
-    ensures is_of { OnOk result (IsOf (map plain_letter archive.now.items) core.new.desk.view) }
+    ensures over { OnOk result (IsOver (map plain_letter archive.now.items) window core.new) }
     ensures steps { IfOk result (λ stopped. (later : List PlainJudged)
         → Keeps verdicts.new.kept later → Steps stopped
         (ground_of (map plain_letter archive.now.items) later window moment.0)
@@ -95,35 +93,29 @@ fn go_on(
         → fuel queue.new < fuel queue.old) }
 {
     if core.rules.puts() > 0 {
-        return put_next(core, queue, window, archive);
+        return put_next(core, queue);
     }
     if core.desk.prompt.is_some() {
         return type_next(core, queue, window, moment, archive, verdicts);
     }
-    press_next(core, queue, window, archive)
+    press_next(core, queue, window, moment, archive, verdicts)
 }
 
 // The keys that a command has put stand first, or are one replacement too many.
-fn put_next(
-    core: &mut Core,
-    queue: &mut KeyQueue,
-    window: Window,
-    archive: &Archive,
-) -> Result<Option<Stage>, NoMemory>
-    requires window { IsWindow window }
-    requires is_of { IsOf (map plain_letter archive.now.items) core.old.desk.view }
+fn put_next(core: &mut Core, queue: &mut KeyQueue) -> Result<Option<Stage>, NoMemory>
     requires some { (plain_core core.old).rules.put ≢ [] }
     requires few { queue.old.replaced ≤ most_replacements }
-    ensures is_of { OnOk result (IsOf (map plain_letter archive.now.items) core.new.desk.view) }
-    ensures steps { IfOk result (λ stopped. (verdicts : List PlainJudged) → (moment : ℤ)
-        → Steps stopped (ground_of (map plain_letter archive.now.items) verdicts window moment)
+    ensures over { OnOk result ((mails : List Mail) → (window : Window)
+        → IsOver mails window core.old → IsOver mails window core.new) }
+    ensures steps { IfOk result (λ stopped. (g : Ground) → Steps stopped g
         (plain_core core.old) (plain_core core.new) queue.old queue.new) }
     ensures few { OnOk result (queue.new.replaced ≤ most_replacements) }
     ensures falls { IfOk result (λ stopped. stopped ≡ None → length queue.new.items < 2 ^ 64
         → fuel queue.new < fuel queue.old) }
 {
     if !queue.count_one() {
-        return drop_keys(core, queue, window, archive);
+        drop_keys(core, queue);
+        return Ok(Some(Stage::Idle));
     }
     match core.rules.take_put() {
         None => Ok(None),
@@ -135,28 +127,19 @@ fn put_next(
 }
 
 // Drops all keys where a further replacement would be one too many.
-fn drop_keys(
-    core: &mut Core,
-    queue: &mut KeyQueue,
-    window: Window,
-    archive: &Archive,
-) -> Result<Option<Stage>, NoMemory>
-    requires window { IsWindow window }
-    requires is_of { IsOf (map plain_letter archive.now.items) core.old.desk.view }
+fn drop_keys(core: &mut Core, queue: &mut KeyQueue)
     requires some { (plain_core core.old).rules.put ≢ [] }
     requires full { queue.old.replaced ≡ most_replacements }
-    ensures is_of { OnOk result (IsOf (map plain_letter archive.now.items) core.new.desk.view) }
-    ensures steps { IfOk result (λ stopped. (verdicts : List PlainJudged) → (moment : ℤ)
-        → Steps stopped (ground_of (map plain_letter archive.now.items) verdicts window moment)
-        (plain_core core.old) (plain_core core.new) queue.old queue.new) }
+    ensures over { (mails : List Mail) → (window : Window) → IsOver mails window core.old
+        → IsOver mails window core.new }
+    ensures dropped { (g : Ground) → turn_of Idle (plain_core core.new) queue.new
+        ≡ settled g (plain_core core.old) queue.old }
     ensures few { queue.new.replaced ≡ queue.old.replaced }
-    ensures stops { IfOk result (λ stopped. stopped ≢ None) }
 {
     core.rules.drop_puts();
     queue.clear();
-    core.act(window, archive, Press::Loop)?;
+    core.desk.say(Notice::MacroLoop);
     core.grant();
-    Ok(Some(Stage::Idle))
 }
 
 // The keys wait where a file is still to be read that commands have named.
@@ -166,6 +149,7 @@ fn wait_for_file(core: &mut Core) -> Option<Stage>
         (λ stage. (stage ≡ Reading) × ((plain_core core.old).frames ≢ [])
         × (plain_core core.new ≡ granted (plain_core core.old))) }
     ensures view { core.new.desk.view ≡ core.old.desk.view }
+    ensures rest { core.new ≡ record core.old { desk = core.new.desk } }
 {
     if core.frames.is_empty() {
         return None;
@@ -185,13 +169,13 @@ fn type_next(
 ) -> Result<Option<Stage>, NoMemory>
     requires window { IsWindow window }
     requires moment { IsMoment moment.0 }
-    requires is_of { IsOf (map plain_letter archive.now.items) core.old.desk.view }
+    requires over { IsOver (map plain_letter archive.now.items) window core.old }
     requires put { (plain_core core.old).rules.put ≡ [] }
     requires prompt { (plain_core core.old).desk.prompt ≢ None }
     requires some { 0 < length queue.old.items }
     requires few { queue.old.replaced ≤ most_replacements }
     ensures keeps { Keeps verdicts.old.kept verdicts.new.kept }
-    ensures is_of { OnOk result (IsOf (map plain_letter archive.now.items) core.new.desk.view) }
+    ensures over { OnOk result (IsOver (map plain_letter archive.now.items) window core.new) }
     ensures steps { IfOk result (λ stopped. (later : List PlainJudged)
         → Keeps verdicts.new.kept later → Steps stopped
         (ground_of (map plain_letter archive.now.items) later window moment.0)
@@ -213,38 +197,44 @@ fn press_next(
     core: &mut Core,
     queue: &mut KeyQueue,
     window: Window,
+    moment: Moment,
     archive: &Archive,
+    verdicts: &mut Verdicts,
 ) -> Result<Option<Stage>, NoMemory>
     requires window { IsWindow window }
-    requires is_of { IsOf (map plain_letter archive.now.items) core.old.desk.view }
+    requires moment { IsMoment moment.0 }
+    requires over { IsOver (map plain_letter archive.now.items) window core.old }
     requires put { (plain_core core.old).rules.put ≡ [] }
     requires prompt { (plain_core core.old).desk.prompt ≡ None }
     requires few { queue.old.replaced ≤ most_replacements }
-    ensures is_of { OnOk result (IsOf (map plain_letter archive.now.items) core.new.desk.view) }
-    ensures steps { IfOk result (λ stopped. (verdicts : List PlainJudged) → (moment : ℤ)
-        → Steps stopped (ground_of (map plain_letter archive.now.items) verdicts window moment)
+    ensures keeps { Keeps verdicts.old.kept verdicts.new.kept }
+    ensures over { OnOk result (IsOver (map plain_letter archive.now.items) window core.new) }
+    ensures steps { IfOk result (λ stopped. (later : List PlainJudged)
+        → Keeps verdicts.new.kept later → Steps stopped
+        (ground_of (map plain_letter archive.now.items) later window moment.0)
         (plain_core core.old) (plain_core core.new) queue.old queue.new) }
     ensures few { OnOk result (queue.new.replaced ≤ most_replacements) }
     ensures falls { IfOk result (λ stopped. stopped ≡ None → length queue.new.items < 2 ^ 64
         → fuel queue.new < fuel queue.old) }
 {
-    let shown = core.menu();
+    let shown = core.reader.menu();
     let press = core.rules.press(shown, queue)?;
-    core.act(window, archive, press)?;
-    let stopped = stage_after(press, &core.desk.wanted);
-    if stopped.is_some() {
-        core.grant();
-    }
-    Ok(stopped)
+    core.act(window, moment, archive, verdicts, press)?;
+    Ok(stop_behind(core, press))
 }
 
-// Where the keys stop, if they do.
-fn stage_after(press: Press, wanted: &Wanted) -> Option<Stage>
-    ensures { result ≡ stage_after_press press (plain_wanted wanted.now) }
+// Stops the keys behind an answer, if something does: it ends them, or a file is to be read.
+fn stop_behind(core: &mut Core, press: Press) -> Option<Stage>
+    ensures stops { Stops (stage_after press (plain_core core.old).desk.wanted) result
+        (plain_core core.old) (plain_core core.new) }
+    ensures rest { core.new ≡ record core.old { desk = core.new.desk } }
+    ensures view { core.new.desk.view ≡ core.old.desk.view }
 {
-    match (press, wanted) {
-        (Press::Wait | Press::Loop, _) => Some(Stage::Idle),
-        (_, Wanted::ToEnd) => Some(Stage::Over),
-        (_, _) => None,
-    }
+    let stage = match (press, &core.desk.wanted) {
+        (Press::Wait | Press::Loop, _) => Stage::Idle,
+        (_, Wanted::ToEnd) => Stage::Over,
+        (_, _) => return wait_for_file(core),
+    };
+    core.grant();
+    Some(stage)
 }

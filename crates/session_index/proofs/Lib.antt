@@ -7,3 +7,4 @@ pub mod IndexLemmas
 pub mod SearchLemmas
 pub mod DeskLemmas
 mod JoinedLemmas
+mod ViewingLemmas

@@ -1,5 +1,7 @@
 -- What answers to prompts do.
-use Rattle.std.specs.Prelude.{[], ◌∷◌, ℕ, List, Option, None, Some, if◌then◌else◌, ◌==◌}
+use Rattle.std.specs.Prelude.{[], ◌∷◌, ◌||◌, ℕ, Bool, List, Option, None, Some, codes, length}
+use Rattle.std.specs.Prelude.{if◌then◌else◌, ◌==◌}
+use Rattle.std.specs.Str.{bytes_eq}
 use Rattle.folder_letters.specs.Letters.{Mail}
 use Rattle.mail_base.specs.declared.kind.Id.{Id}
 use Rattle.index_view.specs.Answers.{picked}
@@ -27,6 +29,10 @@ matching mails pattern i =
 -- this is done to all that a pattern finds
 abbrev pub done_matching : List Mail → Act → PlainPattern → PlainDesk → PlainDesk
 done_matching mails act pattern d = done_to mails act (matching mails pattern d.index) d
+
+-- a text takes the limit away
+abbrev pub is_no_limit : List ℕ → Bool
+is_no_limit text = (length text == 0) || bytes_eq text (codes "all")
 
 -- another limit, or none
 abbrev pub limited : List Mail → Option PlainPattern → PlainDesk → PlainDesk

@@ -13,12 +13,15 @@ use Rattle.session_index.specs.declared.message.Message.TheVariants.{Blank, Says
 use Rattle.session_index.specs.declared.wanted.Wanted.{Wanted}
 use Rattle.session_index.specs.declared.wanted.Wanted.TheVariants as wanted
 
--- what keys want of the outside: nothing, that the run ends, or that an answer to a prompt is taken
+-- what keys want of the outside: nothing, that the run ends, that an answer to a prompt is taken,
+-- that the cursor's message is shown, or that its parts are listed
 pub data PlainWanted : Type 0 where
   Unasked : PlainWanted
   ToEnd : PlainWanted
   ToAnswer : (asking : Asking) → (text : List ℕ) → PlainWanted
   ToChoose : (asking : Asking) → (choice : ℕ) → PlainWanted
+  ToDisplay : PlainWanted
+  ToList : PlainWanted
 
 -- what keys act on, without the rooms of its lists
 pub record PlainDesk : Type 0 where
@@ -42,6 +45,8 @@ plain_wanted wanted.Unasked = Unasked
 plain_wanted wanted.ToEnd = ToEnd
 plain_wanted (wanted.ToAnswer asking text) = ToAnswer asking text.items
 plain_wanted (wanted.ToChoose asking choice) = ToChoose asking choice
+plain_wanted wanted.ToDisplay = ToDisplay
+plain_wanted wanted.ToList = ToList
 
 -- a desk as contracts see it
 abbrev pub plain_desk : Desk → PlainDesk

@@ -10,7 +10,7 @@ use Rattle.index_listed.specs.Cursor.{is_seen}
 use Rattle.patterns_match.specs.Pattern.{PlainPattern}
 use Rattle.index_view.specs.View.{messages_over}
 use Rattle.session_index.specs.Acts.{acted_all}
-use Rattle.session_index.specs.Desk.{PlainDesk, ToEnd}
+use Rattle.session_index.specs.Desk.{PlainDesk, ToDisplay, ToEnd, ToList}
 use Rattle.session_index.specs.Folding.{all_folded, thread_folded}
 use Rattle.session_index.specs.Functions.{effects_of, needs_message, writes}
 use Rattle.session_index.specs.Index.{PlainIndex, answers_of, seen_of}
@@ -129,6 +129,8 @@ run_effect rule mails effect.TurnWriting d = record d { read_only = not d.read_o
 run_effect rule mails (effect.Ask asking) d = asked asking d
 run_effect rule mails (effect.Say notice) d = said notice d
 run_effect rule mails effect.End d = record d { wanted = ToEnd }
+run_effect rule mails effect.Display d = record d { wanted = ToDisplay }
+run_effect rule mails effect.ListParts d = record d { wanted = ToList }
 
 -- effects, one after the other
 abbrev pub run_effects : Rule → List Mail → List Effect → PlainDesk → PlainDesk
@@ -166,3 +168,5 @@ IsPut effect.TurnWriting = Unit {0}
 IsPut (effect.Ask asking) = Unit {0}
 IsPut (effect.Say notice) = Unit {0}
 IsPut effect.End = Unit {0}
+IsPut effect.Display = Unit {0}
+IsPut effect.ListParts = Unit {0}

@@ -11,7 +11,7 @@ use Rattle.session_index.specs.declared.effect.Effect.TheVariants.{Move, Do, Tag
 use Rattle.session_index.specs.declared.effect.Effect.TheVariants.{FoldAll, Resolve, StepOn}
 use Rattle.session_index.specs.declared.effect.Effect.TheVariants.{SearchAgain, BeginPrefix}
 use Rattle.session_index.specs.declared.effect.Effect.TheVariants.{DropPrefix, TurnWriting, Ask}
-use Rattle.session_index.specs.declared.effect.Effect.TheVariants.{Say, End}
+use Rattle.session_index.specs.declared.effect.Effect.TheVariants.{Say, End, Display, ListParts}
 use Rattle.session_index.specs.declared.effect.Scope.TheVariants.{Meant, Cursor, Thread}
 use Rattle.session_index.specs.declared.motion.Motion.TheVariants as motion
 use Rattle.session_index.specs.declared.notice.Notice.TheVariants as notice
@@ -52,6 +52,8 @@ effects_of f.SetFlag = Ask asking.SetFlag ∷ []
 effects_of f.ClearFlag = Ask asking.ClearFlag ∷ []
 effects_of f.CollapseThread = Fold ∷ DropPrefix ∷ []
 effects_of f.CollapseAll = FoldAll ∷ DropPrefix ∷ []
+effects_of f.DisplayMessage = DropPrefix ∷ Display ∷ []
+effects_of f.ViewAttachments = DropPrefix ∷ ListParts ∷ []
 effects_of f.EnterCommand = DropPrefix ∷ Ask asking.Command ∷ []
 effects_of f.DisplayToggleWeed = DropPrefix ∷ []
 effects_of f.ToggleWrite = TurnWriting ∷ DropPrefix ∷ []
@@ -87,6 +89,8 @@ needs_message f.ToggleNew = true
 needs_message f.SetFlag = true
 needs_message f.ClearFlag = true
 needs_message f.CollapseThread = true
+needs_message f.DisplayMessage = true
+needs_message f.ViewAttachments = true
 needs_message _ = false
 
 -- the function changes what a folder holds

@@ -12,6 +12,8 @@ pub mod Desk
 pub mod Effects
 pub mod Answering
 pub mod Typing
+pub mod LastLine
 pub mod Opening
+pub mod Viewing
 pub mod Staying
 pub mod Hiding

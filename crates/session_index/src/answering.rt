@@ -14,6 +14,13 @@ use mail_base::NoMemory;
 use patterns_match::Pattern;
 use prompts::Asking;
 
+/// Whether a text takes the limit away.
+pub fn is_no_limit(text: &[u8]) -> bool
+    ensures { result ≡ spec.is_no_limit text.now }
+{
+    text.is_empty() || text == b"all".as_slice()
+}
+
 impl Desk {
     ghost use Rattle.std.specs.Prelude.{◌≡◌, ◌<◌, map, option_map, OnOk};
     ghost use Rattle.folder_letters.specs.Letters.{plain_letter};

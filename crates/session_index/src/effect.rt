@@ -37,4 +37,8 @@ pub enum Effect {
     Ask(Asking),
     Say(Notice),
     End,
+    /// The cursor's message is to be shown.
+    Display,
+    /// The parts of the cursor's message are to be listed.
+    ListParts,
 }

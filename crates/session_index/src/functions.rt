@@ -62,6 +62,8 @@ pub fn effects_of(function: Function) -> &'static [Effect]
         Function::ClearFlag => &[Effect::Ask(Asking::ClearFlag)],
         Function::CollapseThread => &[Effect::Fold, Effect::DropPrefix],
         Function::CollapseAll => &[Effect::FoldAll, Effect::DropPrefix],
+        Function::DisplayMessage => &[Effect::DropPrefix, Effect::Display],
+        Function::ViewAttachments => &[Effect::DropPrefix, Effect::ListParts],
         Function::EnterCommand => &[Effect::DropPrefix, Effect::Ask(Asking::Command)],
         Function::ToggleWrite => &[Effect::TurnWriting, Effect::DropPrefix],
         Function::Quit | Function::Exit => &[Effect::End],
@@ -101,6 +103,8 @@ pub fn needs_message(function: Function) -> bool
             | Function::SetFlag
             | Function::ClearFlag
             | Function::CollapseThread
+            | Function::DisplayMessage
+            | Function::ViewAttachments
     )
 }
 

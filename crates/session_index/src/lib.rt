@@ -1,5 +1,5 @@
 //! What functions do to the index of a session: where motions of the cursor lead, what is done to
-//! which messages, searches, and answers to prompts.
+//! which messages, searches, answers to prompts, and what a pager asks of it.
 #![tactic(auto)]
 
 mod acting;
@@ -9,6 +9,7 @@ mod effect;
 mod folding;
 mod functions;
 mod hiding;
+mod last_line;
 mod message;
 mod motion;
 mod neighbours;
@@ -22,10 +23,12 @@ mod searching;
 mod sought;
 mod staying;
 mod typing;
+mod viewing;
 mod wanted;
 mod way;
 mod ways;
 
+pub use answering::is_no_limit;
 pub use desk::Desk;
 pub use effect::{Effect, Scope};
 pub use message::Message;

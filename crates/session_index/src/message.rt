@@ -10,3 +10,19 @@ pub enum Message {
     Says(Notice),
     Text(Line),
 }
+
+impl Message {
+    ghost use Rattle.std.specs.Prelude.{◌≡◌};
+    ghost use Rattle.session_index.specs.Desk.{message_text};
+
+    /// The text of the last line where no prompt stands.
+    pub fn text(&self) -> &str
+        ensures { result.now ≡ message_text self.now }
+    {
+        match self {
+            Message::Blank => "",
+            Message::Says(notice) => notice.text(),
+            Message::Text(line) => line.as_str(),
+        }
+    }
+}

@@ -213,6 +213,8 @@ impl Desk {
             Effect::Ask(asking) => self.ask(asking),
             Effect::Say(notice) => self.say(notice),
             Effect::End => self.wanted = Wanted::ToEnd,
+            Effect::Display => self.wanted = Wanted::ToDisplay,
+            Effect::ListParts => self.wanted = Wanted::ToList,
             _ => {}
         }
     }
@@ -247,7 +249,7 @@ impl Desk {
     }
 
     // Whether a function speaks of a message where none is seen.
-    fn lacks_message(&self, function: Function) -> bool
+    pub(crate) fn lacks_message(&self, function: Function) -> bool
         ensures { (mails : List Mail) → IsOf mails self.now.view → result ≡ (needs_message function
             && (length (seen_of mails (index_of self.now.view)) == 0)) }
     {

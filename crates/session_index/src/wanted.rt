@@ -13,4 +13,8 @@ pub enum Wanted {
     ToAnswer(Asking, Line),
     /// A key was answered to a prompt of one key.
     ToChoose(Asking, char),
+    /// The cursor's message is to be shown.
+    ToDisplay,
+    /// Its parts are to be listed.
+    ToList,
 }

@@ -2,6 +2,8 @@ pub mod Window
 pub mod Places
 pub mod Tuning
 pub mod Sorting
+pub mod Toggling
 pub mod Formats
 pub mod Status
 pub mod Screen
+pub mod PagerStatus

@@ -1,18 +1,22 @@
-//! What the settings say of folders and of the index, and what its screen shows: `page_lines` and
-//! `status_line`.
+//! What the settings say of folders and of the index, and what the screen shows of it:
+//! `page_lines`, `status_line`, and `pager_line` of a message.
 #![tactic(auto)]
 
 mod formats;
 mod page;
+mod pager_status;
 mod places;
 mod sorting;
 mod status;
+mod toggling;
 mod tuning;
 mod window;
 
 pub use page::page_lines;
+pub use pager_status::pager_line;
 pub use places::{folder_path, new_kind};
 pub use sorting::sort_words;
 pub use status::{Banner, Place, status_line};
+pub use toggling::toggle_words;
 pub use tuning::{is_set, options_of};
 pub use window::Window;

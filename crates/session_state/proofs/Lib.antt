@@ -1,4 +1,3 @@
-mod CommandsLemmas
 mod DateLemmas
 mod ReadingLemmas
 mod ExprLemmas

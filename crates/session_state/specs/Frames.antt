@@ -1,11 +1,12 @@
 -- Files of commands, each inside of the one that names it, and what they make of the rules.
-use Rattle.std.specs.Prelude.{◌+◌, ◌<◌, ℕ, Bool, false, List, [], ◌∷◌, Option, Some, None, true}
-use Rattle.std.specs.Prelude.{Result}
-use Rattle.std.specs.Prelude.{Ok, Err}
-use Rattle.std.specs.Prelude.{drop, map, nat_lt, if◌then◌else◌, Vec}
+use Rattle.std.specs.Prelude.{◌+◌, ◌<◌, ◌++◌, ℕ, Bool, false, List, [], ◌∷◌, Option, Some, None}
+use Rattle.std.specs.Prelude.{true, Result, Ok, Err, codes, drop, map, nat_lt, if◌then◌else◌, Vec}
 use Rattle.std.specs.declared.alloc.Global.{Global}
 use Rattle.disk_model.specs.declared.answers.DiskError.{DiskError}
 use Rattle.disk_model.specs.declared.answers.DiskError.TheVariants as disk
+use Rattle.hook_requests.specs.Places.{CommandPlace}
+use Rattle.hooks.specs.Hooks.{PlainCommand}
+use Rattle.mail_base.specs.Shown.{utf8_text}
 use Rattle.people.specs.Judged.{PlainJudged}
 use Rattle.rc_lang.specs.Settings.{fault_of}
 use Rattle.rc_lang_words.specs.Faults.{Fault}
@@ -17,8 +18,8 @@ use Rattle.session_state.specs.declared.commands.Obeyed.{Obeyed}
 use Rattle.session_state.specs.declared.commands.Obeyed.TheVariants.{Answered, Refused}
 use Rattle.session_state.specs.declared.frame.Frame.{Frame}
 use Rattle.session_state.specs.declared.frame.Origin.{Origin}
-use Rattle.session_state.specs.declared.frame.Origin.TheVariants.{Asked, Default, Named, Prompt}
-use Rattle.session_state.specs.declared.frame.Origin.TheVariants.{Typed}
+use Rattle.session_state.specs.declared.frame.Origin.TheVariants.{Asked, Default, Hook, Named}
+use Rattle.session_state.specs.declared.frame.Origin.TheVariants.{Prompt}
 use Rattle.session_state.specs.Commands.{PlainAnswer, Quiet, Ran, ToRead, ToShow, ran, refused}
 use Rattle.session_state.specs.Rules.{PlainRules}
 use Rattle.session_state.specs.Told.{PlainTold, answer_told, fault_told, line_number, plain_told}
@@ -73,14 +74,20 @@ with_text text frame = with_left (lines_of text) frame
 
 -- Commands, one after the other.
 
--- a command as it was read
-abbrev pub ran_read : Instant → List PlainJudged → Option RcFault → PlainLine → PlainRules → Ran
-ran_read time verdicts None line rules = ran time verdicts line.words rules
-ran_read time verdicts (Some fault) line rules = refused (fault_of fault []) rules
+-- the file and the line under which a command of a file stands
+abbrev pub command_place : Place → ℕ → CommandPlace
+command_place place line =
+    record { file = place.file; line = line_number place.origin line }
 
--- a line of a file is run
-abbrev pub ran_line : Instant → List PlainJudged → PlainLine → PlainRules → Ran
-ran_line time verdicts line rules = ran_read time verdicts line.fault line rules
+-- a command as it was read
+abbrev pub ran_read : Instant → List PlainJudged → CommandPlace → Option RcFault → PlainLine
+    → PlainRules → Ran
+ran_read time verdicts at None line rules = ran time verdicts at line.words rules
+ran_read time verdicts at (Some fault) line rules = refused (fault_of fault []) rules
+
+-- a line of a file is run, which stands there
+abbrev pub ran_line : Instant → List PlainJudged → CommandPlace → PlainLine → PlainRules → Ran
+ran_line time verdicts at line rules = ran_read time verdicts at line.fault line rules
 
 -- a file that is nested too deep is not read
 abbrev pub judged : ℕ → Result PlainAnswer Fault → Result PlainAnswer Fault
@@ -114,9 +121,9 @@ abbrev pub file_run : Instant → List PlainJudged → Place → List PlainLine 
 file_run time verdicts place [] rules told =
     record { rules = rules; told = told; left = []; source = None }
 file_run time verdicts place (line ∷ lines) rules told =
-    behind_line place line.line lines (file_run time verdicts place lines)
-    (ran_line time verdicts line rules).rules told
-    (judged place.depth (ran_line time verdicts line rules).answer)
+    let came = ran_line time verdicts (command_place place line.line) line rules in
+    behind_line place line.line lines (file_run time verdicts place lines) came.rules told
+    (judged place.depth came.answer)
 
 -- Files, the one that is read now first.
 
@@ -128,11 +135,8 @@ pub record Script : Type 0 where
 
 -- where a file comes from that is named there
 abbrev pub inner_origin : Origin → Origin
-inner_origin Default = Named
-inner_origin Named = Named
-inner_origin Typed = Named
 inner_origin Prompt = Asked
-inner_origin Asked = Named
+inner_origin _ = Named
 
 -- behind a file those around it, unless it names one
 abbrev pub behind_file : Place → List PlainFrame → (PlainRules → PlainTold → Script) → Half
@@ -168,13 +172,29 @@ frames_run time verdicts (frame ∷ frames) rules told =
 
 -- what was typed at the prompt `:`
 abbrev pub prompt_frame : List ℕ → PlainFrame
-prompt_frame text = with_text text (unread [] Prompt 0)
+prompt_frame text = with_text text (unread (codes ":") Prompt 0)
 
 -- commands were typed, which stand before these files
 abbrev pub typed_script : Instant → List PlainJudged → List ℕ → List PlainFrame → PlainRules
     → PlainTold → Script
 typed_script time verdicts text frames rules told =
     frames_run time verdicts (prompt_frame text ∷ frames) rules told
+
+-- a command that a folder hook gives, under the place where that was given
+abbrev pub hook_frame : PlainCommand → PlainFrame
+hook_frame hook = with_text hook.command (unread (utf8_text hook.file) (Hook hook.line) 0)
+
+-- commands that folder hooks give were run, which stand before these files
+abbrev pub hooked_script : Instant → List PlainJudged → List PlainCommand → List PlainFrame
+    → PlainRules → PlainTold → Script
+hooked_script time verdicts commands frames rules told =
+    frames_run time verdicts (map hook_frame commands ++ frames) rules told
+
+-- commands that message hooks give were run as though they were typed
+abbrev pub displaying_script : Instant → List PlainJudged → List (List ℕ) → List PlainFrame
+    → PlainRules → PlainTold → Script
+displaying_script time verdicts texts frames rules told =
+    frames_run time verdicts (map prompt_frame texts ++ frames) rules told
 
 -- What was read, or not.
 

@@ -5,6 +5,9 @@ pub mod Beginning
 pub mod Instants
 pub mod Days
 pub mod Lessons
+pub mod Exprs
 pub mod Scoring
+pub mod FolderHooks
+pub mod PatternHooks
 pub mod Codes
 pub mod Told

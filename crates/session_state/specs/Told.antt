@@ -6,8 +6,7 @@ use Rattle.mail_base.specs.Shown.{utf8_text}
 use Rattle.rc_lang.specs.Settings.{plain_shown}
 use Rattle.rc_lang_words.specs.Faults.{Fault, fault_text}
 use Rattle.session_state.specs.declared.frame.Origin.{Origin}
-use Rattle.session_state.specs.declared.frame.Origin.TheVariants.{Asked, Default, Named, Prompt}
-use Rattle.session_state.specs.declared.frame.Origin.TheVariants.{Typed}
+use Rattle.session_state.specs.declared.frame.Origin.TheVariants.{Asked, Hook, Prompt, Typed}
 use Rattle.session_state.specs.declared.told.Told.{Told}
 
 -- the lines for the fault stream, and what the last line shows, if that changes
@@ -25,13 +24,12 @@ nothing_told = record { notes = []; shown = None }
 
 -- On the fault stream.
 
--- a command of the command line has line 1
+-- the line under which a command stands: what is typed has line 1, and a hook that of its own
 abbrev pub line_number : Origin → ℕ → ℕ
-line_number Default line = line
-line_number Named line = line
 line_number Typed line = 1
-line_number Prompt line = line
-line_number Asked line = line
+line_number Prompt line = 1
+line_number (Hook given) line = given
+line_number _ line = line
 
 -- what is told of a faulty command: FILE:LINE: CAUSE
 abbrev pub note_of : List ℕ → ℕ → Fault → List ℕ
@@ -57,24 +55,16 @@ fault_shown fault told = showing (utf8_text (fault_text fault)) told
 
 -- the line that a command answers is shown where it was typed
 abbrev pub answer_told : Origin → List ℕ → PlainTold → PlainTold
-answer_told Default line told = told
-answer_told Named line told = told
-answer_told Typed line told = told
 answer_told Prompt line told = showing line told
-answer_told Asked line told = told
+answer_told _ line told = told
 
 -- a faulty command on a line of this file
 abbrev pub fault_told : Origin → List ℕ → ℕ → Fault → PlainTold → PlainTold
-fault_told Default file line fault told = noted file line fault told
-fault_told Named file line fault told = noted file line fault told
-fault_told Typed file line fault told = noted file line fault told
 fault_told Prompt file line fault told = fault_shown fault told
-fault_told Asked file line fault told = noted file line fault told
+fault_told _ file line fault told = noted file line fault told
 
 -- this file was not read, which has no line
 abbrev pub unread_told : Origin → List ℕ → Fault → PlainTold → PlainTold
-unread_told Default file fault told = noted file 0 fault told
-unread_told Named file fault told = noted file 0 fault told
-unread_told Typed file fault told = noted file 0 fault told
 unread_told Prompt file fault told = fault_shown fault told
 unread_told Asked file fault told = fault_shown fault told
+unread_told _ file fault told = noted file 0 fault told

@@ -11,11 +11,14 @@ ghost use Rattle.patterns_match.specs.ScoreEntries.{held_entry};
 ghost use Rattle.rc_lang.specs.Settings.{plain_names};
 ghost use Rattle.rc_lang_words.specs.Faults.{no_memory, plain_error};
 
+use crate::folder_hook::add_folder_hook;
 use crate::instant::Instant;
 use crate::lesson::{self, Lesson};
-use crate::request::{BindRequest, MacroRequest, calls_of, key_text, word_at};
+use crate::pattern_hook::pattern_in;
 use crate::rules::Rules;
 use crate::scoring;
+use hook_requests::{CommandPlace, HookTable, HookWords, WeedList, add_pattern_hook, joined};
+use key_requests::{BindRequest, MacroRequest, calls_of, key_text, word_at};
 use keymap::{Keymap, Keys};
 use mail_base::{Bytes, Line, NoMemory, Words, append_utf8};
 use patterns_match::{MOST_SCORES, ScoreEntry};
@@ -49,15 +52,23 @@ impl Rules {
     ghost use Rattle.people.specs.Judged.{PlainJudged};
     ghost use Rattle.session_state.specs.Commands as spec;
     ghost use Rattle.patterns_match.specs.ScoreEntries.{held_entry};
+    ghost use Rattle.session_state.specs.Exprs.{IsLent};
+    ghost use Rattle.session_state.specs.FolderHooks.{with_folder_hook};
     ghost use Rattle.session_state.specs.Instants.{IsInstant};
-    ghost use Rattle.session_state.specs.Lessons.{IsLent, people_of, plain_lesson};
+    ghost use Rattle.session_state.specs.Lessons.{people_of, plain_lesson};
+    ghost use Rattle.session_state.specs.PatternHooks.{with_pattern_hook};
     ghost use Rattle.session_state.specs.Scoring.{value_of};
+    ghost use Rattle.hook_requests.specs.HookWords.{hook_words};
+    ghost use Rattle.hook_requests.specs.Places.{plain_place};
+    ghost use Rattle.key_requests.specs.Requests as key_spec;
+    ghost use Rattle.key_requests.specs.Requests.{word_at as word_of};
 
     /// Runs a command by its words. The words of a `set` before a faulty one stay applied; else a
     /// command that is refused changes nothing.
     pub fn run(
         &mut self,
         time: Instant,
+        place: CommandPlace<'_>,
         words: &RcWords,
         verdicts: &mut Verdicts,
     ) -> Result<Obeyed, NoMemory>
@@ -67,9 +78,9 @@ impl Rules {
             → Keeps verdicts.new.kept later → record {
               rules = self.new;
               answer = spec.plain_obeyed obeyed;
-            } ≡ spec.ran time later (plain_words words.now) self.old) }
+            } ≡ spec.ran time later (plain_place place.entry) (plain_words words.now) self.old) }
     {
-        match self.obey(time, words, verdicts) {
+        match self.obey(time, place, words, verdicts) {
             Ok(answer) => Ok(Obeyed::Answered(answer)),
             Err(error) => refusal(error),
         }
@@ -79,22 +90,25 @@ impl Rules {
     fn obey(
         &mut self,
         time: Instant,
+        place: CommandPlace<'_>,
         words: &RcWords,
         verdicts: &mut Verdicts,
     ) -> Result<Answer, RcError>
         requires { IsInstant time }
         ensures keeps { Keeps verdicts.old.kept verdicts.new.kept }
         ensures ran { (later : List PlainJudged) → Keeps verdicts.new.kept later
-            → spec.IsRan result self.new (spec.ran time later (plain_words words.now) self.old) }
+            → spec.IsRan result self.new
+            (spec.ran time later (plain_place place.entry) (plain_words words.now) self.old) }
     {
         let command = self.settings.read_command(self.alloc, words)?;
         let texts = self.settings.expand(self.alloc, words)?;
-        self.carry_out(time, command, &texts, verdicts)
+        self.carry_out(time, place, command, &texts, verdicts)
     }
 
     fn carry_out(
         &mut self,
         time: Instant,
+        place: CommandPlace<'_>,
         command: Command,
         words: &Words,
         verdicts: &mut Verdicts,
@@ -103,7 +117,8 @@ impl Rules {
         ensures keeps { Keeps verdicts.old.kept verdicts.new.kept }
         ensures ran { (later : List PlainJudged) → Keeps verdicts.new.kept later
             → spec.IsRan result self.new
-            (spec.obeyed time later command (plain_texts words.now) self.old) }
+            (spec.obeyed time later (plain_place place.entry) command (plain_texts words.now)
+            self.old) }
     {
         match command {
             Command::Set | Command::Unset | Command::Toggle | Command::Reset => self.set(words),
@@ -118,6 +133,12 @@ impl Rules {
             Command::Alias => self.alias(words),
             Command::Score => self.score(time, words, verdicts),
             Command::Unscore => self.unscore(words),
+            Command::Ignore => self.add_weeds(WeedList::Hidden, words),
+            Command::Unignore => self.add_weeds(WeedList::Shown, words),
+            Command::HdrOrder => self.add_weeds(WeedList::Order, words),
+            Command::FolderHook => self.folder_hook(place, words, verdicts),
+            Command::MessageHook => self.pattern_hook(HookTable::Messages, time, words, verdicts),
+            Command::SaveHook => self.pattern_hook(HookTable::Saves, time, words, verdicts),
             _ => Ok(Answer::Quiet),
         }
     }
@@ -151,7 +172,7 @@ impl Rules {
 
     fn bind(&mut self, words: &Words) -> Result<Answer, RcError>
         ensures { spec.IsRan result self.new
-            (spec.bound_by (spec.bind_of (plain_texts words.now)) self.old) }
+            (spec.bound_by (key_spec.bind_of (plain_texts words.now)) self.old) }
     {
         let request = BindRequest::read(self.alloc, words)?;
         match bind_all(&mut self.keymap, &request) {
@@ -162,7 +183,7 @@ impl Rules {
 
     fn bind_macro(&mut self, words: &Words) -> Result<Answer, RcError>
         ensures { spec.IsRan result self.new
-            (spec.replaced_by (spec.macro_of (plain_texts words.now)) self.old) }
+            (spec.replaced_by (key_spec.macro_of (plain_texts words.now)) self.old) }
     {
         let request = MacroRequest::read(self.alloc, words)?;
         match replace_all(&mut self.keymap, &request) {
@@ -173,7 +194,7 @@ impl Rules {
 
     fn push(&mut self, words: &Words) -> Result<Answer, RcError>
         ensures { spec.IsRan result self.new
-            (spec.put_by (spec.text_of (spec.word_at (plain_texts words.now) 1)) self.old) }
+            (spec.put_by (key_spec.text_of (word_of (plain_texts words.now) 1)) self.old) }
     {
         let keys = key_text(self.alloc, word_at(words, 1))?;
         self.put_keys(keys)
@@ -181,7 +202,7 @@ impl Rules {
 
     fn exec(&mut self, words: &Words) -> Result<Answer, RcError>
         ensures { spec.IsRan result self.new
-            (spec.put_by (spec.calls_of (drop 1 (plain_texts words.now))) self.old) }
+            (spec.put_by (key_spec.calls_of (drop 1 (plain_texts words.now))) self.old) }
     {
         let names = words.as_slice().get(1..).unwrap_or(&[]);
         let keys = calls_of(self.alloc, names)?;
@@ -248,8 +269,8 @@ impl Rules {
         ensures keeps { Keeps verdicts.old.kept verdicts.new.kept }
         ensures ran { (later : List PlainJudged) → Keeps verdicts.new.kept later
             → spec.IsRan result self.new (spec.scored_by time later
-            (spec.word_at (plain_texts words.now) 1) (spec.word_at (plain_texts words.now) 2)
-            (value_of (spec.word_at (plain_texts words.now) 2)) self.old) }
+            (word_of (plain_texts words.now) 1) (word_of (plain_texts words.now) 2)
+            (value_of (word_of (plain_texts words.now) 2)) self.old) }
     {
         let word = word_at(words, 2);
         match scoring::value_of(word) {
@@ -284,9 +305,64 @@ impl Rules {
         }
     }
 
+    // Adds the words at the end of a list of names of fields.
+    fn add_weeds(&mut self, list: WeedList, words: &Words) -> Result<Answer, RcError>
+        ensures { spec.IsRan result self.new
+            (spec.weeded_by list (drop 1 (plain_texts words.now)) self.old) }
+    {
+        let names = words.as_slice().get(1..).unwrap_or(&[]);
+        match self.weeds.add(self.alloc, list, names) {
+            Ok(()) => Ok(Answer::Quiet),
+            Err(NoMemory) => Err(RcError::no_memory(self.alloc)),
+        }
+    }
+
+    // Adds a hook for folders, which is given at a place.
+    fn folder_hook(
+        &mut self,
+        place: CommandPlace<'_>,
+        words: &Words,
+        verdicts: &mut Verdicts,
+    ) -> Result<Answer, RcError>
+        requires { IsLent verdicts.old.kept }
+        ensures keeps { Keeps verdicts.old.kept verdicts.new.kept }
+        ensures ran { (later : List PlainJudged) → Keeps verdicts.new.kept later
+            → spec.IsRan result self.new (spec.hooked_by (with_folder_hook later
+            (plain_place place.entry) (hook_words (drop 1 (plain_texts words.now))) self.old.hooks)
+            self.old) }
+    {
+        let names = words.as_slice().get(1..).unwrap_or(&[]);
+        match add_folder_hook(self.alloc, &mut self.hooks, place, names, verdicts) {
+            Ok(()) => Ok(Answer::Quiet),
+            Err(error) => Err(error),
+        }
+    }
+
+    // Adds a hook for messages to a list.
+    fn pattern_hook(
+        &mut self,
+        table: HookTable,
+        time: Instant,
+        words: &Words,
+        verdicts: &mut Verdicts,
+    ) -> Result<Answer, RcError>
+        requires { IsInstant time }
+        ensures keeps { Keeps verdicts.old.kept verdicts.new.kept }
+        ensures ran { (later : List PlainJudged) → Keeps verdicts.new.kept later
+            → spec.IsRan result self.new (spec.hooked_by (with_pattern_hook time later table
+            (hook_words (drop 1 (plain_texts words.now))) self.old.hooks) self.old) }
+    {
+        let hook = HookWords::read(words.as_slice().get(1..).unwrap_or(&[]));
+        let pattern = pattern_in(self.alloc, time, hook, verdicts)?;
+        match add_pattern_hook(self.alloc, &mut self.hooks, table, hook, pattern) {
+            Ok(()) => Ok(Answer::Quiet),
+            Err(NoMemory) => Err(RcError::no_memory(self.alloc)),
+        }
+    }
+
     fn source(&mut self, words: &Words) -> Result<Answer, RcError>
         ensures { spec.IsRan result self.new
-            (spec.sourcing (spec.word_at (plain_texts words.now) 1) self.old) }
+            (spec.sourcing (word_of (plain_texts words.now) 1) self.old) }
     {
         let mut path = Line::new(self.alloc);
         match append_utf8(&mut path, word_at(words, 1)) {
@@ -302,7 +378,7 @@ fn alias_of(alloc: Global, words: &Words) -> Result<Vec<Lesson>, NoMemory>
         ≡ alias_in (plain_texts words.now) ∷ []) }
 {
     let name = Bytes::copy_of(alloc, word_at(words, 1))?;
-    let value = lesson::joined(alloc, words.as_slice().get(2..).unwrap_or(&[]))?;
+    let value = joined(alloc, words.as_slice().get(2..).unwrap_or(&[]))?;
     let mut lessons = Vec::new(alloc);
     lessons.push(Lesson::Named(name, value))?;
     Ok(lessons)

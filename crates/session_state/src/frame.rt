@@ -1,19 +1,21 @@
 //! Files of commands, each inside of the one that names it.
 
 ghost use Rattle.std.specs.Prelude.{◌≡◌, ◌<◌, ◌+◌, ◌∷◌, [], List, IfOk, OnOk, MatchOption};
+ghost use Rattle.hook_requests.specs.Places.{plain_place};
 ghost use Rattle.patterns.specs.Causes.{Keeps};
 ghost use Rattle.people.specs.Judged.{PlainJudged};
 ghost use Rattle.rc_lang_words.specs.Words.{plain_line};
 ghost use Rattle.session_state.specs.Commands.{plain_obeyed};
 ghost use Rattle.session_state.specs.Frames as spec;
 ghost use Rattle.session_state.specs.Instants.{IsInstant};
-ghost use Rattle.session_state.specs.Told.{plain_told};
+ghost use Rattle.session_state.specs.Told.{line_number as line_number_of, plain_told};
 
 use crate::commands::{Answer, Obeyed, refusal};
 use crate::instant::Instant;
 use crate::rules::Rules;
-use crate::told::Told;
+use crate::told::{Told, line_number};
 use disk_model::DiskError;
+use hook_requests::CommandPlace;
 use mail_base::{Bytes, Line, NoMemory};
 use people::Verdicts;
 use rc_lang::{RcError, RcFault, RcLine, RcLines, read_rc};
@@ -34,6 +36,8 @@ pub enum Origin {
     Prompt,
     /// A file that is named there.
     Asked,
+    /// A hook that was given on this line.
+    Hook(u32),
 }
 
 /// A file of commands, or a command of the command line.
@@ -108,7 +112,8 @@ impl Frame {
         while self.next < self.commands.len() {
             let line = &self.commands.as_slice()[self.next];
             self.next += 1;
-            let obeyed = run_line(alloc, rules, time, verdicts, line)?;
+            let place = command_place(&self.file, self.origin, line.line);
+            let obeyed = run_line(alloc, rules, time, place, verdicts, line)?;
             match judge(alloc, self.depth, obeyed)? {
                 Obeyed::Answered(answer) => match answer {
                     Answer::Source(path) => return Ok(Some(path)),
@@ -124,11 +129,23 @@ impl Frame {
     }
 }
 
-// Runs a command, unless it is faulty as it was read.
+// The place under which a command of a file stands.
+fn command_place(file: &Line, origin: Origin, line: u32) -> CommandPlace<'_>
+    ensures { plain_place result
+        ≡ record { file = file.now.items; line = line_number_of origin line } }
+{
+    CommandPlace {
+        file: file.as_slice(),
+        line: line_number(origin, line),
+    }
+}
+
+// Runs a command that stands at a place, unless it is faulty as it was read.
 fn run_line(
     alloc: Global,
     rules: &mut Rules,
     time: Instant,
+    place: CommandPlace<'_>,
     verdicts: &mut Verdicts,
     line: &RcLine,
 ) -> Result<Obeyed, NoMemory>
@@ -138,10 +155,10 @@ fn run_line(
         → Keeps verdicts.new.kept later → record {
           rules = rules.new;
           answer = plain_obeyed obeyed;
-        } ≡ spec.ran_line time later (plain_line line.now) rules.old) }
+        } ≡ spec.ran_line time later (plain_place place.entry) (plain_line line.now) rules.old) }
 {
     match line.fault {
-        None => rules.run(time, &line.words, verdicts),
+        None => rules.run(time, place, &line.words, verdicts),
         Some(fault) => refusal(RcError::new(alloc, fault, b"")),
     }
 }
@@ -162,7 +179,7 @@ fn judge(alloc: Global, depth: u8, obeyed: Obeyed) -> Result<Obeyed, NoMemory>
 
 /// Runs the commands of these files, of which the first is read now, up to one that is still to be
 /// read.
-fn run_frames(
+pub fn run_frames(
     alloc: Global,
     rules: &mut Rules,
     time: Instant,
@@ -205,10 +222,19 @@ pub fn run_typed(
         → spec.script_of rules.new frames.new told.new ≡ spec.typed_script time later text.now
         (spec.plain_frames frames.old) rules.old (plain_told told.old)) }
 {
-    let mut frame = Frame::unread(alloc, Line::new(alloc), Origin::Prompt, 0);
-    frame.read(alloc, text)?;
-    put_first(frames, frame)?;
+    put_first(frames, prompt_frame(alloc, text)?)?;
     run_frames(alloc, rules, time, verdicts, frames, told)
+}
+
+/// A line that is typed at the prompt `:`.
+pub fn prompt_frame(alloc: Global, text: &[u8]) -> Result<Frame, NoMemory>
+    ensures { IfOk result (λ frame. spec.plain_frame frame ≡ spec.prompt_frame text.now) }
+{
+    let mut file = Line::new(alloc);
+    file.append(":")?;
+    let mut frame = Frame::unread(alloc, file, Origin::Prompt, 0);
+    frame.read(alloc, text)?;
+    Ok(frame)
 }
 
 /// Takes the text of the first file, and runs the commands up to a file that is still to be read.
@@ -299,7 +325,8 @@ fn take_first(frames: &mut Vec<Frame>) -> Option<Frame>
     Some(frames.remove(0))
 }
 
-fn put_first(frames: &mut Vec<Frame>, frame: Frame) -> Result<(), NoMemory>
+/// Puts a file before the others.
+pub fn put_first(frames: &mut Vec<Frame>, frame: Frame) -> Result<(), NoMemory>
     ensures { OnOk result (frames.new.items ≡ frame ∷ frames.old.items) }
 {
     frames.insert(0, frame)?;

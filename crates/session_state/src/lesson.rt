@@ -1,15 +1,17 @@
 //! What commands tell the index.
 
-ghost use Rattle.std.specs.Prelude.{◌≡◌, ◌∷◌, [], List, map, IfOk};
+ghost use Rattle.std.specs.Prelude.{◌∷◌, [], List, map};
 ghost use Rattle.patterns.specs.Causes.{Keeps};
 ghost use Rattle.people.specs.Judged.{PlainJudged};
 ghost use Rattle.rc_lang.specs.Settings.{Answers, plain_names};
+ghost use Rattle.session_state.specs.Exprs.{IsLent};
 ghost use Rattle.session_state.specs.Lessons as spec;
 
-use mail_base::{Bytes, NoMemory};
+use crate::expr::read_expr;
+use mail_base::Bytes;
 use patterns_match::ScoreEntry;
-use people::{Expr, ExprError, PeopleTable, Verdicts};
-use rc_lang::{RcError, RcFault};
+use people::{Expr, PeopleTable, Verdicts};
+use rc_lang::RcError;
 use std::alloc::Global;
 
 /// What a command tells the index.
@@ -32,17 +34,13 @@ fn person_of(
     word: &[u8],
     verdicts: &mut Verdicts,
 ) -> Result<Lesson, RcError>
-    requires { spec.IsLent verdicts.old.kept }
+    requires { IsLent verdicts.old.kept }
     ensures keeps { Keeps verdicts.old.kept verdicts.new.kept }
     ensures value { (later : List PlainJudged) → Keeps verdicts.new.kept later
         → Answers (λ l. spec.plain_lesson l ∷ []) result (spec.person_of later table word.now) }
 {
-    match Expr::read(alloc, word, verdicts) {
-        Ok(expr) => Ok(Lesson::Person(table, expr)),
-        Err(ExprError::Syntax) => Err(RcError::new(alloc, RcFault::BadExpression, word)),
-        Err(ExprError::Size) => Err(RcError::new(alloc, RcFault::BadExpression, word)),
-        Err(ExprError::NoMemory) => Err(RcError::no_memory(alloc)),
-    }
+    let expr = read_expr(alloc, word, word, verdicts)?;
+    Ok(Lesson::Person(table, expr))
 }
 
 /// The expressions of these words, for a table of people.
@@ -52,7 +50,7 @@ pub fn people_of(
     words: &[Bytes],
     verdicts: &mut Verdicts,
 ) -> Result<Vec<Lesson>, RcError>
-    requires { spec.IsLent verdicts.old.kept }
+    requires { IsLent verdicts.old.kept }
     ensures keeps { Keeps verdicts.old.kept verdicts.new.kept }
     ensures value { (later : List PlainJudged) → Keeps verdicts.new.kept later
         → Answers (λ lessons. map spec.plain_lesson lessons.items) result
@@ -68,22 +66,4 @@ pub fn people_of(
         left = rest;
     }
     Ok(lessons)
-}
-
-/// Words, with a blank between them.
-pub fn joined(alloc: Global, words: &[Bytes]) -> Result<Bytes, NoMemory>
-    ensures { IfOk result (λ text. text.items ≡ spec.joined (plain_names words.now)) }
-{
-    let mut text = Bytes::new(alloc);
-    let Some((first, rest)) = words.split_first() else {
-        return Ok(text);
-    };
-    text.append(first.as_slice())?;
-    let mut left = rest;
-    while let Some((word, more)) = left.split_first() {
-        text.append(b" ")?;
-        text.append(word.as_slice())?;
-        left = more;
-    }
-    Ok(text)
 }

@@ -1,15 +1,18 @@
 //! What a session stands on beside the index: what muttrc has set (`Rules`), and how files of
-//! commands (`first_frames`, `read_first`, `skip_first`) and typed commands (`run_typed`) change
-//! it, and what they tell (`Told`).
+//! commands (`first_frames`, `read_first`, `skip_first`), typed commands (`run_typed`) and commands
+//! of hooks (`run_folder_hooks`, `run_message_hooks`) change it, and what they tell (`Told`).
 #![tactic(auto)]
 
 mod beginning;
 mod commands;
+mod expr;
+mod folder_hook;
 mod frame;
+mod hook_frames;
 mod instant;
 mod lesson;
+mod pattern_hook;
 mod reading;
-mod request;
 mod rules;
 mod scoring;
 mod stage;
@@ -17,6 +20,7 @@ mod told;
 
 pub use beginning::first_frames;
 pub use frame::{Frame, Origin, read_first, run_typed, skip_first};
+pub use hook_frames::{run_folder_hooks, run_message_hooks};
 pub use instant::{Instant, Moment};
 pub use lesson::Lesson;
 pub use reading::read_at;

@@ -9,7 +9,7 @@ ghost use Rattle.session_state.specs.Instants.{IsInstant};
 
 use crate::instant::Instant;
 use index_rows::clocks_say_their_parts;
-use mail_base::{Line, NoMemory};
+use mail_base::NoMemory;
 use patterns::{PatternError, read_pattern};
 use patterns_match::Pattern;
 use people::Verdicts;
@@ -25,7 +25,7 @@ fn is_memory(error: PatternError) -> bool
 /// The pattern that a text is at a moment, if it is one.
 pub fn read_at(
     alloc: Global,
-    text: &Line,
+    text: &[u8],
     time: Instant,
     verdicts: &mut Verdicts,
 ) -> Result<Option<Pattern>, NoMemory>
@@ -33,10 +33,10 @@ pub fn read_at(
     ensures keeps { Keeps verdicts.old.kept verdicts.new.kept }
     ensures read { IfOk result (λ pattern. (later : List PlainJudged)
         → Keeps verdicts.new.kept later
-        → option_map plain_pattern pattern ≡ spec.reading_of later time text.now.items) }
+        → option_map plain_pattern pattern ≡ spec.reading_of later time text.now) }
 {
     clocks_say_their_parts();
-    match read_pattern(alloc, text.as_slice(), time.seconds, time.offset, verdicts) {
+    match read_pattern(alloc, text, time.seconds, time.offset, verdicts) {
         Ok(pattern) => Ok(Some(pattern)),
         Err(error) if is_memory(error) => Err(NoMemory),
         Err(_) => Ok(None),

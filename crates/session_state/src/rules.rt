@@ -1,18 +1,24 @@
 //! What muttrc has set.
 
 use crate::lesson::Lesson;
+use hook_requests::Weeds;
+use hooks::{HookCommands, Hooks, PatternHooks};
 use keymap::{KeyQueue, Keymap, Keys, Menu, Press};
 use mail_base::{Bytes, Line, Lines, NoMemory};
-use rc_lang::Settings;
+use message_text::Weeding;
+use rc_lang::{Settings, Variable};
 use std::alloc::Global;
 use std::marker::Model;
 
-/// The variables, the bindings, the texts of the patterns that score, the keys that commands have
-/// put, of each command apart, and what they tell the index.
+/// The variables, the bindings, the names of header fields, the hooks, the texts of the patterns
+/// that score, the keys that commands have put, of each command apart, and what they tell the
+/// index.
 pub struct Rules {
     pub(crate) alloc: Global,
     pub(crate) settings: Settings,
     pub(crate) keymap: Keymap,
+    pub(crate) weeds: Weeds,
+    pub(crate) hooks: Hooks,
     pub(crate) scores: Vec<Bytes>,
     pub(crate) put: Vec<Keys>,
     pub(crate) lessons: Vec<Lesson>,
@@ -33,6 +39,8 @@ impl Model for Rules {
     ghost view = { λ r. record {
       settings = r.settings;
       keymap = r.keymap;
+      weeds = r.weeds;
+      hooks = r.hooks;
       scores = plain_names r.scores.items;
       put = map (λ keys. keys.items) r.put.items;
       lessons = map plain_lesson r.lessons.items;
@@ -45,6 +53,8 @@ impl Drop for Rules {
             alloc: _,
             settings: _,
             keymap: _,
+            weeds: _,
+            hooks: _,
             scores: _,
             put: _,
             lessons: _,
@@ -59,7 +69,10 @@ impl Rules {
     ghost use Rattle.mail_base.specs.Series.{plain_texts};
     ghost use Rattle.session_state.specs.Commands.{IsPressed};
     ghost use Rattle.session_state.specs.Lessons.{plain_lesson};
-    ghost use Rattle.session_state.specs.Rules.{answer_line, first_rules, put_all, without_puts};
+    ghost use Rattle.session_state.specs.Rules.{answer_line, first_rules, put_all, weeding_of};
+    ghost use Rattle.session_state.specs.Rules.{without_puts};
+    ghost use Rattle.hooks.specs.Hooks.{commands_for, plain_command, plain_pattern_hook};
+    ghost use Rattle.message_text.specs.Weeding.{plain_weeding};
 
     /// What stands before a muttrc is read.
     #[tactic(auto, unfolding(crate::specs::Rules::first_rules))]
@@ -73,6 +86,8 @@ impl Rules {
             alloc,
             settings,
             keymap: Keymap::new(alloc)?,
+            weeds: Weeds::new(alloc)?,
+            hooks: Hooks::new(alloc),
             scores: Vec::new(alloc),
             put: Vec::new(alloc),
             lessons: Vec::new(alloc),
@@ -84,6 +99,37 @@ impl Rules {
         ensures { result.now ≡ self.now.settings }
     {
         &self.settings
+    }
+
+    /// What is shown of a header, and in which order.
+    pub fn weeding(&self, alloc: Global) -> Result<Weeding, NoMemory>
+        ensures { IfOk result (λ w. plain_weeding w ≡ weeding_of self.now) }
+    {
+        let weed = self.settings.is_set(Variable::Weed);
+        self.weeds.weeding(alloc, weed)
+    }
+
+    /// The commands that hooks give for the folder at a path, in the order of the hooks.
+    pub fn folder_hooks(&mut self, path: &[u8]) -> Result<HookCommands, NoMemory>
+        ensures commands { IfOk result (λ commands. map plain_command commands.items
+            ≡ commands_for path.now self.old.hooks.folders) }
+        ensures same { self.new ≡ self.old }
+    {
+        self.hooks.for_folder(self.alloc, path)
+    }
+
+    /// The hooks for messages that are shown.
+    pub fn message_hooks(&self) -> &PatternHooks
+        ensures { map plain_pattern_hook result.now.items ≡ self.now.hooks.messages }
+    {
+        self.hooks.message_hooks()
+    }
+
+    /// The hooks for messages that are saved.
+    pub fn save_hooks(&self) -> &PatternHooks
+        ensures { map plain_pattern_hook result.now.items ≡ self.now.hooks.saves }
+    {
+        self.hooks.save_hooks()
     }
 
     /// How many commands have put keys that were not taken.

@@ -85,7 +85,7 @@ pub fn entry_of(
     let Ok(()) = append_utf8(&mut text, word) else {
         return Err(RcError::no_memory(alloc));
     };
-    match read_at(alloc, &text, time, verdicts) {
+    match read_at(alloc, text.as_slice(), time, verdicts) {
         Ok(Some(pattern)) => entry_with(alloc, word, pattern, value),
         Ok(None) => Err(RcError::new(alloc, RcFault::BadPattern, word)),
         Err(NoMemory) => Err(RcError::no_memory(alloc)),

@@ -5,6 +5,8 @@
 pub enum Stage {
     /// Files of commands are still to be read, or the folder is to be opened.
     Unopened,
+    /// The folder was found; files of commands are still to be read that its hooks name.
+    Opening,
     /// The folder is open, and the keys that the commands put still wait.
     Pushing,
     /// A key is wanted.

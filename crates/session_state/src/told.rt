@@ -72,11 +72,13 @@ pub fn add_notes(alloc: Global, notes: &mut Lines, came: &Lines) -> Result<(), N
     Ok(())
 }
 
-fn line_number(origin: Origin, line: u32) -> u32
+/// The line under which a command of a file stands.
+pub fn line_number(origin: Origin, line: u32) -> u32
     ensures { result ≡ spec.line_number origin line }
 {
     match origin {
-        Origin::Typed => 1,
+        Origin::Typed | Origin::Prompt => 1,
+        Origin::Hook(given) => given,
         _ => line,
     }
 }

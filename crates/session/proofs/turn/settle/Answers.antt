@@ -1,7 +1,7 @@
-use Rattle.std.proofs.Common.{◌∙◌, map, subst, sym}
+use Rattle.std.proofs.Common.{◌∙◌, map, sym}
 use Rattle.folder_letters.specs.Letters.{plain_letter}
-use Rattle.index_view.specs.View.{IsOf}
 use Rattle.session.specs.Core.{ground_of, plain_core}
+use Rattle.session.proofs.CoreLemmas.{over_still}
 use Rattle.session.proofs.GivenLemmas.{keeps_then}
 use Rattle.session.proofs.TurnLemmas.{none_is, none_waits}
 use Rattle.session.proofs.turn.settle.Goals as goal
@@ -26,17 +26,17 @@ returns-in-Some-clause-settled g c = λ later keeps.
 pub loop-waiting-preserved : goal.loop-waiting-preserved
 loop-waiting-preserved g c = record {
   keeps = keeps_then c.loop-waiting.invariant.keeps c.go_on.ensures.keeps;
-  is_of = c.in_ok-go_on.ensures.is_of;
+  over = c.in_ok-go_on.ensures.over;
   went = λ later keeps. (rw c.in-None.is at c.in_ok-go_on.ensures.steps) later keeps
       ∙ c.loop-waiting.invariant.went later (keeps_then c.go_on.ensures.keeps keeps);
   waits = c.is_waiting-waiting-in-loop-waiting.ensures.some;
   few = c.in_ok-go_on.ensures.few;
 }
 
-pub returns-clause-is_of : goal.returns-clause-is_of
-returns-clause-is_of g c =
-    subst (IsOf (map plain_letter c.args.archive.now.items)) (sym c.grant.ensures.view)
-    c.loop-waiting.invariant.is_of
+pub returns-clause-over : goal.returns-clause-over
+returns-clause-over g c =
+    over_still (map plain_letter c.args.archive.now.items) c.args.window c.loop-waiting.core
+    c.grant.new.self c.grant.ensures.rest c.grant.ensures.view c.loop-waiting.invariant.over
 
 pub returns-clause-settled : goal.returns-clause-settled
 returns-clause-settled g c = λ later keeps.

@@ -1,16 +1,15 @@
 use Rattle.std.proofs.Common.{◌≡◌, ◌+◌, ◌≤◌, List, length, map, nat_lt}
 use Rattle.folder_letters.specs.Letters.{plain_letter}
-use Rattle.index_view.specs.View.{IsOf}
 use Rattle.patterns.specs.Causes.{Keeps}
 use Rattle.people.specs.Judged.{PlainJudged}
-use Rattle.session.specs.Core.{ground_of, plain_core}
+use Rattle.session.specs.Core.{IsOver, ground_of, plain_core}
 use Rattle.session.specs.Keys.{fuel, settled}
 use Rattle.session.proofs.turn.settle.Given as goal
 
 abbrev pub invariant-loop-waiting : goal.invariant-loop-waiting
 invariant-loop-waiting g l = record {
   keeps : Keeps l.initial.verdicts.kept l.verdicts.kept;
-  is_of : IsOf (map plain_letter l.archive.items) l.core.desk.view;
+  over : IsOver (map plain_letter l.archive.items) l.window l.core;
   went : (later : List PlainJudged) → Keeps l.verdicts.kept later
       → settled (ground_of (map plain_letter l.archive.items) later l.window l.moment.0)
       (plain_core l.core) l.queue

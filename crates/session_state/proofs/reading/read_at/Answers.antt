@@ -1,10 +1,9 @@
-use Rattle.std.proofs.Common.{◌∙◌, FitsSigned, List, Some, ap, arith, sym, w32, w64, ℕ, ℤ}
+use Rattle.std.proofs.Common.{◌∙◌, FitsSigned, Some, ap, arith, sym, w32, w64, ℤ}
 use Rattle.jiff_core.proofs.SignedLemmas.{signed_arith}
 use Rattle.std.proofs.lemmas.Int.{to_z-of_z}
 use Rattle.std.specs.Prelude.{option_map}
 use Rattle.patterns_match.specs.Pattern.{PlainPattern, pattern_tree}
 use Rattle.patterns_match.specs.Trees.{Tree}
-use Rattle.session_state.specs.Days.{reading}
 use Rattle.session_state.proofs.ReadingLemmas.{no_reading, reads_as}
 use Rattle.session_state.proofs.reading.read_at.Goals as goal
 
@@ -26,9 +25,7 @@ returns-in-Ok-clause-read g c = λ later keeps.
       tree = tree;
       offset = c.args.time.offset;
     } in limit))
-    (ap (λ (text : List ℕ). reading later c.args.time.seconds c.args.time.offset text)
-    (sym c.as_slice.ensures.bytes)
-    ∙ reads_as _ _ _ _ _ _ _ _ read later keeps))
+    (reads_as _ _ _ _ _ _ _ _ read later keeps))
 
 pub returns-in-Err : goal.returns-in-Err
 returns-in-Err g c = record { keeps = c.in-Err.ensures.reads.read.judges.keeps; read = tt }
@@ -46,7 +43,5 @@ returns-in-Err-2-clause-read g c = λ later keeps.
       tree = tree;
       offset = c.args.time.offset;
     } in limit))
-    (ap (λ (text : List ℕ). reading later c.args.time.seconds c.args.time.offset text)
-    (sym c.as_slice.ensures.bytes)
-    ∙ no_reading _ c.in-Err.error (reads_as _ _ _ _ _ _ _ _ read later keeps)
+    (no_reading _ c.in-Err.error (reads_as _ _ _ _ _ _ _ _ read later keeps)
     (sym c.is_memory.ensures ∙ c.if-is_memory.false)))

@@ -6,11 +6,12 @@ use Rattle.index_items.specs.Items.{PlainItem}
 use Rattle.index_view.specs.View.{MayTake}
 use Rattle.session_index.specs.Desk.{PlainDesk, plain_desk}
 use Rattle.session_index.specs.Index.{index_of}
-use Rattle.session_index.specs.Opening.{begun}
+use Rattle.session_pager.specs.Reader.{PlainReader}
+use Rattle.session_state.specs.Rules.{weeding_of}
 use Rattle.session.specs.Answers.{tuned}
-use Rattle.session.specs.Core.{CoreState, plain_core, with_desk}
-use Rattle.session.specs.Opening.{begun_in, found_in, opened}
-use Rattle.session.proofs.CoreLemmas.{stands_as, stands_by}
+use Rattle.session.specs.Core.{CoreState, plain_core, with_desk, with_reader}
+use Rattle.session.specs.Reading.{left}
+use Rattle.session.specs.Opening.{found_in, opened}
 use Rattle.session.proofs.LearningLemmas.{lessons_items}
 use Rattle.session.proofs.OpeningLemmas.{may_open, taken_first}
 use Rattle.session.proofs.core_state.Core.open.Goals as goal
@@ -37,19 +38,25 @@ take_in-requires-clause-found c =
     ∙ sym (ap (ids_from 0) came))
     (c.requires.fresh.1 ∙ sym (ap length came)))
 
-pub returns : goal.returns
+pub returns-clause-core : goal.returns-clause-core
 unfolding opened
-returns c =
+returns-clause-core c =
     let mails = map plain_letter c.args.archive.now.items in
     let t = plain_core c.tune.new.self in
     let came = c.args.came.now.items in
     let holds = c.in_ok-take_in.ensures in
-    let begins = c.begin.ensures mails holds.is_of in
+    let closes = c.close.ensures mails 0 (weeding_of c.args.self.now.rules) in
     let desk_is = holds.same ∙ taken_first mails c.in_ok-found.found came
     c.in_ok-found.ensures.gone c.in_ok-found.ensures.reflagged c.in_ok-found.ensures.came
-    (plain_desk c.tune.new.self.desk) in
-    stands_as mails _ _ _
-    (ap (λ (d : PlainDesk). with_desk (begun mails d) t) desk_is
-    ∙ ap (λ (s : CoreState). begun_in mails (found_in mails came s))
-    (c.in_ok-tune.ensures.same ∙ ap (tuned mails) c.in_ok-learn.ensures.same))
-    (stands_by mails c.tune.new.self c.begin.new.self _ begins)
+    (plain_desk c.tune.new.self.desk) in record {
+      is_of = holds.is_of;
+      same = ap (λ (r : PlainReader). with_reader r (with_desk (plain_desk c.take_in.new.self) t))
+          closes.same
+          ∙ ap (λ (d : PlainDesk). left (with_desk d t)) desk_is
+          ∙ ap (λ (s : CoreState). left (found_in mails came s))
+          (c.in_ok-tune.ensures.same ∙ ap (tuned mails) c.in_ok-learn.ensures.same);
+    }
+
+pub returns-clause-reads : goal.returns-clause-reads
+returns-clause-reads c = λ mails window.
+    (c.close.ensures mails window.cols (weeding_of c.tune.new.self.rules)).is_read

@@ -1,27 +1,24 @@
-use Rattle.std.proofs.Common.{◌∙◌, FitsSigned, List, ap, arith, map, subst, sym, w64, ℕ}
+use Rattle.std.proofs.Common.{◌∙◌, FitsSigned, List, ap, arith, map, sym, w64, ℕ}
 use Rattle.std.proofs.Math.Facts.{to_z-of_z}
 use Rattle.jiff_core.proofs.SignedLemmas.{signed_arith}
 use Rattle.std.proofs.lemmas.Result.{on_ok_weaker}
 use Rattle.folder_letters.specs.Letters.{plain_letter}
-use Rattle.index_view.specs.View.{IsOf}
 use Rattle.session_events.specs.Events.{plain_event}
 use Rattle.session_events.specs.declared.event.Event.{Event}
 use Rattle.session.specs.Runs.{arrived, plain_session, read_in, read_on, typed}
-use Rattle.session.proofs.FittingLemmas.{fits_in}
+use Rattle.session.proofs.FittingLemmas.{learn_in}
 use Rattle.session.proofs.GivenLemmas.{keeps_then}
 use Rattle.session.proofs.session_type.Session.take.Goals as goal
 
 pub read_on-requires : goal.read_on-requires
 read_on-requires g c =
-    fits_in (map plain_letter c.args.archive.now.items) c.args.self.now c.read.new.self
-    c.read.ensures.rest
-    (record { is_of = rw c.in-Sourced.is at c.requires.fits; can = c.requires.read })
+    learn_in (map plain_letter c.args.archive.now.items) c.args.self.now c.read.new.self
+    c.read.ensures.rest (rw c.in-Sourced.is at c.requires.fits)
 
 pub read_on-requires-in-NotSourced : goal.read_on-requires-in-NotSourced
 read_on-requires-in-NotSourced g c =
-    fits_in (map plain_letter c.args.archive.now.items) c.args.self.now c.skip.new.self
-    c.skip.ensures.rest
-    (record { is_of = rw c.in-NotSourced.is at c.requires.fits; can = c.requires.read })
+    learn_in (map plain_letter c.args.archive.now.items) c.args.self.now c.skip.new.self
+    c.skip.ensures.rest (rw c.in-NotSourced.is at c.requires.fits)
 
 pub returns-in_ok-read-in-Sourced-clause-arrived : goal.returns-in_ok-read-in-Sourced-clause-arrived
 returns-in_ok-read-in-Sourced-clause-arrived g c =
@@ -44,10 +41,10 @@ returns-in_ok-skip-in-NotSourced-clause-arrived g c =
     (plain_event e)) (sym c.in-NotSourced.is))
     c.read_on-in-NotSourced.ensures.on
 
-pub type_in-requires-clause-is_of : goal.type_in-requires-clause-is_of
-type_in-requires-clause-is_of g c =
-    subst (IsOf (map plain_letter c.args.archive.now.items)) (sym c.take_key.ensures.rest.view)
-    (rw c.in-Pressed.is at c.requires.fits).0
+pub type_in-requires-clause-over : goal.type_in-requires-clause-over
+type_in-requires-clause-over g c =
+    (c.take_key.ensures.act (map plain_letter c.args.archive.now.items)
+    (record { over = (rw c.in-Pressed.is at c.requires.fits).0; can = c.requires.read })).over
 
 pub returns-in-Pressed-clause-arrived : goal.returns-in-Pressed-clause-arrived
 returns-in-Pressed-clause-arrived g c =

@@ -24,9 +24,11 @@ returns-in-Source-clause-half g c = λ later keeps.
     (x ∷ drop (c.loop-self.self.next + 1) c.loop-self.self.commands.items))
     (sym (c.index-as_slice-self.is ∙ ap (λ (xs : List RcLine). get_or xs c.loop-self.self.next
     c.index-as_slice-self.result) c.as_slice.ensures)) in
-    file_step c.args.time later (plain_line c.index-as_slice-self.result) lines c.loop-self.rules
+    file_step c.args.time later (place_of c.loop-self.self)
+    (plain_line c.index-as_slice-self.result) lines c.loop-self.rules
     c.run_line.new.rules (plain_obeyed c.in_ok-obeyed.obeyed)
-    (c.in_ok-obeyed.ensures.ran later keeps) (place_of c.loop-self.self)
+    _ c.command_place-place.ensures
+    (c.in_ok-obeyed.ensures.ran later keeps)
     (plain_told c.loop-self.told) (Ok (ToRead c.in-Source.path.items))
     (sym (ap plain_obeyed (c.in-Answered.is ∙ ap Answered c.in-Source.is))
     ∙ c.in_ok-answer.ensures.value)
@@ -49,9 +51,11 @@ loop-self-preserved-in-Quiet g c = record {
       (x ∷ drop (c.loop-self.self.next + 1) c.loop-self.self.commands.items))
       (sym (c.index-as_slice-self.is ∙ ap (λ (xs : List RcLine). get_or xs c.loop-self.self.next
       c.index-as_slice-self.result) c.as_slice.ensures)) in
-      file_step c.args.time later (plain_line c.index-as_slice-self.result) lines c.loop-self.rules
+      file_step c.args.time later (place_of c.loop-self.self)
+      (plain_line c.index-as_slice-self.result) lines c.loop-self.rules
       c.run_line.new.rules (plain_obeyed c.in_ok-obeyed.obeyed)
-      (c.in_ok-obeyed.ensures.ran later keeps) (place_of c.loop-self.self)
+      _ c.command_place-place.ensures
+      (c.in_ok-obeyed.ensures.ran later keeps)
       (plain_told c.loop-self.told) (Ok Quiet)
       (sym (ap plain_obeyed (c.in-Answered.is ∙ ap Answered c.in-Quiet.is))
       ∙ c.in_ok-answer.ensures.value)
@@ -81,10 +85,12 @@ loop-self-preserved-in-Show g c = record {
       c.index-as_slice-self.result) c.as_slice.ensures)) in
       ap (λ (told : PlainTold). file_run c.args.time later (place_of c.loop-self.self) lines
       c.run_line.new.rules told) c.answer.ensures
-      ∙ file_step c.args.time later (plain_line c.index-as_slice-self.result) lines
+      ∙ file_step c.args.time later (place_of c.loop-self.self)
+      (plain_line c.index-as_slice-self.result) lines
       c.loop-self.rules
       c.run_line.new.rules (plain_obeyed c.in_ok-obeyed.obeyed)
-      (c.in_ok-obeyed.ensures.ran later keeps) (place_of c.loop-self.self)
+      _ c.command_place-place.ensures
+      (c.in_ok-obeyed.ensures.ran later keeps)
       (plain_told c.loop-self.told) (Ok (ToShow c.in-Show.line.items))
       (sym (ap plain_obeyed (c.in-Answered.is ∙ ap Answered c.in-Show.is))
       ∙ c.in_ok-answer.ensures.value)
@@ -114,10 +120,12 @@ loop-self-preserved g c = record {
       c.index-as_slice-self.result) c.as_slice.ensures)) in
       ap (λ (told : PlainTold). file_run c.args.time later (place_of c.loop-self.self) lines
       c.run_line.new.rules told) c.in_ok-fault-in-Refused.ensures
-      ∙ file_step c.args.time later (plain_line c.index-as_slice-self.result) lines
+      ∙ file_step c.args.time later (place_of c.loop-self.self)
+      (plain_line c.index-as_slice-self.result) lines
       c.loop-self.rules
       c.run_line.new.rules (plain_obeyed c.in_ok-obeyed.obeyed)
-      (c.in_ok-obeyed.ensures.ran later keeps) (place_of c.loop-self.self)
+      _ c.command_place-place.ensures
+      (c.in_ok-obeyed.ensures.ran later keeps)
       (plain_told c.loop-self.told) (Err (plain_error c.in-Refused.error))
       (sym (ap plain_obeyed c.in-Refused.is)
       ∙ c.in_ok-answer.ensures.value)

@@ -1,0 +1,5 @@
+pub mod Places
+pub mod Words
+pub mod Weeds
+pub mod HookWords
+pub mod PatternHooks
