@@ -24,6 +24,7 @@ use Rattle.session.specs.Telling.{Witnessed}
 use Rattle.session_events.specs.declared.event.OpenFault.{OpenFault}
 use Rattle.session_events.specs.declared.event.OpenFault.TheVariants.{Folder}
 use Rattle.session.specs.Starting.{PlainSetup, first_state}
+use Rattle.session.proofs.StepsLemmas.{begin_keeps}
 use Rattle.session_events.specs.declared.setup.StartError.{StartError}
 use Rattle.session_events.specs.declared.setup.StartError.TheVariants as error
 use Rattle.session_state.specs.declared.stage.Stage.TheVariants.{Over}
@@ -371,6 +372,7 @@ module _ (o : PlainOptions) (start : ℤ) (Has : Kind → Type 0) (given : Given
   where
     notes_are : (after_events given (first_of o start) events).notes ≡ state.notes
     notes_are = ap (λ (s : State). s.notes) starts.waits.state_is
+        ∙ (begin_keeps given state.turn.core.frames state).0
 
     opened_at : (more later : List Happening) → AreActs more → later ≡ events ++ more
         → IsOpened starts.came more later

@@ -8,9 +8,9 @@ use Rattle.folder_letters.specs.declared.letter.Letter.{Letter}
 use Rattle.keymap.specs.Reader.{PlainReader}
 use Rattle.session_events.specs.Events.{plain_events}
 use Rattle.session.proofs.GivenLemmas.{keeps_more, keeps_same, keeps_then}
-use Rattle.mutt_run.proofs.KeysLemmas.{counted_key, counts_turned, ends_broken, ends_fault}
-use Rattle.mutt_run.proofs.KeysLemmas.{ends_limit, ends_over, presses_key, presses_new}
-use Rattle.mutt_run.proofs.KeysLemmas.{presses_stop, pressed_on}
+use Rattle.mutt_run.proofs.KeysLemmas.{counted_key, counts_turned, ended_keys, ends_broken}
+use Rattle.mutt_run.proofs.KeysLemmas.{ends_done, ends_fault, ends_limit, ends_over, presses_end}
+use Rattle.mutt_run.proofs.KeysLemmas.{presses_key, presses_new, presses_stop, pressed_on}
 use Rattle.mutt_run.proofs.ScreensLemmas.{ended_broken, out_broken, out_same}
 use Rattle.session.proofs.StepsLemmas.{told_same}
 use Rattle.mutt_run.proofs.turning.press_all.Goals as goal
@@ -66,6 +66,18 @@ returns-then-is_err-clause-told g c = λ given first before h.
     told_same (ap plain_events c.reserve.ensures.items)
     (c.loop-turn.invariant.told given first before h)
 
+pub returns-in-Ok-None-clause-ended : goal.returns-in-Ok-None-clause-ended
+returns-in-Ok-None-clause-ended g c = λ given is first start h.
+    out_same (ap plain_events c.reserve.ensures.items)
+    (c.loop-turn.invariant.goes given is first start h)
+
+pub returns-in-Ok-None-clause-pressed : goal.returns-in-Ok-None-clause-pressed
+returns-in-Ok-None-clause-pressed g c =
+    let ended = rw c.in-Ok-None.field-0-is at c.in-Ok-None.ensures.key in
+    ends_done _ _ _ _ _ _ _ (presses_end _ _ _ _ _ _ _ _ c.loop-turn.invariant.presses _
+    c.next_key.ensures.ahead _ (ap plain_events c.reserve.ensures.items) ended) _
+    c.loop-turn.invariant.idle (ended_keys _ _ _ _ ended)
+
 pub returns-in-Ok-None-clause-told : goal.returns-in-Ok-None-clause-told
 returns-in-Ok-None-clause-told g c = λ given first before h.
     told_same (ap plain_events c.reserve.ensures.items)
@@ -82,6 +94,11 @@ pub returns-in-Err-ReadFault-clause-told : goal.returns-in-Err-ReadFault-clause-
 returns-in-Err-ReadFault-clause-told g c = λ given first before h.
     told_same (ap plain_events c.reserve.ensures.items)
     (c.loop-turn.invariant.told given first before h)
+
+pub returns-in-Err-TooManyKeys-clause-ended : goal.returns-in-Err-TooManyKeys-clause-ended
+returns-in-Err-TooManyKeys-clause-ended g c = λ given is first start h.
+    out_same (ap plain_events c.reserve.ensures.items)
+    (c.loop-turn.invariant.goes given is first start h)
 
 pub returns-in-Err-TooManyKeys-clause-pressed : goal.returns-in-Err-TooManyKeys-clause-pressed
 returns-in-Err-TooManyKeys-clause-pressed g c =
