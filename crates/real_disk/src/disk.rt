@@ -23,7 +23,8 @@ use std::rt::Runtime;
 
 /// The file system. It tells no tree and no journal. A stamp is the time of modification in
 /// nanoseconds since 1970, or 0 where that is earlier; the empty path is read as `.`. A link counts
-/// as what it leads to, and what is neither a file nor a folder, as a pipe or a device, is a fault.
+/// as what it leads to, and what is neither a file nor a folder, as a pipe or a device, is a fault,
+/// but that `read_all` reads the device `/dev/null` as no bytes.
 #[derive(Drop)]
 pub struct RealDisk<R> {
     rt: R,

@@ -4,11 +4,12 @@ ghost use Rattle.std.specs.Prelude.{◌≡◌, ◌≤◌, IfErr, IfOk, IfSome, l
 ghost use Rattle.disk_model.specs.Answers.{IsLookError, IsNodeError, IsReadError, IsWhole};
 ghost use Rattle.disk_model.specs.Answers.{LeavesFront};
 
-use crate::system::{refusal, stat_open, want_file};
-use disk_model::{DiskError, FileRead};
+use crate::system::{is_null_device, length_of, refusal, stat_open, want_file};
+use disk_model::{DiskError, FileRead, Stat};
 use mail_base::Bytes;
 use std::alloc::{Allocator, Global};
-use std::fs::File;
+use std::fs;
+use std::fs::{File, OpenFile};
 use std::io::Read;
 use std::rt::{Files, Runtime};
 
@@ -48,6 +49,29 @@ pub(crate) fn read_front_at<R: Runtime>(
     Ok(count)
 }
 
+/// The device that holds nothing is read as a file of no bytes. What has taken its place, or gives
+/// bytes, is a fault.
+fn read_null<R: Files>(rt: &R, alloc: Global, path: &str) -> Result<FileRead, DiskError>
+    ensures whole { IfOk result (IsWhole 0) }
+    ensures errors { IfErr result IsLookError }
+{
+    let mut file = File::open(rt, path).map_err(refusal)?;
+    if !is_null_device(&file.metadata().map_err(refusal)?) {
+        return Err(DiskError::Fault);
+    }
+    let bytes = front_of(&mut file, alloc, 1)?;
+    if !bytes.is_empty() {
+        return Err(DiskError::Fault);
+    }
+    let stat = Stat {
+        folder: false,
+        length: 0,
+        stamp: 0,
+    };
+    let bytes = Bytes::from_vec(bytes);
+    Ok(FileRead { stat, bytes })
+}
+
 /// The whole file, unless it was changed while it was read.
 fn read_once<R: Files>(
     rt: &R,
@@ -58,17 +82,33 @@ fn read_once<R: Files>(
     ensures whole { IfOk result (λ read. IfSome read (IsWhole limit)) }
     ensures errors { IfErr result (IsReadError limit) }
 {
-    want_file(rt, path)?;
+    let data = fs::metadata(rt, path).map_err(refusal)?;
+    if is_null_device(&data) {
+        return Ok(Some(read_null(rt, alloc, path)?));
+    }
+    length_of(&data)?;
     let mut file = File::open(rt, path).map_err(refusal)?;
-    let stat = stat_open(&file)?;
+    read_open(alloc, &mut file, limit)
+}
+
+/// The whole of an open file, unless it was changed while it was read.
+fn read_open<F: Read + OpenFile>(
+    alloc: Global,
+    file: &mut F,
+    limit: u64,
+) -> Result<Option<FileRead>, DiskError>
+    ensures whole { IfOk result (λ read. IfSome read (IsWhole limit)) }
+    ensures errors { IfErr result (IsReadError limit) }
+{
+    let stat = stat_open(file)?;
     if stat.folder {
         return Err(DiskError::WrongNode);
     }
     if stat.length > limit {
         return Err(DiskError::Long(stat.length));
     }
-    let bytes = front_of(&mut file, alloc, stat.length)?;
-    if stat_open(&file)? != stat || bytes.len() as u64 != stat.length {
+    let bytes = front_of(file, alloc, stat.length)?;
+    if stat_open(file)? != stat || bytes.len() as u64 != stat.length {
         return Ok(None);
     }
     Ok(Some(FileRead {

@@ -8,9 +8,13 @@ ghost use Rattle.real_disk.specs.Real.{making_refusal_of, refusal_of};
 use disk_model::{DiskError, Stat};
 use std::fs::{Metadata, OpenFile};
 use std::io::ErrorKind;
+use std::os::unix::fs::{FileTypeExt, MetadataExt};
 use std::rt::Files;
 use std::time::UNIX_EPOCH;
 use std::{fs, io};
+
+/// The number of the device that holds nothing, as `/dev/null`: Linux's 1:3.
+const NULL_DEVICE: u64 = 0x103;
 
 /// What the system calls the path.
 pub(crate) fn name_of(path: &str) -> &str
@@ -88,16 +92,28 @@ pub(crate) fn stat_open<F: OpenFile>(file: &F) -> Result<Stat, DiskError>
     stat_of(&file.metadata().map_err(refusal)?)
 }
 
-/// Makes sure that a file stands at the path, so that it can be opened without waiting for another
+/// Whether it is the device that holds nothing, which is opened and read without waiting.
+pub(crate) fn is_null_device(data: &Metadata) -> bool {
+    data.file_type().is_char_device() && data.rdev() == NULL_DEVICE
+}
+
+/// The length of a file. What is none is refused, so that no call that opens one waits for another
 /// program.
-pub(crate) fn want_file<R: Files>(rt: &R, path: &str) -> Result<u64, DiskError>
+pub(crate) fn length_of(data: &Metadata) -> Result<u64, DiskError>
     ensures { IfErr result IsNodeError }
 {
-    let stat = stat_at(rt, path)?;
+    let stat = stat_of(data)?;
     if stat.folder {
         return Err(DiskError::WrongNode);
     }
     Ok(stat.length)
+}
+
+/// Makes sure that a file stands at the path.
+pub(crate) fn want_file<R: Files>(rt: &R, path: &str) -> Result<u64, DiskError>
+    ensures { IfErr result IsNodeError }
+{
+    length_of(&fs::metadata(rt, path).map_err(refusal)?)
 }
 
 /// Makes sure that a folder stands at the path.
