@@ -4,3 +4,4 @@ pub mod ChangeLemmas
 pub mod FoundLemmas
 pub mod KeptLemmas
 pub mod TallyLemmas
+pub mod ItemsLemmas

@@ -1,8 +1,8 @@
 -- The listed messages.
-use Rattle.std.specs.Prelude.{ℕ, Bool, false, List, map}
+use Rattle.std.specs.Prelude.{ℕ, Bool, false, List, map, slice_index_or}
 use Rattle.mail_base.specs.declared.flags.Flags.{Flags}
 use Rattle.mail_base.specs.declared.kind.Id.{Id}
-use Rattle.index_items.specs.Pending.{PlainPending, nothing, plain_pending, shown}
+use Rattle.index_items.specs.Pending.{PlainPending, no_flags, nothing, plain_pending, shown}
 use Rattle.index_items.specs.declared.item.Item.{Item}
 
 -- a message: its flags in the folder, what the user changed of it, its tag, and whether the thread
@@ -37,6 +37,14 @@ listed id flags = record {
   tagged = false;
   shut = false;
 }
+
+-- what stands at a place where there is no message
+abbrev pub no_item : PlainItem
+no_item = listed (record { 0 = 0 }) no_flags
+
+-- the message at a place
+abbrev pub item_at : List PlainItem → ℕ → PlainItem
+item_at items place = slice_index_or items place no_item
 
 -- the flags of a message as they are shown
 abbrev pub shown_flags : PlainItem → Flags

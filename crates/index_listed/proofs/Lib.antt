@@ -8,4 +8,5 @@ pub mod EntriesLemmas
 pub mod TreeLemmas
 pub mod TreeFacts
 pub mod SightLemmas
+pub mod UnreadLemmas
 pub mod CursorLemmas

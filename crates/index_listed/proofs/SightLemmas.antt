@@ -48,11 +48,11 @@ mapped_at f (x ∷ xs) (suc p) y is = mapped_at f xs p y is
 
 -- ---- threads
 
-pub told_threads : (passes : ℕ → Bool) (all : List Entry) (marks : List Bool)
-    → AreThreadsWith passes all (length all) marks → marks ≡ map (λ root.
-    some_below (in_thread all passes root) (length all)) (range_with_len 0 (length all))
-told_threads passes all marks told = told_list
-    (λ root. some_below (in_thread all passes root) (length all)) (length all) marks false
+pub told_threads : (passes : ℕ → Bool) (all : List Entry) (n : ℕ) (marks : List Bool)
+    → AreThreadsWith passes all n marks → marks ≡ map (λ root.
+    some_below (in_thread all passes root) n) (range_with_len 0 (length all))
+told_threads passes all n marks told = told_list
+    (λ root. some_below (in_thread all passes root) n) (length all) marks false
     told.long told.marked
 
 -- ---- roots among the messages

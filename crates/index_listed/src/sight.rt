@@ -11,7 +11,7 @@ use crate::mark::{Mark, mark_at};
 use crate::places::{Places, places_of};
 use crate::stance::{Stance, entries};
 use crate::tree::Tree;
-use crate::visibility::{hiding, threads_with, visible};
+use crate::visibility::{hiding, mark_where, threads_with, visible};
 use mail_base::{Bytes, Id, Ids, Line, NoMemory, append_utf8};
 use std::alloc::Global;
 use std::marker::Model;
@@ -57,7 +57,7 @@ impl Model for Sight {
     } };
 
     ghost invariant = { λ s. IsSight s.order.items s.tree s.places s.visible_places
-        s.visible.items s.hiding.items };
+        s.visible.items s.hiding.items s.new_threads.items s.old_threads.items };
 }
 
 // The ids at places of an order.
@@ -129,7 +129,7 @@ impl Sight {
     ghost use Rattle.std.specs.Prelude.{◌≡◌, ◌<◌, [], length, nat_eq, IfOk, IfSome};
     ghost use Rattle.std.specs.List.{IsDistinct};
     ghost use Rattle.index_listed.specs.Cursor.{root_in, same_thread};
-    ghost use Rattle.index_listed.specs.Entries.{ParentsFirst};
+    ghost use Rattle.index_listed.specs.Entries.{ParentsFirst, at};
     ghost use Rattle.index_listed.specs.Places.{numbers, place_in};
     ghost use Rattle.index_listed.specs.Seen as spec;
     ghost use Rattle.index_listed.specs.Sight.{AreFirst};
@@ -182,6 +182,8 @@ impl Sight {
         requires long { length entries.items ≡ length order.items }
         requires roots { RootsWithin entries.items }
         requires parents { ParentsFirst entries.items }
+        requires new_long { length new_threads.items ≡ length entries.items }
+        requires old_long { length old_threads.items ≡ length entries.items }
         ensures { IfOk result (λ s. s ≡ record {
           order = order.items;
           entries = entries.items;
@@ -204,6 +206,33 @@ impl Sight {
             new_threads,
             old_threads,
         })
+    }
+
+    /// How many messages there are, hidden ones counted.
+    pub fn len(&self) -> usize
+        ensures value { result ≡ length self.now.entries }
+    {
+        self.order.len()
+    }
+
+    /// No thread has a new message or an old one any more.
+    pub fn clear_unread(&mut self)
+        ensures { self.new ≡ spec.without_unread self.old }
+    {
+        self.new_threads.fill(false);
+        self.old_threads.fill(false);
+    }
+
+    /// Marks the thread of the message at a place of the order where that is new, or old and
+    /// unread.
+    pub fn put_unread(&mut self, place: usize, is_new: bool, is_old: bool)
+        requires { place < length self.old.entries }
+        ensures marked { self.new ≡ spec.with_unread place is_new is_old self.old }
+        ensures root { (at self.old.entries place).root < length self.old.entries }
+    {
+        let root = self.tree.root(place);
+        mark_where(&mut self.new_threads, root, is_new);
+        mark_where(&mut self.old_threads, root, is_old);
     }
 
     /// All ids, in order.

@@ -10,8 +10,8 @@ use crate::entry::Entry;
 use mail_base::NoMemory;
 use std::alloc::Global;
 
-// Marks the thread with a root where a message passed a test.
-fn mark_where(marks: &mut Vec<bool>, root: usize, passes: bool)
+/// Marks the thread with a root where a message passed a test.
+pub fn mark_where(marks: &mut Vec<bool>, root: usize, passes: bool)
     requires within { root < length marks.old.items }
     ensures { marks.new.items
         ≡ slice_set marks.old.items root (slice_index_or marks.old.items root false || passes) }

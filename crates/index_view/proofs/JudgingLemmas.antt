@@ -1,6 +1,7 @@
 -- What a view answers is of its messages and of what they are judged by.
 use Rattle.std.proofs.Common.{◌≡◌, ◌∙◌, List, Option, ap, length, option_map, refl, subst, sym}
 use Rattle.folder_letters.specs.Letters.{Mail}
+use Rattle.patterns_match.specs.Listings.{Message}
 use Rattle.patterns_match.specs.declared.pattern.Pattern.{Pattern}
 use Rattle.index_items.specs.Items.{numbers}
 use Rattle.index_listed.specs.Cursor.{moved}
@@ -15,7 +16,7 @@ use Rattle.index_view.specs.Listing.{all_listed}
 use Rattle.index_view.specs.Marks.{marks_of}
 use Rattle.index_view.specs.Tables.{table}
 use Rattle.index_view.specs.View.{AreApart, IsOf, PlainView, Turned, answers_over, facts_of}
-use Rattle.index_view.specs.View.{picked_of, turned, visible_of}
+use Rattle.index_view.specs.View.{messages_over, picked_of, turned, visible_of}
 use Rattle.index_view.proofs.AnswersLemmas.{rows_long}
 
 -- there is a row for each message
@@ -25,12 +26,19 @@ rows_all mails v of = ap (λ (a : PlainAnswers). length a.rows) of.answered
     ∙ rows_long (all_listed mails v.items) (facts_of v)
 
 -- the messages as patterns see them are those that the view answers of
+pub seen_over : (mails : List Mail) (v : PlainView) → IsOf mails v
+    → (ls : List PlainListed) → ls ≡ all_listed mails v.items
+    → table ls v.answers.rows v.answers.links ≡ messages_over mails (facts_of v)
+seen_over mails v of ls is =
+    λ i. table (is i) (of.answered i).rows (of.answered i).links
+
+-- the same of what a pattern picks of them
 pub picked_is : (mails : List Mail) (pattern : PlainPattern) (v : PlainView) → IsOf mails v
     → (ls : List PlainListed) → ls ≡ all_listed mails v.items
     → picked v.people pattern (table ls v.answers.rows v.answers.links) v.answers
     ≡ picked_of mails pattern v
-picked_is mails pattern v of ls is = λ i. picked v.people pattern
-    (table (is i) (of.answered i).rows (of.answered i).links) v.answers
+picked_is mails pattern v of ls is =
+    ap (λ (m : List Message). picked v.people pattern m v.answers) (seen_over mails v of ls is)
 
 -- a view with another limit, and with what is seen under it
 abbrev pub limited : PlainView → Option Pattern → PlainSight → PlainView

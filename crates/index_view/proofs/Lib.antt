@@ -1,9 +1,12 @@
+pub mod TableLemmas
 pub mod ActingLemmas
 pub mod ItemLemmas
 pub mod OrderLemmas
 pub mod AnswersLemmas
 pub mod StillLemmas
 pub mod OneLemmas
+pub mod StayingLemmas
+pub mod RemarkLemmas
 pub mod ViewLemmas
 pub mod JoinLemmas
 pub mod LinesLemmas

@@ -21,7 +21,7 @@ use Rattle.patterns_match.specs.Listings.{Message}
 use Rattle.patterns_match.specs.declared.row.Row.{Row}
 use Rattle.index_items.specs.Acts.{acted}
 use Rattle.index_items.specs.Alteration.{alter_at, altered_where}
-use Rattle.index_items.specs.Items.{PlainItem, numbers as item_numbers}
+use Rattle.index_items.specs.Items.{PlainItem, item_at, no_item, numbers as item_numbers}
 use Rattle.index_items.specs.declared.act.Act.{Act}
 use Rattle.index_listed.specs.Cursor.{is_seen}
 use Rattle.index_listed.specs.Entries.{at as entry_at}
@@ -47,13 +47,14 @@ use Rattle.patterns_match.specs.Pattern.{PlainPattern}
 use Rattle.index_view.specs.Listing.{all_listed}
 use Rattle.index_view.specs.Marks.{mark_of, marks_of}
 use Rattle.index_view.specs.Ordering.{with_number}
-use Rattle.index_view.specs.Tables.{first_row, first_row_at, first_rows, item_at, message}
-use Rattle.index_view.specs.Tables.{message_at, no_item, no_row, row_at, scored_at, table}
+use Rattle.index_view.specs.Tables.{first_row, first_row_at, first_rows, message}
+use Rattle.index_view.specs.Tables.{message_at, no_row, row_at, scored_at, table}
 use Rattle.index_view.specs.Tables.{with_score}
 use Rattle.index_view.specs.View.{answers_over}
 use Rattle.index_view.proofs.AnswersLemmas.{row_numbers, rows_long}
 use Rattle.index_view.proofs.LinesLemmas.{found_any, some_where}
-use Rattle.index_view.proofs.StillLemmas.{AreBlind, acted_ids, acted_shut, bare, bare_row}
+use Rattle.index_view.specs.Acting.{bare_row}
+use Rattle.index_view.proofs.StillLemmas.{AreBlind, acted_ids, acted_shut, bare}
 use Rattle.index_view.proofs.StillLemmas.{first_bare, first_long, read_map, rows_bare, same_order}
 use Rattle.index_view.proofs.StillLemmas.{same_shut, shut_of, table_bare}
 use Rattle.index_view.proofs.ViewLemmas.{listed_ids}

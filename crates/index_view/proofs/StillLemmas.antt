@@ -16,8 +16,7 @@ use Rattle.patterns_match.specs.declared.row.Row.{Row}
 use Rattle.index_items.specs.Acts.{PlainAlteration, acted, alteration, changed_by, clearing}
 use Rattle.index_items.specs.Acts.{setting}
 use Rattle.index_items.specs.Alteration.{alter_at, altered_where}
-use Rattle.index_items.specs.Items.{PlainItem, ids_of, shown_flags}
-use Rattle.index_items.specs.Pending.{no_flags}
+use Rattle.index_items.specs.Items.{PlainItem, ids_of, no_item, shown_flags}
 use Rattle.index_items.specs.declared.act.Act.{Act}
 use Rattle.index_items.specs.declared.act.Act.TheVariants.{Set, Clear, TurnFlagged, TurnNew}
 use Rattle.index_items.specs.declared.act.Act.TheVariants.{TurnTag}
@@ -34,6 +33,7 @@ use Rattle.index_listed.specs.declared.mark.Mark.{Mark}
 use Rattle.index_listed.specs.declared.stance.Stance.{Stance}
 use Rattle.index_order.specs.Options.{sort_options}
 use Rattle.index_order.specs.Order.{is_threads, order}
+use Rattle.index_view.specs.Acting.{bare_row}
 use Rattle.index_view.specs.Answers.{Facts, links_of, messages_of, ordered, rows_of, scored}
 use Rattle.index_view.specs.Answers.{sight_of, stances_of, threads_of, within_of}
 use Rattle.index_view.specs.Limit.{all_within}
@@ -42,7 +42,7 @@ use Rattle.index_view.specs.Listing.{all_listed}
 use Rattle.index_view.specs.Marks.{mark_of, marks_of}
 use Rattle.index_view.specs.Ordering.{key_at, key_of, numbered, with_number}
 use Rattle.index_view.specs.Tables.{first_row, first_row_at, first_rows, in_shut, message}
-use Rattle.index_view.specs.Tables.{message_at, no_item, no_row, row_at, scored_at, table}
+use Rattle.index_view.specs.Tables.{message_at, no_row, row_at, scored_at, table}
 use Rattle.index_view.specs.Tables.{with_score}
 use Rattle.index_view.specs.View.{answers_over}
 use Rattle.index_view.proofs.ActingLemmas.{acted_keeps_id}
@@ -63,9 +63,6 @@ abbrev pub shut_of : PlainItem → Bool
 shut_of i = i.shut
 
 -- Rows and messages without flags, marks of deletion and tags.
-
-abbrev pub bare_row : Row → Row
-bare_row r = record r { flags = no_flags; deleted = false; tagged = false }
 
 abbrev pub bare : Message → Message
 bare m = record m { row = bare_row m.row }
@@ -220,7 +217,7 @@ module _ (ls : List PlainListed) (f : Facts) (items : List PlainItem)
     is_shut = same_is_shut s.place k;
   }
 
-  same_entries : IsBlind f.limit
+  pub same_entries : IsBlind f.limit
       → entries (marks_of (rows_of ls g) (within_of ls g)) (stances_of ls g)
       ≡ entries (marks_of (rows_of ls f) (within_of ls f)) (stances_of ls f)
   same_entries blind =

@@ -4,7 +4,10 @@ pub mod Ordering
 pub mod Limit
 pub mod Marks
 pub mod Answers
+pub mod Searching
 pub mod Shutting
 pub mod View
 pub mod Lines
 pub mod Laws
+pub mod Staying
+pub mod Acting

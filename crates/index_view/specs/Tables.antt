@@ -1,25 +1,17 @@
 -- The listed messages as patterns see them.
 use Rattle.std.specs.Prelude.{ℕ, pos, Bool, false, List, length, map, slice_index_or}
 use Rattle.std.specs.List.{range_with_len}
-use Rattle.headers.specs.Header.{plain_header}
 use Rattle.people.specs.People.{PlainPeople}
 use Rattle.patterns_match.specs.Listings.{Message}
 use Rattle.patterns_match.specs.Scores.{PlainEntry, score}
 use Rattle.patterns_match.specs.declared.row.Row.{Row}
-use Rattle.index_items.specs.Items.{PlainItem, listed as item_of, shown_flags}
+use Rattle.index_items.specs.Items.{PlainItem, item_at, shown_flags}
 use Rattle.index_items.specs.Pending.{no_flags}
-use Rattle.index_listed.specs.Listed.{PlainListed, at, no_id, size_of, text_of}
+use Rattle.index_listed.specs.Listed.{PlainListed, at, no_id, plain_listed, size_of}
+use Rattle.index_listed.specs.Listed.{text_of}
 use Rattle.index_listed.specs.Threading.{at as links_at}
 use Rattle.index_listed.specs.declared.links.Links.{Links}
-use Rattle.index_view.specs.declared.asked.Asked.{Asked}
-
--- what stands at a place where there is no message
-abbrev pub no_item : PlainItem
-no_item = item_of no_id no_flags
-
--- the listed message at a place
-abbrev pub item_at : List PlainItem → ℕ → PlainItem
-item_at items p = slice_index_or items p no_item
+use Rattle.index_view.specs.declared.messages.Messages.{Messages}
 
 -- the row that stands where there is none
 abbrev pub no_row : Row
@@ -100,13 +92,6 @@ scored_rows people entries messages rows =
 
 -- For the code alone.
 
--- a message of the code as patterns see it
-abbrev pub seen : Asked → Message
-seen a = record {
-  row = a.row;
-  header = plain_header a.header.now;
-  raw = a.raw.now;
-  parent = a.links.parent;
-  root = a.links.root;
-  duplicate = a.links.duplicate;
-}
+-- the messages of the code as patterns see them
+abbrev pub seen_of : Messages → List Message
+seen_of m = table (map plain_listed m.listed.now) m.rows.now m.links.now

@@ -1,8 +1,9 @@
 //! What the index answers, worked out from scratch.
 
-ghost use Rattle.std.specs.Prelude.{◌≡◌, ◌<◌, length, map, nat_eq, option_map, true, IfOk};
+ghost use Rattle.std.specs.Prelude.{◌≡◌, ◌<◌, length, map, nat_eq, option_map, slice_get, true};
+ghost use Rattle.std.specs.Prelude.{IfOk};
 ghost use Rattle.std.specs.List.{IsDistinct};
-ghost use Rattle.index_items.specs.Items.{plain_items};
+ghost use Rattle.index_items.specs.Items.{plain_item, plain_items};
 ghost use Rattle.index_listed.specs.Listed.{plain_listed};
 ghost use Rattle.index_listed.specs.Places.{numbers};
 ghost use Rattle.index_listed.specs.Seen.{sight};
@@ -12,6 +13,7 @@ ghost use Rattle.index_listed.specs.Threading as threading;
 ghost use Rattle.index_order.specs.Options.{sort_options};
 ghost use Rattle.index_order.specs.Order as ordering;
 ghost use Rattle.index_rows.specs.Ties.{plain_ties, ties_of};
+ghost use Rattle.index_view.specs.Acting as acting;
 ghost use Rattle.index_view.specs.Answers as spec;
 ghost use Rattle.index_view.specs.Limit.{all_within};
 ghost use Rattle.patterns_match.specs.Pattern.{plain_pattern};
@@ -22,9 +24,10 @@ ghost use Rattle.index_view.specs.Tables.{table};
 ghost use Rattle.patterns_match.specs.ScoreEntries.{held_entries};
 ghost use Rattle.threads.specs.Order.{ParentsFirst};
 
-use crate::asked::{Messages, messages_of};
+use crate::asked::messages_of;
 use crate::limiting::all_within;
 use crate::marks::marks;
+use crate::messages::Messages;
 use crate::ordering::{keys, numbered};
 use crate::rows::{first_rows, scored_rows};
 use crate::tables::Tables;
@@ -98,7 +101,7 @@ fn scored(
     ensures same { tables.new ≡ tables.old }
 {
     let rows = first_rows(alloc, listed, items, links)?;
-    let messages = messages_of(alloc, listed, &rows, links)?;
+    let messages = messages_of(listed, &rows, links);
     scored_rows(
         alloc,
         &mut tables.scores,
@@ -206,7 +209,7 @@ fn sight_of(
         (table (map plain_listed listed.now) rows.now links.now))) order.items stances.now) }
     ensures same { tables.new ≡ tables.old }
 {
-    let messages = messages_of(alloc, listed, rows, links)?;
+    let messages = messages_of(listed, rows, links);
     let within = all_within(alloc, &mut tables.limit, &mut tables.people, &messages)?;
     let marks = marks(alloc, rows, &within)?;
     Sight::new(alloc, &marks, order, stances)
@@ -226,19 +229,48 @@ fn shut_at(sight: &Sight, place: usize) -> Option<Shut>
     })
 }
 
+// Whether the message at a place of the order is unread, and old or not.
+fn is_unread(old: bool, rows: &[Row], stances: &[Stance], place: usize) -> bool
+    ensures { result ≡ acting.unread_of old rows.now (slice_get stances.now place) }
+{
+    let Some(stance) = stances.get(place) else {
+        return false;
+    };
+    match rows.get(stance.place) {
+        Some(row) if old => row.flags.is_old(),
+        Some(row) => row.flags.is_new(),
+        None => false,
+    }
+}
+
+// Asks all threads anew for unread messages.
+fn tell_unread(sight: &mut Sight, rows: &[Row], stances: &[Stance])
+    ensures { sight.new ≡ acting.told rows.now stances.now sight.old }
+{
+    sight.clear_unread();
+    for place in 0..sight.len() {
+        let is_new = is_unread(false, rows, stances, place);
+        let is_old = is_unread(true, rows, stances, place);
+        sight.put_unread(place, is_new, is_old);
+    }
+}
+
 impl Answers {
     ghost use Rattle.std.specs.Prelude.{◌≡◌, ◌<◌, length, map, option_map, slice_index_or, IfOk};
-    ghost use Rattle.std.specs.Prelude.{IfSome};
+    ghost use Rattle.std.specs.Prelude.{find, slice_set, IfSome};
+    ghost use Rattle.index_items.specs.Items.{plain_item};
     ghost use Rattle.index_listed.specs.Listed.{plain_listed};
-    ghost use Rattle.index_listed.specs.Seen.{sight};
+    ghost use Rattle.index_listed.specs.Seen.{sight, visible_ids};
     ghost use Rattle.index_listed.specs.Threading as threading;
     ghost use Rattle.index_rows.specs.Ties.{plain_ties};
+    ghost use Rattle.index_view.specs.Acting as acting;
     ghost use Rattle.index_view.specs.Answers as spec;
     ghost use Rattle.index_view.specs.Limit.{all_within};
     ghost use Rattle.patterns_match.specs.Pattern.{plain_pattern};
     ghost use Rattle.index_view.specs.Lines.{hidden_by, no_ties};
     ghost use Rattle.index_view.specs.Marks.{marks_of};
-    ghost use Rattle.index_view.specs.Tables.{seen, table};
+    ghost use Rattle.index_view.specs.Searching.{found_from};
+    ghost use Rattle.index_view.specs.Tables.{row_at, seen_of, table};
 
     /// Nothing is listed.
     pub fn none(alloc: Global) -> Answers
@@ -329,6 +361,27 @@ impl Answers {
         &self.sight
     }
 
+    /// Puts in how the message at a place of the listing stands now.
+    pub fn remark(&mut self, place: usize, item: Item)
+        requires { place < length self.old.rows }
+        ensures { self.new ≡ record self.old {
+          rows = slice_set self.old.rows place
+              (acting.remarked (plain_item item) (row_at self.old.rows place));
+        } }
+    {
+        let row = &mut self.rows[place];
+        row.flags = item.shown();
+        row.deleted = item.pending.deleted;
+        row.tagged = item.tagged;
+    }
+
+    /// Asks all threads anew for unread messages.
+    pub fn tell_unread(&mut self)
+        ensures { self.new ≡ acting.with_unread self.old }
+    {
+        tell_unread(&mut self.sight, &self.rows, &self.stances);
+    }
+
     /// Puts in what is seen of the same order.
     pub fn put_sight(&mut self, sight: Sight)
         requires { sight.order ≡ self.old.sight.order }
@@ -402,9 +455,9 @@ impl Answers {
         pattern: &mut Pattern,
         id: Id,
     ) -> Result<bool, NoMemory>
-        requires { length messages.now.asked.items ≡ length self.now.rows }
+        requires { length (seen_of messages.now) ≡ length self.now.rows }
         ensures value { IfOk result (λ passed. passed ≡ spec.id_passes people.old
-            (plain_pattern pattern.old) (map seen messages.now.asked.items) self.now id) }
+            (plain_pattern pattern.old) (seen_of messages.now) self.now id) }
         ensures same { (pattern.new ≡ pattern.old) × (people.new ≡ people.old) }
     {
         match self.place(id) {
@@ -427,7 +480,7 @@ impl Answers {
             (table (map plain_listed listed.now) self.now.rows self.now.links) self.now) }
         ensures same { (pattern.new ≡ pattern.old) × (people.new ≡ people.old) }
     {
-        let messages = messages_of(alloc, listed, &self.rows, &self.links)?;
+        let messages = messages_of(listed, &self.rows, &self.links);
         let mut ids = Ids::new(alloc);
         let mut left = self.sight.visible().as_slice();
         while let [first, rest @ ..] = left {
@@ -437,5 +490,54 @@ impl Answers {
             left = rest;
         }
         Ok(ids)
+    }
+
+    // The first of some ids that satisfies a pattern. None behind it is asked.
+    fn first_passing(
+        &self,
+        alloc: Global,
+        people: &mut People,
+        messages: &Messages<'_>,
+        pattern: &mut Pattern,
+        ids: &[Id],
+    ) -> Result<Option<Id>, NoMemory>
+        requires { length (seen_of messages.now) ≡ length self.now.rows }
+        ensures value { IfOk result (λ found. found ≡ find (spec.id_passes people.old
+            (plain_pattern pattern.old) (seen_of messages.now) self.now) ids.now) }
+        ensures same { (pattern.new ≡ pattern.old) × (people.new ≡ people.old) }
+    {
+        let mut left = ids;
+        while let [first, rest @ ..] = left {
+            if self.passes(alloc, people, messages, pattern, *first)? {
+                return Ok(Some(*first));
+            }
+            left = rest;
+        }
+        Ok(None)
+    }
+
+    /// The next id that is seen and satisfies a pattern, from the one behind a place of what is
+    /// seen on, going round to that place last. No message behind the one that is found is asked.
+    pub fn found_from(
+        &self,
+        alloc: Global,
+        people: &mut People,
+        listed: &[Listed<'_>],
+        pattern: &mut Pattern,
+        place: usize,
+    ) -> Result<Option<Id>, NoMemory>
+        requires listed { length self.now.rows ≡ length listed.now }
+        requires place { place < length (visible_ids self.now.sight) }
+        ensures value { IfOk result (λ found. found ≡ found_from people.old
+            (plain_pattern pattern.old)
+            (table (map plain_listed listed.now) self.now.rows self.now.links) self.now place) }
+        ensures same { (pattern.new ≡ pattern.old) × (people.new ≡ people.old) }
+    {
+        let messages = messages_of(listed, &self.rows, &self.links);
+        let (front, behind) = self.sight.visible().as_slice().split_at(place + 1);
+        match self.first_passing(alloc, people, &messages, pattern, behind)? {
+            Some(id) => Ok(Some(id)),
+            None => self.first_passing(alloc, people, &messages, pattern, front),
+        }
     }
 }

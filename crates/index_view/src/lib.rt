@@ -3,14 +3,17 @@
 //! and ask for its ids, rows and lines.
 #![tactic(auto)]
 
+mod acting;
 mod answers;
 mod asked;
 mod asking;
+mod finding;
 mod judging;
 mod laws;
 mod limiting;
 mod lines;
 mod marks;
+mod messages;
 mod ordering;
 mod rows;
 mod shutting;

@@ -6,7 +6,7 @@ ghost use Rattle.index_listed.specs.Listed.{plain_listed};
 ghost use Rattle.index_view.specs.Tables as spec;
 ghost use Rattle.patterns_match.specs.ScoreEntries.{held_entries};
 
-use crate::asked::Messages;
+use crate::messages::Messages;
 use index_items::Item;
 use index_listed::{Links, Listed};
 use mail_base::NoMemory;
@@ -31,12 +31,6 @@ fn first_row(listed: &Listed<'_>, item: Item, collapsed: bool) -> Row
     }
 }
 
-fn is_shut(items: &[Item], root: usize) -> bool
-    ensures { result ≡ (spec.item_at (plain_items items.now) root).shut }
-{
-    root < items.len() && items[root].shut
-}
-
 fn first_row_at(listed: &[Listed<'_>], items: &[Item], links: &[Links], place: usize) -> Row
     requires listed { place < length listed.now }
     requires items { place < length items.now }
@@ -44,7 +38,8 @@ fn first_row_at(listed: &[Listed<'_>], items: &[Item], links: &[Links], place: u
     ensures { result ≡ spec.first_row_at (map plain_listed listed.now) (plain_items items.now)
         links.now place }
 {
-    let collapsed = is_shut(items, links[place].root);
+    let root = links[place].root;
+    let collapsed = root < items.len() && items[root].shut;
     first_row(&listed[place], items[place], collapsed)
 }
 
@@ -77,9 +72,9 @@ fn scored_at(
     place: usize,
 ) -> Result<Row, NoMemory>
     requires rows { place < length rows.now }
-    requires messages { place < length messages.now.asked.items }
+    requires messages { place < length (spec.seen_of messages.now) }
     ensures value { IfOk result (λ row. row ≡ spec.scored_at people.old
-        (held_entries scores.old.entries.items) (map spec.seen messages.now.asked.items)
+        (held_entries scores.old.entries.items) (spec.seen_of messages.now)
         rows.now place) }
     ensures same { (scores.new ≡ scores.old) × (people.new ≡ people.old) }
 {
@@ -98,9 +93,9 @@ pub fn scored_rows(
     messages: &Messages<'_>,
     rows: &[Row],
 ) -> Result<Vec<Row>, NoMemory>
-    requires { length messages.now.asked.items ≡ length rows.now }
+    requires { length (spec.seen_of messages.now) ≡ length rows.now }
     ensures value { IfOk result (λ all. all.items ≡ spec.scored_rows people.old
-        (held_entries scores.old.entries.items) (map spec.seen messages.now.asked.items)
+        (held_entries scores.old.entries.items) (spec.seen_of messages.now)
         rows.now) }
     ensures same { (scores.new ≡ scores.old) × (people.new ≡ people.old) }
 {

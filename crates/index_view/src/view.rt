@@ -28,6 +28,7 @@ use std::marker::Model;
 /// and in order, what of them is seen under a limit and shut threads, and where the cursor stands.
 /// Each call that changes something works all out from scratch beside what stands; one that is
 /// refused leaves all as before.
+#[derive(Drop)]
 pub struct View {
     pub(crate) alloc: Global,
     pub(crate) options: ViewOptions,
@@ -58,21 +59,6 @@ impl Model for View {
       cursor = v.cursor;
       aliases = v.aliases.aliases;
     } };
-}
-
-impl Drop for View {
-    fn drop(self) {
-        let View {
-            alloc: _,
-            options: _,
-            tables: _,
-            aliases: _,
-            items: _,
-            heads: _,
-            answers: _,
-            cursor: _,
-        } = self;
-    }
 }
 
 /// The messages with the letters of their ids.

@@ -1,6 +1,5 @@
 -- Where no act changes what is seen, acts one after the other are one change.
-use Rattle.std.proofs.Common.{◌≡◌, ◌∙◌, List, [], ◌∷◌, None, Option, Some, ap, refl, slice_get}
-use Rattle.std.proofs.Common.{subst, sym}
+use Rattle.std.proofs.Common.{◌≡◌, ◌∙◌, List, [], ◌∷◌, Option, ap, subst, sym}
 use Rattle.folder_letters.specs.Letters.{Mail}
 use Rattle.mail_base.specs.declared.kind.Id.{Id}
 use Rattle.index_items.specs.Acts.{acted_all as all_acted_items}
@@ -8,15 +7,11 @@ use Rattle.index_items.specs.declared.act.Act.{Act}
 use Rattle.index_listed.specs.Cursor.{Stands, moved}
 use Rattle.index_view.specs.Answers.{Facts}
 use Rattle.index_view.specs.View.{answers_over}
+use Rattle.index_view.proofs.RemarkLemmas.{stays_put}
 use Rattle.index_view.proofs.StillLemmas.{AreBlind, IsBlind, seen_acted}
 use Rattle.session_index.specs.Acts.{acted, acted_all}
 use Rattle.session_index.specs.Index.{PlainIndex, given, seen_of}
 use Rattle.session_index.specs.Shown.{seen}
-
--- a cursor that stands stays where what is seen stays
-stays : (ids : List Id) (cursor : Option Id) → Stands ids cursor → moved ids ids cursor ≡ cursor
-stays ids None none = ap (λ (l : List Id). slice_get l 0) none
-stays ids (Some id) stands = rw stands refl
 
 module _ (mails : List Mail) (act : Act) where
   -- all of them at once
@@ -28,14 +23,14 @@ module _ (mails : List Mail) (act : Act) where
       → AreBlind i.facts.scores → Stands (seen_of mails i) i.cursor
       → acted_all mails act ids i ≡ at_once ids i
   acted_at_once [] i blind scores stands =
-      λ k. record i { cursor = sym (stays (seen_of mails i) i.cursor stands) k }
+      λ k. record i { cursor = sym (stays_put (seen_of mails i) i.cursor stands) k }
   acted_at_once (id ∷ ids) i blind scores stands =
       let j = acted mails act id i in
       let same : seen_of mails j ≡ seen_of mails i =
       seen_acted mails i.facts act id blind scores in
       let cursor : j.cursor ≡ i.cursor =
       ap (λ (ids : List Id). moved (seen_of mails i) ids i.cursor) same
-      ∙ stays (seen_of mails i) i.cursor stands in
+      ∙ stays_put (seen_of mails i) i.cursor stands in
       let stood : Stands (seen_of mails j) j.cursor =
       subst (λ (c : Option Id). Stands (seen_of mails j) c) (sym cursor)
       (subst (λ (ids : List Id). Stands ids i.cursor) (sym same) stands) in

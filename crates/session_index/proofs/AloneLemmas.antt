@@ -14,7 +14,7 @@ use Rattle.patterns_match.specs.Pattern.{PlainPattern}
 use Rattle.index_view.proofs.OneLemmas.{IsOwn}
 use Rattle.index_view.proofs.StillLemmas.{bare}
 use Rattle.session_index.specs.Hiding.{is_alone, limit_is_alone}
-use Rattle.session_index.proofs.StayingLemmas.{child_same}
+use Rattle.index_view.proofs.StayingLemmas.{child_same}
 
 passes_alike : (f g : Message → Bool) (m : Option Message) → ((n : Message) → f n ≡ g n)
     → passes f m ≡ passes g m

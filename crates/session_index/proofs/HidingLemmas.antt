@@ -29,9 +29,9 @@ use Rattle.session_index.specs.Hiding.{are_open, before_cursor, hide_alone, is_p
 use Rattle.session_index.specs.Hiding.{limit_is_alone, looks_alone}
 use Rattle.session_index.specs.Index.{PlainIndex, Shows, answers_of, index_of, seen_of}
 use Rattle.session_index.specs.Shown.{seen}
-use Rattle.session_index.specs.Staying.{entries_stay}
+use Rattle.index_view.specs.Staying.{entries_stay}
 use Rattle.session_index.proofs.AloneLemmas.{limit_own}
-use Rattle.session_index.proofs.StayingLemmas.{entries_blind}
+use Rattle.index_view.proofs.StayingLemmas.{entries_blind}
 use Rattle.session_index.proofs.PartLemmas.{all_seen, count_left, left, moved_left, none_left}
 use Rattle.session_index.proofs.PartLemmas.{not_left, get_placed, part_has, part_left, placed_low}
 use Rattle.session_index.proofs.PartLemmas.{split_left}

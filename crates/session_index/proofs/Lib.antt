@@ -1,10 +1,8 @@
-mod StayingLemmas
 mod AloneLemmas
 mod PartLemmas
 pub mod ActsLemmas
 mod HidingLemmas
 pub mod IndexLemmas
-pub mod SearchLemmas
 pub mod DeskLemmas
 mod JoinedLemmas
 mod ViewingLemmas

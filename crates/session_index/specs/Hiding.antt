@@ -9,7 +9,7 @@ use Rattle.index_listed.specs.Page.{cursor_place}
 use Rattle.index_view.specs.Answers.{Facts, PlainAnswers, is_open}
 use Rattle.patterns_match.specs.Pattern.{PlainPattern}
 use Rattle.session_index.specs.Shown.{seen}
-use Rattle.session_index.specs.Staying.{entries_stay}
+use Rattle.index_view.specs.Staying.{entries_stay}
 
 -- a term of any kind
 abbrev pub any_leaf : Leaf → Bool

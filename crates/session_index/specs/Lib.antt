@@ -15,5 +15,4 @@ pub mod Typing
 pub mod LastLine
 pub mod Opening
 pub mod Viewing
-pub mod Staying
 pub mod Hiding

@@ -1,11 +1,12 @@
 -- Where motions of the cursor lead: a line each.
-use Rattle.std.specs.Prelude.{◌+◌, ◌-◌, ◌*◌, ◌/◌, ◌++◌, ℕ, true, false, List, Option, None}
+use Rattle.std.specs.Prelude.{◌+◌, ◌-◌, ◌*◌, ◌/◌, ℕ, true, false, List, Option, None}
 use Rattle.std.specs.Prelude.{Some, drop, find, length, nat_lt, reverse, slice_get, take}
 use Rattle.std.specs.Prelude.{if◌then◌else◌}
 use Rattle.std.specs.Option.{option_or}
 use Rattle.mail_base.specs.declared.kind.Id.{Id}
 use Rattle.index_listed.specs.Places.{place_in}
 use Rattle.index_view.specs.Answers.{PlainAnswers, parent_of}
+use Rattle.index_view.specs.Searching.{round}
 use Rattle.index_listed.specs.Cursor.{is_seen}
 use Rattle.index_view.specs.View.{PlainView, moved_to}
 use Rattle.threads.specs.declared.options.Parent.{Parent}
@@ -27,10 +28,6 @@ use Rattle.session_index.specs.declared.way.Way.TheVariants.{To, Stays}
 abbrev pub way_or : Notice → Option Id → Way
 way_or text None = Stays text
 way_or text (Some id) = To id
-
--- the ids from the one behind a place on, going round to the one at the place
-abbrev pub round : ℕ → List Id → List Id
-round p ids = drop (p + 1) ids ++ take (p + 1) ids
 
 -- the ids before a place, the nearest first
 abbrev pub back : ℕ → List Id → List Id

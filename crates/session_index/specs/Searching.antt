@@ -1,24 +1,19 @@
 -- Searches among the messages that are seen.
-use Rattle.std.specs.Prelude.{[], ◌∷◌, ℕ, List, Option, None, Some, find, nat_eq}
-use Rattle.std.specs.Prelude.{if◌then◌else◌}
+use Rattle.std.specs.Prelude.{ℕ, List, Option, None, Some}
 use Rattle.folder_letters.specs.Letters.{Mail}
 use Rattle.mail_base.specs.declared.kind.Id.{Id}
 use Rattle.index_listed.specs.Places.{place_in}
-use Rattle.index_view.specs.Answers.{PlainAnswers, id_passes}
+use Rattle.index_view.specs.Answers.{PlainAnswers}
+use Rattle.index_view.specs.Searching.{found_from}
 use Rattle.patterns_match.specs.Pattern.{PlainPattern}
 use Rattle.index_view.specs.View.{PlainView, facts_of, messages_over}
 use Rattle.patterns_match.specs.Listings.{Message}
 use Rattle.people.specs.People.{PlainPeople}
-use Rattle.session_index.specs.Motions.{round, way_or}
+use Rattle.session_index.specs.Motions.{way_or}
 use Rattle.session_index.specs.Shown.{seen}
 use Rattle.session_index.specs.declared.notice.Notice.TheVariants as notice
 use Rattle.session_index.specs.declared.way.Way.{Way}
 use Rattle.session_index.specs.declared.way.Way.TheVariants.{Stays}
-
--- the next message that satisfies a pattern, from the one behind a place on, going round
-abbrev pub found_from : PlainPeople → PlainPattern → List Message → PlainAnswers → ℕ → Option Id
-found_from people pattern messages a p =
-    find (id_passes people pattern messages a) (round p (seen a))
 
 -- where a search leads from a place, if the cursor has one
 abbrev pub way_found : PlainPeople → PlainPattern → List Message → PlainAnswers → Option ℕ → Way
@@ -35,10 +30,3 @@ place_of ids (Some id) = place_in ids id
 abbrev pub search_way : List Mail → PlainPattern → PlainView → Way
 search_way mails pattern v = way_found v.people pattern (messages_over mails (facts_of v))
     v.answers (place_of (seen v.answers) v.cursor)
-
--- For the code alone.
-
--- ids without the first, where that is this one
-abbrev pub without : Id → List Id → List Id
-without id [] = []
-without id (first ∷ ids) = if nat_eq first.0 id.0 then ids else first ∷ ids

@@ -1,10 +1,11 @@
 //! How acts change a view.
 
-ghost use Rattle.std.specs.Prelude.{◌≡◌, map, nat_eq, true, IfOk, OnOk};
+ghost use Rattle.std.specs.Prelude.{◌≡◌, Ok, map, nat_eq, true, IfOk, OnOk};
 ghost use Rattle.std.specs.List.{IsDistinct, count_by};
 ghost use Rattle.folder_letters.specs.Letters.{plain_letter};
 ghost use Rattle.index_listed.specs.Cursor.{is_seen};
 ghost use Rattle.index_listed.specs.Places.{numbers};
+ghost use Rattle.index_view.specs.Staying.{is_still as still};
 ghost use Rattle.index_view.specs.View.{IsOf, facts_of, visible_of};
 ghost use Rattle.session_index.specs.Acts as spec;
 ghost use Rattle.session_index.specs.Hiding as hiding;
@@ -19,8 +20,9 @@ use index_view::View;
 use mail_base::{Id, NoMemory};
 use std::alloc::Global;
 
-/// Does this to messages, one after the other; the cursor goes behind each where it has to. What
-/// is seen is worked out once, unless what is done to one message may show it, or hide others.
+/// Does this to messages, one after the other; the cursor goes behind each where it has to. Where
+/// nothing that is seen hangs on it, the messages are changed in place, without memory. Else what is
+/// seen is worked out once, unless what is done to one message may show it, or hide others.
 pub fn act_on(
     alloc: Global,
     view: &mut View,
@@ -29,12 +31,14 @@ pub fn act_on(
     ids: &[Id],
 ) -> Result<(), NoMemory>
     requires { IsOf (map plain_letter archive.now.items) view.old }
-    ensures { OnOk result (Shows (map plain_letter archive.now.items)
+    ensures acted { OnOk result (Shows (map plain_letter archive.now.items)
         (spec.acted_all (map plain_letter archive.now.items) act ids.now (index_of view.old))
         view.new) }
+    ensures still { still (facts_of view.old) ≡ true → result ≡ Ok tt }
 {
     if is_still(view) {
-        return view.act_on(archive, act, ids);
+        view.act_still(archive, act, ids);
+        return Ok(());
     }
     if ids.len() > 1 && hide_alone(view, ids) {
         return act_on_seen(alloc, view, archive, act, ids);

@@ -8,7 +8,7 @@ ghost use Rattle.patterns_match.specs.Leaves.{passes};
 ghost use Rattle.patterns_match.specs.Operations.{operation_map};
 ghost use Rattle.patterns_match.specs.Pattern.{pattern_tree};
 ghost use Rattle.patterns_match.specs.ScoreEntries.{held_entries};
-ghost use Rattle.session_index.specs.Staying as spec;
+ghost use Rattle.index_view.specs.Staying as spec;
 
 use index_view::View;
 use patterns_match::{Asked, Mark, Operation, Pattern, ScoreEntry};

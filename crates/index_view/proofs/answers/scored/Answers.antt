@@ -7,11 +7,12 @@ use Rattle.patterns_match.specs.declared.row.Row.{Row}
 use Rattle.index_items.specs.Items.{plain_items}
 use Rattle.index_listed.specs.Listed.{plain_listed}
 use Rattle.index_listed.proofs.ListLemmas.{as_many}
-use Rattle.index_view.specs.Tables.{first_row_at, first_rows, message_at, scored_rows, seen, table}
+use Rattle.index_view.specs.Tables.{first_row_at, first_rows, scored_rows, seen_of, table}
+use Rattle.index_view.proofs.TableLemmas.{table_long}
 use Rattle.index_view.proofs.answers.scored.Goals as goal
 
-pub messages_of-requires-clause-rows : goal.messages_of-requires-clause-rows
-messages_of-requires-clause-rows c =
+pub messages_of-messages-requires-clause-rows : goal.messages_of-messages-requires-clause-rows
+messages_of-messages-requires-clause-rows c =
     let ls = map plain_listed c.args.listed.now in
     as_many (first_row_at ls (plain_items c.args.items.now) c.args.links.now) (length ls) _
     (c.deref.ensures.value ∙ c.in_ok-rows.ensures) ∙ length-map c.args.listed.now plain_listed
@@ -19,10 +20,8 @@ messages_of-requires-clause-rows c =
 pub scored_rows-requires : goal.scored_rows-requires
 scored_rows-requires c =
     let ls = map plain_listed c.args.listed.now in
-    let asked = c.in_ok-messages.messages.asked.items in
-    sym (length-map asked seen)
-    ∙ as_many (message_at ls c.deref.result.now c.args.links.now) (length ls) _
-    c.in_ok-messages.ensures
+    ap length c.messages_of-messages.ensures
+    ∙ table_long ls c.deref.result.now c.args.links.now
     ∙ sym (as_many (first_row_at ls (plain_items c.args.items.now) c.args.links.now) (length ls) _
     (c.deref-2.ensures.value ∙ c.in_ok-rows.ensures))
 
@@ -33,8 +32,8 @@ returns-clause-value c =
     let people = c.args.tables.now.people in
     let entries = held_entries c.args.tables.now.scores.entries.items in
     let rows = first_rows ls (plain_items c.args.items.now) links in
-    let messages : map seen c.in_ok-messages.messages.asked.items ≡ table ls rows links =
-    c.in_ok-messages.ensures
+    let messages : seen_of c.messages_of-messages.result ≡ table ls rows links =
+    c.messages_of-messages.ensures
     ∙ ap (λ (r : List Row). table ls r links) (c.deref.ensures.value ∙ c.in_ok-rows.ensures) in
     subst (λ (z : List Row). IfOk c.scored_rows.result (λ (all : Vec Row _). all.items ≡ z))
     (ap (λ (m : List Message). scored_rows people entries m c.deref-2.result.now) messages

@@ -14,7 +14,7 @@ returns-clause-value c =
     let rows = c.args.rows.now in
     let stances = c.args.stances.now in
     let within = c.deref.ensures.value ∙ c.in_ok-within.ensures.value
-    ∙ ap (all_within people limit) c.in_ok-messages.ensures in
+    ∙ ap (all_within people limit) c.messages_of-messages.ensures in
     subst (λ (m : List Mark). IfOk c.new.result
     (λ (s : PlainSight). s ≡ sight m c.args.order.items stances))
     (c.deref-2.ensures.value ∙ c.in_ok-marks.ensures ∙ ap (marks_of rows) within)

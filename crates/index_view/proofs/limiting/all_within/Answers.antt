@@ -1,15 +1,15 @@
-use Rattle.std.proofs.Common.{◌∙◌, Option, ap, map, option_map}
+use Rattle.std.proofs.Common.{◌∙◌, Option, ap, option_map}
 use Rattle.patterns_match.specs.declared.pattern.Pattern.{Pattern}
 use Rattle.people.specs.People.{PlainPeople}
 use Rattle.index_listed.proofs.ListLemmas.{put_next}
 use Rattle.patterns_match.specs.Pattern.{plain_pattern}
 use Rattle.index_view.specs.Limit as spec
-use Rattle.index_view.specs.Tables.{seen}
+use Rattle.index_view.specs.Tables.{seen_of}
 use Rattle.index_view.proofs.limiting.all_within.Goals as goal
 
 pub loop-place-preserved : goal.loop-place-preserved
 loop-place-preserved c =
-    let messages = map seen c.args.messages.now.asked.items in
+    let messages = seen_of c.args.messages.now in
     let place = c.loop-place.place in
     let same = c.loop-place.invariant in (
       c.in_ok-is_within.ensures.same.0 ∙ same.0,

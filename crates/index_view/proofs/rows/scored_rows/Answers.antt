@@ -1,4 +1,4 @@
-use Rattle.std.proofs.Common.{◌∙◌, ap, map}
+use Rattle.std.proofs.Common.{◌∙◌, ap}
 use Rattle.patterns_match.specs.ScoreEntries.{held_entries}
 use Rattle.patterns_match.specs.declared.scores.Scores.{Scores}
 use Rattle.people.specs.People.{PlainPeople}
@@ -8,7 +8,7 @@ use Rattle.index_view.proofs.rows.scored_rows.Goals as goal
 
 pub loop-place-preserved : goal.loop-place-preserved
 loop-place-preserved c =
-    let messages = map spec.seen c.args.messages.now.asked.items in
+    let messages = spec.seen_of c.args.messages.now in
     let rows = c.args.rows.now in
     let place = c.loop-place.place in
     let same = c.loop-place.invariant in (

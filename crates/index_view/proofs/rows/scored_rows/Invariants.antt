@@ -7,5 +7,5 @@ use Rattle.index_view.proofs.rows.scored_rows.Given as goal
 abbrev pub invariant-loop-place : goal.invariant-loop-place
 invariant-loop-place l = (l.scores ≡ l.initial.scores) × (l.people ≡ l.initial.people)
     × (l.all.items ≡ map (spec.scored_at l.initial.people
-    (held_entries l.initial.scores.entries.items) (map spec.seen l.messages.asked.items) l.rows)
+    (held_entries l.initial.scores.entries.items) (spec.seen_of l.messages) l.rows)
     (range_with_len 0 l.place))

@@ -2,7 +2,7 @@ use Rattle.std.proofs.Common.{◌≡◌, length, true}
 use Rattle.std.specs.List.{list_all}
 use Rattle.patterns_match.specs.Asked.{asked_operations}
 use Rattle.patterns_match.specs.Leaves.{passes}
-use Rattle.session_index.specs.Staying.{leaf_stays}
+use Rattle.index_view.specs.Staying.{leaf_stays}
 use Rattle.session_index.proofs.staying.all_stay.Given as goal
 
 -- what is left tells whether all stay

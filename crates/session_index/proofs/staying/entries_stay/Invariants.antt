@@ -1,6 +1,6 @@
 use Rattle.std.proofs.Common.{◌≡◌, length}
 use Rattle.patterns_match.specs.ScoreEntries.{held_entries}
-use Rattle.session_index.specs.Staying.{entries_stay}
+use Rattle.index_view.specs.Staying.{entries_stay}
 use Rattle.session_index.proofs.staying.entries_stay.Given as goal
 
 -- what is left tells whether all stay

@@ -4,7 +4,7 @@ use Rattle.patterns_match.specs.Asked.{asked_operations}
 use Rattle.patterns_match.specs.Leaves.{passes}
 use Rattle.patterns_match.specs.Pattern.{pattern_tree}
 use Rattle.patterns_match.proofs.AskingLemmas.{every_code}
-use Rattle.session_index.specs.Staying.{leaf_stays}
+use Rattle.index_view.specs.Staying.{leaf_stays}
 use Rattle.session_index.proofs.staying.stays.Goals as goal
 
 pub returns : goal.returns

@@ -2,7 +2,7 @@ use Rattle.std.proofs.Common.{◌≡◌, ◌∙◌, ap, length, subst, sym}
 use Rattle.std.proofs.lemmas.List.{length-map}
 use Rattle.index_listed.specs.Entries.{ParentsFirst, RootsWithin}
 use Rattle.index_listed.specs.Sight.{entry_of}
-use Rattle.index_listed.proofs.SightLemmas.{parents_first, roots_within}
+use Rattle.index_listed.proofs.SightLemmas.{parents_first, roots_within, told_long}
 use Rattle.index_listed.proofs.sight.Sight.new.Goals as goal
 use Rattle.index_listed.proofs.sight.Sight.new.Goals.{In_ok-entries}
 
@@ -35,3 +35,11 @@ of-requires-clause-roots c = roots (goal.at.of-requires-clause-roots c).In_ok-en
 
 pub of-requires-clause-parents : goal.of-requires-clause-parents
 of-requires-clause-parents c = parents (goal.at.of-requires-clause-parents c).In_ok-entries
+
+pub of-requires-clause-new_long : goal.of-requires-clause-new_long
+of-requires-clause-new_long c =
+    told_long _ _ _ c.in_ok-new_threads.ensures ∙ ap length c.deref.ensures.value
+
+pub of-requires-clause-old_long : goal.of-requires-clause-old_long
+of-requires-clause-old_long c =
+    told_long _ _ _ c.in_ok-old_threads.ensures ∙ ap length c.deref-2.ensures.value

@@ -24,4 +24,4 @@ returns c =
     let is : viewed mails id (plain_desk d) ≡ seen =
     λ k. if not (c.if-self.false k) && unread k then seen else plain_desk d in
     on_ok_weaker c.act_on.result (λ shown. holds_as mails _ _ _ (sym is)
-    (shown_holds mails d _ c.act_on.new.view shown)) c.act_on.ensures
+    (shown_holds mails d _ c.act_on.new.view shown)) c.act_on.ensures.acted

@@ -28,7 +28,7 @@ use Rattle.patterns_match.specs.declared.relation.Relation.TheVariants.{Thread, 
 use Rattle.index_view.specs.Limit.{all_within, is_within}
 use Rattle.patterns_match.specs.Pattern.{PlainPattern}
 use Rattle.index_view.proofs.StillLemmas.{AreBlind, IsBlind, bare, each_same}
-use Rattle.session_index.specs.Staying.{entries_stay, leaf_stays, limit_stays, mark_stays, stays}
+use Rattle.index_view.specs.Staying.{entries_stay, leaf_stays, limit_stays, mark_stays, stays}
 
 any_same : {X : Type 0} (f g : X → Bool) (xs : List X) → ((x : X) → f x ≡ g x)
     → list_any f xs ≡ list_any g xs

@@ -1,0 +1,17 @@
+use Rattle.std.proofs.Common.{arith, refl}
+use Rattle.patterns_match.specs.Listings.{Message}
+use Rattle.index_listed.specs.declared.links.Links.{Links}
+use Rattle.index_view.proofs.TableLemmas.{in_links, told_links}
+use Rattle.index_view.proofs.asked.MessagesTable.duplicate.Goals as goal
+
+pub offset_bounds-self-place : goal.offset_bounds-self-place
+offset_bounds-self-place c =
+    let low = in_links c.args.self.now c.args.place c.requires in
+    omega arith
+
+pub bounds-self-place : goal.bounds-self-place
+bounds-self-place c = in_links c.args.self.now c.args.place c.requires
+
+pub returns : goal.returns
+returns c = told_links c.args.self.now (λ (o : Message). o.duplicate)
+    (λ (l : Links). l.duplicate) (λ _. refl) c.args.place c.requires
