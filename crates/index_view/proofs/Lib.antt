@@ -6,6 +6,7 @@ pub mod AnswersLemmas
 pub mod StillLemmas
 pub mod OneLemmas
 pub mod StayingLemmas
+pub mod VeilLemmas
 pub mod RemarkLemmas
 pub mod ViewLemmas
 pub mod JoinLemmas

@@ -22,19 +22,19 @@ use Rattle.index_listed.specs.Listed.{PlainListed, all_listed as with_letters, a
 use Rattle.index_listed.specs.Listed.{no_listed}
 use Rattle.index_listed.specs.Sight.{entries}
 use Rattle.index_listed.specs.Marks.{is_unread as mark_unread, mark_at, no_mark}
-use Rattle.index_listed.specs.Seen.{marked_threads, unread}
+use Rattle.index_listed.specs.Seen.{marked_threads, unread, visible_ids}
 use Rattle.index_listed.specs.declared.mark.Mark.{Mark}
 use Rattle.index_listed.specs.declared.stance.Stance.{Stance}
 use Rattle.index_listed.proofs.PlaceLemmas.{map_at}
 use Rattle.index_view.specs.Acting.{AreAlike, RowsShow, Shown, bare_row, is_unread, item_shows}
 use Rattle.index_view.specs.Acting.{remarked, row_shows, unread_at, unread_in, unread_of}
-use Rattle.index_view.specs.Acting.{with_unread}
+use Rattle.index_view.specs.Acting.{veiled, veiled_shown, with_unread}
 use Rattle.index_view.specs.Answers.{Facts, PlainAnswers, answers, links_of, ordered, rows_of}
-use Rattle.index_view.specs.Answers.{scored, stances_of, within_of}
+use Rattle.index_view.specs.Answers.{scored, sight_of, stances_of, within_of}
 use Rattle.index_view.specs.Listing.{all_listed}
 use Rattle.index_view.specs.Marks.{mark_of, marks_of}
 use Rattle.index_view.specs.Ordering.{with_number}
-use Rattle.index_view.specs.Staying.{entries_stay, is_still, limit_stays}
+use Rattle.index_view.specs.Staying.{Touched, entries_stay, is_still, limit_stays, touched}
 use Rattle.index_view.specs.Tables.{first_row_at, first_rows, no_row, row_at}
 use Rattle.index_view.specs.Tables.{scored_at, table}
 use Rattle.index_view.specs.View.{IsOf, PlainView, Turned, answers_over, facts_of, visible_of}
@@ -42,13 +42,15 @@ use Rattle.index_view.proofs.ActingLemmas.{acted_keeps_id, all_acted_numbers, al
 use Rattle.index_view.proofs.StayingLemmas.{entries_blind, limit_blind}
 use Rattle.index_view.proofs.StillLemmas.{AreBlind, IsBlind, acted_ids, acted_shut, each_same}
 use Rattle.index_view.proofs.StillLemmas.{read_map, rows_bare, same_entries, same_order}
-use Rattle.index_view.proofs.StillLemmas.{same_stances, shut_of}
+use Rattle.index_view.proofs.StillLemmas.{same_stances, same_within, seen_still, shut_of}
+use Rattle.index_view.proofs.VeilLemmas.{all_acted_leave, item_but}
 
 -- Rows show messages.
 
--- a message without its flags is the same where they are, and shows the same
-by_parts : (r s : Row) → bare_row r ≡ bare_row s → row_shows r ≡ row_shows s → r ≡ s
-by_parts r s bare shows = λ k. record (bare k) {
+-- rows that differ in nothing else, and show the same but for what is touched, differ in that alone
+by_parts : (t : Touched) (r s : Row) → bare_row r ≡ bare_row s
+    → veiled_shown t (row_shows r) ≡ veiled_shown t (row_shows s) → veiled t r ≡ veiled t s
+by_parts t r s bare shows = λ k. record (bare k) {
   flags = (shows k).flags;
   deleted = (shows k).deleted;
   tagged = (shows k).tagged;
@@ -62,18 +64,30 @@ rest_of : {X : Type 0} → List X → List X
 rest_of [] = []
 rest_of (x ∷ xs) = xs
 
+abbrev shows_but : Touched → Row → Shown
+shows_but t r = veiled_shown t (row_shows r)
+
+rows_veiled : (t : Touched) (rows others : List Row) → AreAlike rows others
+    → map (shows_but t) rows ≡ map (shows_but t) others
+    → map (veiled t) rows ≡ map (veiled t) others
+unfolding first_of rest_of
+rows_veiled t [] [] alike shows = refl
+rows_veiled t [] (s ∷ others) alike shows = absurd (cc)
+rows_veiled t (r ∷ rows) [] alike shows = absurd (cc)
+rows_veiled t (r ∷ rows) (s ∷ others) alike shows =
+    let here = by_parts t r s (ap (first_of (bare_row r)) alike)
+    (ap (first_of (shows_but t r)) shows) in
+    let there = rows_veiled t rows others (ap rest_of alike) (ap rest_of shows) in
+    λ k. here k ∷ there k
+
+abbrev nothing : Touched
+nothing = record { flags = false; deleted = false; tagged = false }
+
 -- rows that differ in nothing and show the same are the same
 pub rows_same : (rows others : List Row) → AreAlike rows others
     → map row_shows rows ≡ map row_shows others → rows ≡ others
-unfolding first_of rest_of
-rows_same [] [] alike shows = refl
-rows_same [] (s ∷ others) alike shows = absurd (cc)
-rows_same (r ∷ rows) [] alike shows = absurd (cc)
-rows_same (r ∷ rows) (s ∷ others) alike shows =
-    let here = by_parts r s (ap (first_of (bare_row r)) alike)
-    (ap (first_of (row_shows r)) shows) in
-    let there = rows_same rows others (ap rest_of alike) (ap rest_of shows) in
-    λ k. here k ∷ there k
+rows_same rows others alike shows = sym (map-id rows)
+    ∙ rows_veiled nothing rows others alike shows ∙ map-id others
 
 -- the numbers of rows are those of the messages that they show
 pub shown_numbers : (items : List PlainItem) (rows : List Row) → RowsShow items rows
@@ -122,7 +136,8 @@ listed_ids mails items =
     map-map id_in (listed_with mails) (ids_of items) ∙ map-id (ids_of items)
 
 -- the rows of a view show its messages
-pub listed_show : (mails : List Mail) (v : PlainView) → IsOf mails v → RowsShow v.items v.answers.rows
+pub listed_show : (mails : List Mail) (v : PlainView) → IsOf mails v
+    → RowsShow v.items v.answers.rows
 listed_show mails v of = ap (λ (a : PlainAnswers). map row_shows a.rows) of.answered
     ∙ rows_show (all_listed mails v.items) (facts_of v) (listed_ids mails v.items)
 
@@ -213,15 +228,36 @@ module _ (rows : List Row) (within : List Bool) where
       ∙ read_test (is_unread false) rows p
 
   -- marks tell of unread messages what rows tell
-  pub unread_marks : (old : Bool) (all : List Stance) → unread old marks all ≡ unread_in old rows all
+  pub unread_marks : (old : Bool) (all : List Stance)
+      → unread old marks all ≡ unread_in old rows all
   unread_marks old all = each_same (λ s. mark_unread old (mark_at marks s.place))
       (λ s. unread_at old rows s.place) all (λ s. unread_mark old s.place)
 
 -- What is answered.
 
+shown_but : (t : Touched) (items : List PlainItem) (rows : List Row) → RowsShow items rows
+    → map (shows_but t) rows ≡ map (item_but t) items
+shown_but t items rows show =
+    sym (map-map (veiled_shown t) row_shows rows) ∙ ap (map (veiled_shown t)) show
+    ∙ map-map (veiled_shown t) item_shows items
+
+-- which messages satisfy a limit that does not look at what is touched
+still_within : (t : Touched) (ls : List PlainListed) (f : Facts) (items : List PlainItem)
+    → IsBlind t f.limit → AreBlind f.scores → map shut_of items ≡ map shut_of f.items
+    → map id_in ls ≡ ids_of f.items → ids_of items ≡ ids_of f.items
+    → map (item_but t) items ≡ map (item_but t) f.items
+    → within_of ls (record f { items = items }) ≡ within_of ls f
+still_within t ls f items blind scores_blind same ids same_ids leaves =
+    let g = record f { items = items } in
+    same_within ls f items scores_blind same t blind
+    (rows_veiled t (rows_of ls g) (rows_of ls f) (rows_bare ls f items scores_blind same)
+    (shown_but t items (rows_of ls g) (rows_show ls g (ids ∙ sym same_ids)) ∙ leaves
+    ∙ sym (shown_but t f.items (rows_of ls f) (rows_show ls f ids))))
+
 module _ (ls : List PlainListed) (f : Facts) (items : List PlainItem) (rows : List Row)
-    (blind : IsBlind f.limit) (scores_blind : AreBlind f.scores)
-    (same : map shut_of items ≡ map shut_of f.items) (ids : map id_in ls ≡ ids_of items)
+    (scores_blind : AreBlind f.scores) (same : map shut_of items ≡ map shut_of f.items)
+    (ids : map id_in ls ≡ ids_of items)
+    (within : within_of ls (record f { items = items }) ≡ within_of ls f)
     (alike : AreAlike rows (rows_of ls f)) (show : RowsShow items rows) where
   abbrev g : Facts
   g = record f { items = items }
@@ -245,7 +281,7 @@ module _ (ls : List PlainListed) (f : Facts) (items : List PlainItem) (rows : Li
       ∙ sym (unread_marks (rows_of ls g) (within_of ls g) old (stances_of ls g))
 
   abbrev same_seen : entries old_marks (stances_of ls f) ≡ entries new_marks (stances_of ls g)
-  same_seen = sym (same_entries ls f items scores_blind same blind)
+  same_seen = sym (same_entries ls f items scores_blind same within)
 
   -- it is as worked out from scratch
   pub remarked_answers : with_unread (record (answers ls f) { rows = rows }) ≡ answers ls g
@@ -272,19 +308,39 @@ all_acted_ids act [] items = refl
 all_acted_ids act (id ∷ ids) items =
     all_acted_ids act ids (alter_at id (acted act) items) ∙ acted_ids act id items
 
--- where neither the limit nor scores look at flags, rows are all that acts change, and the threads
--- with unread messages
+-- what is done to a message leaves what is seen, where neither limit nor scores look at it
+pub seen_acted : (mails : List Mail) (f : Facts) (act : Act) (id : Id)
+    → IsBlind (touched act) f.limit → AreBlind f.scores
+    → visible_ids (answers_over mails (record f { items = alter_at id (acted act) f.items })).sight
+    ≡ visible_ids (answers_over mails f).sight
+seen_acted mails f act id blind scores_blind =
+    let items = alter_at id (acted act) f.items in
+    ap (λ (xs : List Id). visible_ids
+    (sight_of (with_letters mails xs) (record f { items = items })))
+    (acted_ids act id f.items)
+    ∙ seen_still (all_listed mails f.items) f items scores_blind (acted_shut act id f.items)
+    (still_within (touched act) (all_listed mails f.items) f items blind scores_blind
+    (acted_shut act id f.items) (listed_ids mails f.items) (acted_ids act id f.items)
+    (all_acted_leave act (id ∷ []) f.items))
+
+-- where neither the limit nor scores look at what is done, rows are all that acts change, and the
+-- threads with unread messages
 pub acted_still : (mails : List Mail) (f : Facts) (act : Act) (ids : List Id) (rows : List Row)
-    → is_still f ≡ true → AreAlike rows (answers_over mails f).rows
+    → is_still (touched act) f ≡ true → AreAlike rows (answers_over mails f).rows
     → RowsShow (acted_all act ids f.items) rows
     → with_unread (record (answers_over mails f) { rows = rows })
     ≡ answers_over mails (record f { items = acted_all act ids f.items })
 acted_still mails f act ids rows still alike show =
     let items = acted_all act ids f.items in
-    let both = and_parts (entries_stay f.scores) (limit_stays f.limit) still in
-    let listed = listed_ids mails f.items ∙ sym (all_acted_ids act ids f.items) in
-    remarked_answers (all_listed mails f.items) f items rows (limit_blind f.limit both.1)
-    (entries_blind f.scores both.0) (all_acted_shut act ids f.items) listed alike show
+    let ls = all_listed mails f.items in
+    let both = and_parts (entries_stay f.scores) (limit_stays (touched act) f.limit) still in
+    let scores_blind = entries_blind f.scores both.0 in
+    let shut = all_acted_shut act ids f.items in
+    let same = all_acted_ids act ids f.items in
+    let listed = listed_ids mails f.items in
+    let within = still_within (touched act) ls f items (limit_blind (touched act) f.limit both.1)
+    scores_blind shut listed same (all_acted_leave act ids f.items) in
+    remarked_answers ls f items rows scores_blind shut (listed ∙ sym same) within alike show
     ∙ ap (λ (xs : List Id). answers (with_letters mails xs) (record f { items = items }))
     (sym (all_acted_ids act ids f.items))
 
@@ -299,7 +355,7 @@ stays_put ids (Some id) stands = rw stands refl
 -- A view.
 
 module _ (mails : List Mail) (v : PlainView) (act : Act) (ids : List Id) (rows : List Row)
-    (of : IsOf mails v) (still : is_still (facts_of v) ≡ true)
+    (of : IsOf mails v) (still : is_still (touched act) (facts_of v) ≡ true)
     (alike : AreAlike rows v.answers.rows) (show : RowsShow (acted_all act ids v.items) rows) where
   abbrev pub acted_view : PlainView
   acted_view = record v {

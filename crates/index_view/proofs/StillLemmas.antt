@@ -8,7 +8,6 @@ use Rattle.std.proofs.lemmas.Simd.{map-map}
 use Rattle.std.specs.List.{range_with_len}
 use Rattle.mail_base.specs.declared.flags.Flags.{Flags}
 use Rattle.mail_base.specs.declared.kind.Id.{Id}
-use Rattle.folder_letters.specs.Letters.{Mail}
 use Rattle.people.specs.People.{PlainPeople}
 use Rattle.patterns_match.specs.Listings.{Message}
 use Rattle.patterns_match.specs.Scores.{PlainEntry, score}
@@ -23,7 +22,7 @@ use Rattle.index_items.specs.declared.act.Act.TheVariants.{TurnTag}
 use Rattle.index_items.specs.declared.act.Mark.{Mark as ActMark}
 use Rattle.index_items.specs.declared.act.Mark.TheVariants.{Deleted, New, Old, Replied, Tagged}
 use Rattle.index_items.specs.declared.act.Mark.TheVariants.{Flagged}
-use Rattle.index_listed.specs.Listed.{PlainListed, all_listed as with_letters, at, ids as ids_in}
+use Rattle.index_listed.specs.Listed.{PlainListed, at, ids as ids_in}
 use Rattle.index_listed.specs.Marks.{mark_at}
 use Rattle.index_listed.specs.Seen.{visible_ids}
 use Rattle.index_listed.specs.Sight.{entries, entry_of, stances, visible}
@@ -33,18 +32,17 @@ use Rattle.index_listed.specs.declared.mark.Mark.{Mark}
 use Rattle.index_listed.specs.declared.stance.Stance.{Stance}
 use Rattle.index_order.specs.Options.{sort_options}
 use Rattle.index_order.specs.Order.{is_threads, order}
-use Rattle.index_view.specs.Acting.{bare_row}
+use Rattle.index_view.specs.Acting.{bare_row, veiled}
 use Rattle.index_view.specs.Answers.{Facts, links_of, messages_of, ordered, rows_of, scored}
 use Rattle.index_view.specs.Answers.{sight_of, stances_of, threads_of, within_of}
 use Rattle.index_view.specs.Limit.{all_within}
 use Rattle.patterns_match.specs.Pattern.{PlainPattern}
-use Rattle.index_view.specs.Listing.{all_listed}
 use Rattle.index_view.specs.Marks.{mark_of, marks_of}
 use Rattle.index_view.specs.Ordering.{key_at, key_of, numbered, with_number}
 use Rattle.index_view.specs.Tables.{first_row, first_row_at, first_rows, in_shut, message}
 use Rattle.index_view.specs.Tables.{message_at, no_row, row_at, scored_at, table}
 use Rattle.index_view.specs.Tables.{with_score}
-use Rattle.index_view.specs.View.{answers_over}
+use Rattle.index_view.specs.Staying.{Touched, everything}
 use Rattle.index_view.proofs.ActingLemmas.{acted_keeps_id}
 use Rattle.index_view.proofs.AnswersLemmas.{rows_long}
 
@@ -64,13 +62,17 @@ shut_of i = i.shut
 
 -- Rows and messages without flags, marks of deletion and tags.
 
-abbrev pub bare : Message → Message
-bare m = record m { row = bare_row m.row }
+abbrev pub without : Touched → Message → Message
+without t m = record m { row = veiled t m.row }
 
--- a limit tells the same of messages that differ in these alone
-abbrev pub IsBlind : Option PlainPattern → Type 0
-IsBlind limit = (people : PlainPeople) → (ms : List Message) → (ns : List Message)
-    → map bare ms ≡ map bare ns → all_within people limit ms ≡ all_within people limit ns
+abbrev pub bare : Message → Message
+bare m = without everything m
+
+-- a limit tells the same of messages that differ in what is touched alone
+abbrev pub IsBlind : Touched → Option PlainPattern → Type 0
+IsBlind t limit = (people : PlainPeople) → (ms : List Message) → (ns : List Message)
+    → map (without t) ms ≡ map (without t) ns
+    → all_within people limit ms ≡ all_within people limit ns
 
 -- and so do entries of scores
 abbrev pub AreBlind : List PlainEntry → Type 0
@@ -78,13 +80,16 @@ AreBlind entries = (people : PlainPeople) → (ms : List Message) → (ns : List
     → map bare ms ≡ map bare ns → (p : ℕ)
     → score people ms entries p ≡ score people ns entries p
 
-bare_at : (rows : List Row) (p : ℕ) → bare_row (row_at rows p) ≡ row_at (map bare_row rows) p
-bare_at rows p = sym (read_map bare_row no_row rows p)
+veiled_at : (t : Touched) (rows others : List Row) → map (veiled t) rows ≡ map (veiled t) others
+    → (p : ℕ) → veiled t (row_at rows p) ≡ veiled t (row_at others p)
+veiled_at t rows others same p =
+    sym (read_map (veiled t) no_row rows p)
+    ∙ ap (λ (all : List Row). slice_index_or all p (veiled t no_row)) same
+    ∙ read_map (veiled t) no_row others p
 
 pub same_at : (rows others : List Row) → map bare_row rows ≡ map bare_row others → (p : ℕ)
     → bare_row (row_at rows p) ≡ bare_row (row_at others p)
-same_at rows others same p =
-    bare_at rows p ∙ ap (λ (all : List Row). row_at all p) same ∙ sym (bare_at others p)
+same_at rows others same p = veiled_at everything rows others same p
 
 -- What is seen.
 
@@ -121,14 +126,20 @@ module _ (ls : List PlainListed) (f : Facts) (items : List PlainItem)
   first_long is =
       length-map places (first_row_at ls is links) ∙ length-range_with_len 0 (length ls)
 
+  pub table_veiled : (t : Touched) (rows others : List Row)
+      → map (veiled t) rows ≡ map (veiled t) others
+      → map (without t) (table ls rows links) ≡ map (without t) (table ls others links)
+  table_veiled t rows others are =
+      map-map (without t) (message_at ls rows links) places
+      ∙ each_same (λ p. without t (message_at ls rows links p))
+      (λ p. without t (message_at ls others links p)) places
+      (λ p. ap (λ (r : Row). message (at ls p) r (links_at links p))
+      (veiled_at t rows others are p))
+      ∙ sym (map-map (without t) (message_at ls others links) places)
+
   pub table_bare : (rows others : List Row) → map bare_row rows ≡ map bare_row others
       → map bare (table ls rows links) ≡ map bare (table ls others links)
-  table_bare rows others are =
-      map-map bare (message_at ls rows links) places
-      ∙ each_same (λ p. bare (message_at ls rows links p))
-      (λ p. bare (message_at ls others links p)) places
-      (λ p. ap (λ (r : Row). message (at ls p) r (links_at links p)) (same_at rows others are p))
-      ∙ sym (map-map bare (message_at ls others links) places)
+  table_bare rows others are = table_veiled everything rows others are
 
   -- a message with its score
   abbrev scores_at : List PlainItem → ℕ → Row
@@ -170,9 +181,12 @@ module _ (ls : List PlainListed) (f : Facts) (items : List PlainItem)
       ∙ (λ k. map (with_number (same_order k)) (scored_bare k))
       ∙ sym (numbers_bare (ordered ls f) (scored ls f))
 
-  same_within : IsBlind f.limit → within_of ls g ≡ within_of ls f
-  same_within blind = blind f.people (messages_of ls g) (messages_of ls f)
-      (table_bare (rows_of ls g) (rows_of ls f) rows_bare)
+  -- a limit tells the same where it looks at nothing in which rows differ
+  pub same_within : (t : Touched) → IsBlind t f.limit
+      → map (veiled t) (rows_of ls g) ≡ map (veiled t) (rows_of ls f)
+      → within_of ls g ≡ within_of ls f
+  same_within t blind alike = blind f.people (messages_of ls g) (messages_of ls f)
+      (table_veiled t (rows_of ls g) (rows_of ls f) alike)
 
   -- the mark at each place is the same but for what tells new messages from old ones
   mark_same : {X : Type 0} (pick : Mark → X) (F G : ℕ → Mark) → ((p : ℕ) → pick (F p) ≡ pick (G p))
@@ -181,13 +195,13 @@ module _ (ls : List PlainListed) (f : Facts) (items : List PlainItem)
   mark_same pick F G each (x ∷ xs) zero = each x
   mark_same pick F G each (x ∷ xs) (suc p) = mark_same pick F G each xs p
 
-  same_satisfies : IsBlind f.limit → (p : ℕ)
+  same_satisfies : within_of ls g ≡ within_of ls f → (p : ℕ)
       → (mark_at (marks_of (rows_of ls g) (within_of ls g)) p).satisfies
       ≡ (mark_at (marks_of (rows_of ls f) (within_of ls f)) p).satisfies
-  same_satisfies blind p =
+  same_satisfies within p =
       mark_same (λ m. m.satisfies) (mark_of (rows_of ls g) (within_of ls g))
       (mark_of (rows_of ls f) (within_of ls f))
-      (λ q. ap (λ (ws : List Bool). slice_index_or ws q false) (same_within blind))
+      (λ q. ap (λ (ws : List Bool). slice_index_or ws q false) within)
       (range_with_len 0 (length (rows_of ls g))) p
       ∙ ap (λ n.
       (mark_at (map (mark_of (rows_of ls f) (within_of ls f)) (range_with_len 0 n))
@@ -207,28 +221,29 @@ module _ (ls : List PlainListed) (f : Facts) (items : List PlainItem)
       (mark_at (map (mark_of (rows_of ls f) (within_of ls f)) (range_with_len 0 n)) p).is_shut)
       (rows_long ls g ∙ sym (rows_long ls f))
 
-  same_entry : IsBlind f.limit → (s : Stance)
+  same_entry : within_of ls g ≡ within_of ls f → (s : Stance)
       → entry_of (marks_of (rows_of ls g) (within_of ls g)) s
       ≡ entry_of (marks_of (rows_of ls f) (within_of ls f)) s
-  same_entry blind s = λ k. record {
+  same_entry within s = λ k. record {
     parent = s.parent;
     root = s.root;
-    satisfies = same_satisfies blind s.place k;
+    satisfies = same_satisfies within s.place k;
     is_shut = same_is_shut s.place k;
   }
 
-  pub same_entries : IsBlind f.limit
+  pub same_entries : within_of ls g ≡ within_of ls f
       → entries (marks_of (rows_of ls g) (within_of ls g)) (stances_of ls g)
       ≡ entries (marks_of (rows_of ls f) (within_of ls f)) (stances_of ls f)
-  same_entries blind =
+  same_entries within =
       ap (λ (all : List Stance). entries (marks_of (rows_of ls g) (within_of ls g)) all)
       same_stances
       ∙ each_same (entry_of (marks_of (rows_of ls g) (within_of ls g)))
       (entry_of (marks_of (rows_of ls f) (within_of ls f))) (stances_of ls f)
-      (same_entry blind)
+      (same_entry within)
 
-  pub seen_still : IsBlind f.limit → visible_ids (sight_of ls g) ≡ visible_ids (sight_of ls f)
-  seen_still blind = λ k. visible (same_order k) (same_entries blind k)
+  pub seen_still : within_of ls g ≡ within_of ls f
+      → visible_ids (sight_of ls g) ≡ visible_ids (sight_of ls f)
+  seen_still within = λ k. visible (same_order k) (same_entries within k)
 
 -- Acts.
 
@@ -286,15 +301,3 @@ acted_ids act id items =
         → (if t then acted act i else i).id ≡ i.id
     by_test i true keeps = keeps
     by_test i false keeps = refl
-
--- what is done to a message leaves what is seen, where neither limit nor scores look at it
-pub seen_acted : (mails : List Mail) (f : Facts) (act : Act) (id : Id) → IsBlind f.limit
-    → AreBlind f.scores
-    → visible_ids (answers_over mails (record f { items = alter_at id (acted act) f.items })).sight
-    ≡ visible_ids (answers_over mails f).sight
-seen_acted mails f act id blind scores_blind =
-    let items = alter_at id (acted act) f.items in
-    ap (λ (xs : List Id). visible_ids
-    (sight_of (with_letters mails xs) (record f { items = items })))
-    (acted_ids act id f.items)
-    ∙ seen_still (all_listed mails f.items) f items scores_blind (acted_shut act id f.items) blind

@@ -12,6 +12,7 @@ use Rattle.index_items.specs.Pending.{no_flags}
 use Rattle.index_listed.specs.Seen.{PlainSight, marked_threads}
 use Rattle.index_listed.specs.declared.stance.Stance.{Stance}
 use Rattle.index_view.specs.Answers.{PlainAnswers}
+use Rattle.index_view.specs.Staying.{Touched}
 
 -- what is shown of a message and may hang on what is done to it, with its id
 pub record Shown : Type 0 where
@@ -48,6 +49,22 @@ remarked i row = record row {
 -- a row without flags, mark of deletion and tag
 abbrev pub bare_row : Row → Row
 bare_row r = record r { flags = no_flags; deleted = false; tagged = false }
+
+-- a row without what is touched
+abbrev pub veiled : Touched → Row → Row
+veiled t r = record r {
+  flags = if t.flags then no_flags else r.flags;
+  deleted = if t.deleted then false else r.deleted;
+  tagged = if t.tagged then false else r.tagged;
+}
+
+-- what is shown without what is touched
+abbrev pub veiled_shown : Touched → Shown → Shown
+veiled_shown t s = record s {
+  flags = if t.flags then no_flags else s.flags;
+  deleted = if t.deleted then false else s.deleted;
+  tagged = if t.tagged then false else s.tagged;
+}
 
 -- rows differ in flags, marks of deletion and tags alone
 abbrev pub AreAlike : List Row → List Row → Type 0

@@ -4,7 +4,7 @@ ghost use Rattle.std.specs.Prelude.{◌≡◌, true, map};
 ghost use Rattle.folder_letters.specs.Letters.{plain_letter};
 ghost use Rattle.index_items.specs.Acts.{acted_all};
 ghost use Rattle.index_view.specs.Acting as spec;
-ghost use Rattle.index_view.specs.Staying.{is_still};
+ghost use Rattle.index_view.specs.Staying.{is_still, touched};
 ghost use Rattle.index_view.specs.View.{AreApart, IsOf, Turned, facts_of};
 
 use crate::answers::Answers;
@@ -36,15 +36,15 @@ impl View {
     ghost use Rattle.std.specs.Prelude.{◌≡◌, true, map};
     ghost use Rattle.folder_letters.specs.Letters.{plain_letter};
     ghost use Rattle.index_items.specs.Acts.{acted_all};
-    ghost use Rattle.index_view.specs.Staying.{is_still};
+    ghost use Rattle.index_view.specs.Staying.{is_still, touched};
     ghost use Rattle.index_view.specs.View.{IsOf, Turned, facts_of};
 
-    /// Does this to messages, one after the other, where neither the limit nor an entry of scores
-    /// looks at flags, marks of deletion and tags. It takes no memory, and looks at no other message
-    /// but for which threads have unread ones.
+    /// Does this to messages, one after the other, where the limit does not look at what is done,
+    /// and no entry of scores at flags, marks of deletion and tags. It takes no memory, and looks at
+    /// no other message but for which threads have unread ones.
     pub fn act_still(&mut self, archive: &Archive, act: Act, ids: &[Id])
         requires is_of { IsOf (map plain_letter archive.now.items) self.old }
-        requires still { is_still (facts_of self.old) ≡ true }
+        requires still { is_still (touched act) (facts_of self.old) ≡ true }
         ensures { Turned (map plain_letter archive.now.items) self.old self.new
             (record (facts_of self.old) { items = acted_all act ids.now self.old.items }) }
     {

@@ -7,8 +7,9 @@ use Rattle.index_items.specs.declared.act.Act.{Act}
 use Rattle.index_listed.specs.Cursor.{Stands, moved}
 use Rattle.index_view.specs.Answers.{Facts}
 use Rattle.index_view.specs.View.{answers_over}
-use Rattle.index_view.proofs.RemarkLemmas.{stays_put}
-use Rattle.index_view.proofs.StillLemmas.{AreBlind, IsBlind, seen_acted}
+use Rattle.index_view.specs.Staying.{touched}
+use Rattle.index_view.proofs.RemarkLemmas.{seen_acted, stays_put}
+use Rattle.index_view.proofs.StillLemmas.{AreBlind, IsBlind}
 use Rattle.session_index.specs.Acts.{acted, acted_all}
 use Rattle.session_index.specs.Index.{PlainIndex, given, seen_of}
 use Rattle.session_index.specs.Shown.{seen}
@@ -19,7 +20,7 @@ module _ (mails : List Mail) (act : Act) where
   at_once ids i =
       given mails (record i.facts { items = all_acted_items act ids i.facts.items }) i
 
-  pub acted_at_once : (ids : List Id) (i : PlainIndex) → IsBlind i.facts.limit
+  pub acted_at_once : (ids : List Id) (i : PlainIndex) → IsBlind (touched act) i.facts.limit
       → AreBlind i.facts.scores → Stands (seen_of mails i) i.cursor
       → acted_all mails act ids i ≡ at_once ids i
   acted_at_once [] i blind scores stands =

@@ -14,6 +14,7 @@ use Rattle.patterns_match.specs.Pattern.{PlainPattern}
 use Rattle.index_view.proofs.OneLemmas.{IsOwn}
 use Rattle.index_view.proofs.StillLemmas.{bare}
 use Rattle.session_index.specs.Hiding.{is_alone, limit_is_alone}
+use Rattle.index_view.specs.Staying.{everything}
 use Rattle.index_view.proofs.StayingLemmas.{child_same}
 
 passes_alike : (f g : Message → Bool) (m : Option Message) → ((n : Message) → f n ≡ g n)
@@ -24,8 +25,8 @@ passes_alike f g (Some m) same = same m
 module _ (people : PlainPeople) (offset : ℤ) (ms ns : List Message)
     (same : map bare ms ≡ map bare ns) (p : ℕ) (here : slice_get ms p ≡ slice_get ns p) where
   child_alike : has_child ms p ≡ has_child ns p
-  child_alike = sym (child_same people offset ms p)
-      ∙ ap (λ (l : List Message). has_child l p) same ∙ child_same people offset ns p
+  child_alike = sym (child_same everything people offset ms p)
+      ∙ ap (λ (l : List Message). has_child l p) same ∙ child_same everything people offset ns p
 
   mark_alike : (m : Message) (x : Mark) → tells people ms p m x ≡ tells people ns p m x
   mark_alike m mark.All = refl

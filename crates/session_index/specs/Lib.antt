@@ -15,4 +15,5 @@ pub mod Typing
 pub mod LastLine
 pub mod Opening
 pub mod Viewing
+pub mod Touched
 pub mod Hiding

@@ -5,7 +5,7 @@ ghost use Rattle.std.specs.List.{IsDistinct, count_by};
 ghost use Rattle.folder_letters.specs.Letters.{plain_letter};
 ghost use Rattle.index_listed.specs.Cursor.{is_seen};
 ghost use Rattle.index_listed.specs.Places.{numbers};
-ghost use Rattle.index_view.specs.Staying.{is_still as still};
+ghost use Rattle.index_view.specs.Staying.{is_still as still, touched};
 ghost use Rattle.index_view.specs.View.{IsOf, facts_of, visible_of};
 ghost use Rattle.session_index.specs.Acts as spec;
 ghost use Rattle.session_index.specs.Hiding as hiding;
@@ -34,9 +34,9 @@ pub fn act_on(
     ensures acted { OnOk result (Shows (map plain_letter archive.now.items)
         (spec.acted_all (map plain_letter archive.now.items) act ids.now (index_of view.old))
         view.new) }
-    ensures still { still (facts_of view.old) ≡ true → result ≡ Ok tt }
+    ensures still { still (touched act) (facts_of view.old) ≡ true → result ≡ Ok tt }
 {
-    if is_still(view) {
+    if is_still(view, act) {
         view.act_still(archive, act, ids);
         return Ok(());
     }

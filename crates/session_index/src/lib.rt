@@ -22,6 +22,7 @@ mod scope;
 mod searching;
 mod sought;
 mod staying;
+mod touched;
 mod typing;
 mod viewing;
 mod wanted;

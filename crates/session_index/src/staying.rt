@@ -1,4 +1,4 @@
-//! What of the index hangs on no flag, no mark of deletion and no tag.
+//! What of the index hangs on no flag, no mark of deletion and no tag that an act can change.
 
 ghost use Rattle.std.specs.Prelude.{◌≡◌, true};
 ghost use Rattle.std.specs.List.{list_all};
@@ -9,35 +9,42 @@ ghost use Rattle.patterns_match.specs.Operations.{operation_map};
 ghost use Rattle.patterns_match.specs.Pattern.{pattern_tree};
 ghost use Rattle.patterns_match.specs.ScoreEntries.{held_entries};
 ghost use Rattle.index_view.specs.Staying as spec;
+ghost use Rattle.session_index.specs.Touched.{plain_touched};
 
+use crate::touched::{EVERYTHING, Touched};
+use index_items::Act;
 use index_view::View;
 use patterns_match::{Asked, Mark, Operation, Pattern, ScoreEntry};
 
-fn mark_stays(mark: Mark) -> bool
-    ensures { result ≡ spec.mark_stays mark }
+fn mark_stays(touched: Touched, mark: Mark) -> bool
+    ensures { result ≡ spec.mark_stays (plain_touched touched) mark }
 {
     match mark {
-        Mark::Deleted | Mark::Flagged | Mark::New | Mark::Old => false,
-        Mark::Replied | Mark::Read | Mark::Tagged | Mark::Unread => false,
+        Mark::Deleted => !touched.deleted,
+        Mark::Tagged => !touched.tagged,
+        Mark::Flagged | Mark::New | Mark::Old => !touched.flags,
+        Mark::Replied | Mark::Read | Mark::Unread => !touched.flags,
         _ => true,
     }
 }
 
-fn step_stays(operation: &Operation<Asked>) -> bool
-    ensures { result ≡ passes spec.leaf_stays true (operation_map plain_asked operation.now) }
+fn step_stays(touched: Touched, operation: &Operation<Asked>) -> bool
+    ensures { result ≡ passes (spec.leaf_stays (plain_touched touched)) true
+        (operation_map plain_asked operation.now) }
 {
     match operation {
-        Operation::Ask(Asked::Tells(mark)) => mark_stays(*mark),
+        Operation::Ask(Asked::Tells(mark)) => mark_stays(touched, *mark),
         _ => true,
     }
 }
 
-fn all_stay(operations: &[Operation<Asked>]) -> bool
-    ensures { result ≡ list_all (passes spec.leaf_stays true) (asked_operations operations.now) }
+fn all_stay(touched: Touched, operations: &[Operation<Asked>]) -> bool
+    ensures { result ≡ list_all (passes (spec.leaf_stays (plain_touched touched)) true)
+        (asked_operations operations.now) }
 {
     let mut left = operations;
     while let [first, rest @ ..] = left {
-        if !step_stays(first) {
+        if !step_stays(touched, first) {
             return false;
         }
         left = rest;
@@ -45,10 +52,10 @@ fn all_stay(operations: &[Operation<Asked>]) -> bool
     true
 }
 
-fn stays(pattern: &Pattern) -> bool
-    ensures { result ≡ spec.stays (pattern_tree pattern.now) }
+fn stays(touched: Touched, pattern: &Pattern) -> bool
+    ensures { result ≡ spec.stays (plain_touched touched) (pattern_tree pattern.now) }
 {
-    all_stay(pattern.operations.as_slice())
+    all_stay(touched, pattern.operations.as_slice())
 }
 
 /// Whether no entry of scores looks at flags, marks of deletion and tags.
@@ -57,7 +64,7 @@ pub fn entries_stay(entries: &[ScoreEntry]) -> bool
 {
     let mut left = entries;
     while let [first, rest @ ..] = left {
-        if !stays(&first.pattern) {
+        if !stays(EVERYTHING, &first.pattern) {
             return false;
         }
         left = rest;
@@ -65,12 +72,12 @@ pub fn entries_stay(entries: &[ScoreEntry]) -> bool
     true
 }
 
-/// Whether no change of flags, marks of deletion and tags changes what is seen, or its order.
-pub fn is_still(view: &View) -> bool
-    ensures { result ≡ spec.is_still (facts_of view.now) }
+/// Whether an act changes nothing of what is seen, and not its order.
+pub fn is_still(view: &View, act: Act) -> bool
+    ensures { result ≡ spec.is_still (spec.touched act) (facts_of view.now) }
 {
     match view.limit() {
         None => entries_stay(view.scores()),
-        Some(pattern) => entries_stay(view.scores()) && stays(pattern),
+        Some(pattern) => entries_stay(view.scores()) && stays(Touched::by(act), pattern),
     }
 }
