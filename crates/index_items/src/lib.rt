@@ -1,8 +1,8 @@
 //! The listed messages as the index keeps them: what the user changed of each and the folder does
 //! not hold yet, its tag, and whether its thread is shut. `Items` are they with their `Tally`: how
 //! many are new and so on. Change one of them in place by `Items::act`, or in a new list by
-//! `altered`, ask `changes` for what a sync is to do, and `settled` and `joined` for what a sync and
-//! a scan leave of the list.
+//! `altered`, ask `changes` for what a sync is to do, and `settled` and `joined` for what a sync
+//! and a scan leave of the list.
 #![tactic(auto)]
 
 mod act;

@@ -40,8 +40,8 @@ impl View {
     ghost use Rattle.index_view.specs.View.{IsOf, Turned, facts_of};
 
     /// Does this to messages, one after the other, where the limit does not look at what is done,
-    /// and no entry of scores at flags, marks of deletion and tags. It takes no memory, and looks at
-    /// no other message but for which threads have unread ones.
+    /// and no entry of scores at flags, marks of deletion and tags. It takes no memory, and looks
+    /// at no other message but for which threads have unread ones.
     pub fn act_still(&mut self, archive: &Archive, act: Act, ids: &[Id])
         requires is_of { IsOf (map plain_letter archive.now.items) self.old }
         requires still { is_still (touched act) (facts_of self.old) ≡ true }

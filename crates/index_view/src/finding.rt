@@ -14,7 +14,8 @@ impl View {
     ghost use Rattle.patterns_match.specs.Pattern.{plain_pattern};
 
     /// The next message that is seen and satisfies a pattern, from the one behind a place of what
-    /// is seen on, going round to that place last. No message behind the one that is found is asked.
+    /// is seen on, going round to that place last. No message behind the one that is found is
+    /// asked.
     pub fn find_from(
         &mut self,
         alloc: Global,

@@ -21,8 +21,8 @@ use mail_base::{Id, NoMemory};
 use std::alloc::Global;
 
 /// Does this to messages, one after the other; the cursor goes behind each where it has to. Where
-/// nothing that is seen hangs on it, the messages are changed in place, without memory. Else what is
-/// seen is worked out once, unless what is done to one message may show it, or hide others.
+/// nothing that is seen hangs on it, the messages are changed in place, without memory. Else what
+/// is seen is worked out once, unless what is done to one message may show it, or hide others.
 pub fn act_on(
     alloc: Global,
     view: &mut View,
