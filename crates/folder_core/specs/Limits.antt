@@ -2,6 +2,7 @@
 use Rattle.std.specs.Prelude.{◌+◌, ℕ, List, Option, Some, None, length, min, nat_lt, if◌then◌else◌}
 use Rattle.folder_core.specs.declared.error.ScanError.{ScanError}
 use Rattle.folder_core.specs.declared.error.ScanError.TheVariants.{TooMany, TooLarge, ArchiveFull}
+use Rattle.folder_core.specs.Keeping.{count_fresh}
 use Rattle.folder_core.specs.Message.{Message, bytes_together}
 
 -- the most messages that are listed: a folder of more is refused (TooMany)
@@ -21,19 +22,22 @@ most_letters = 4_294_967_295
 abbrev pub told_sum : ℕ → ℕ
 told_sum n = min n 18_446_744_073_709_551_615
 
--- why so many messages are not listed beside an archive of so many letters
-abbrev pub count_refusal : ℕ → ℕ → Option ScanError
-count_refusal letters count =
+-- why so many messages, of which so many are new, are not listed beside an archive of so many
+-- letters
+abbrev pub count_refusal : ℕ → ℕ → ℕ → Option ScanError
+count_refusal letters fresh count =
     if nat_lt most_messages count then Some (TooMany count)
-    else (if nat_lt most_letters (letters + count) then Some ArchiveFull else None)
+    else (if nat_lt most_letters (letters + fresh) then Some ArchiveFull else None)
 
 -- the same of so many messages of so many bytes together
-abbrev pub sum_refusal : ℕ → ℕ → ℕ → Option ScanError
-sum_refusal letters count bytes =
+abbrev pub sum_refusal : ℕ → ℕ → ℕ → ℕ → Option ScanError
+sum_refusal letters fresh count bytes =
     if nat_lt most_messages count then Some (TooMany count)
     else (if nat_lt most_bytes bytes then Some (TooLarge (told_sum bytes))
-    else count_refusal letters count)
+    else count_refusal letters fresh count)
 
--- why the messages of a directory are not listed beside an archive of so many letters
-abbrev pub list_refusal : ℕ → List Message → Option ScanError
-list_refusal letters messages = sum_refusal letters (length messages) (bytes_together messages)
+-- why the messages of a directory, some of them known before, are not listed beside an archive of
+-- so many letters
+abbrev pub list_refusal : ℕ → List (Option ℕ) → List Message → Option ScanError
+list_refusal letters keeps messages =
+    sum_refusal letters (count_fresh keeps) (length messages) (bytes_together messages)

@@ -11,19 +11,20 @@ use Rattle.folder_letters.specs.Letters.{Mail, plain_letter}
 use Rattle.folder_core.specs.Limits.{list_refusal, most_bytes, sum_refusal, told_sum}
 use Rattle.folder_core.specs.Looked.{OnlyMeets}
 use Rattle.folder_core.specs.Message.{Message, bytes_together}
-use Rattle.folder_core.specs.Reads.{letters_from, listed_from}
+use Rattle.folder_core.specs.Keeping.{count_fresh, letters_by, listed_by}
 use Rattle.folder_letters.specs.declared.letter.Letter.{Letter}
 use Rattle.folder_core.specs.declared.error.ScanError.{ScanError}
 use Rattle.folder_core.specs.declared.listed_so_far.ListedSoFar.{ListedSoFar}
 use Rattle.folder_letters.specs.declared.listing.Listed.{Listed}
 
--- The letters of the archive before, the messages found and their bytes, as they are told, and what
--- is stored: the listing, and the archive as it is.
+-- The letters of the archive before, the messages found, those of them that were not known, their
+-- bytes together, as they are told, and what is stored: the listing, and the archive as it is.
 pub record Store : Type 0 where
   pub letters : ℕ
   pub count : ℕ
+  pub fresh : ℕ
   pub bytes : ℕ
-  pub came : List Listed
+  pub listing : List Listed
   pub archive : List Mail
 
 -- what was found so far, with the letters of the archive
@@ -31,45 +32,51 @@ abbrev pub store_of : ListedSoFar → List Letter → Store
 store_of so_far archive = record {
   letters = so_far.letters;
   count = so_far.count;
+  fresh = so_far.fresh;
   bytes = so_far.bytes;
-  came = so_far.came.items;
+  listing = so_far.listing.items;
   archive = map plain_letter archive;
 }
 
 -- nothing is found yet
 pub record IsEmpty (store : Store) : Type 0 where
   pub count : store.count ≡ 0
+  pub fresh : store.fresh ≡ 0
   pub bytes : store.bytes ≡ 0
-  pub came : store.came ≡ []
+  pub listing : store.listing ≡ []
 
--- a message more by its letter, which is stored where all found so far may be listed
-abbrev pub stored_if : Bool → Flags → Mail → Store → Store
-stored_if fits flags mail store = record {
-  letters = store.letters;
-  count = store.count + 1;
-  bytes = told_sum (store.bytes + length mail.core);
-  came = if fits then store.came ++ record
-      { id = record { 0 = store.letters + store.count }; flags = flags } ∷ []
-      else store.came;
-  archive = if fits then store.archive ++ mail ∷ [] else store.archive;
+-- the message has an id, and its letter stands in the archive where it is new
+abbrev pub stored_as : Option ℕ → Flags → Mail → Store → Store
+stored_as (Some id) flags mail store = record store
+    { listing = store.listing ++ record { id = record { 0 = id }; flags = flags } ∷ [] }
+stored_as None flags mail store = record store {
+  listing = store.listing
+      ++ record { id = record { 0 = length store.archive }; flags = flags } ∷ [];
+  archive = store.archive ++ mail ∷ [];
 }
 
+-- a message more of so many bytes is counted, new or known
+abbrev pub counted : Option ℕ → ℕ → Store → Store
+counted keep size store = record store {
+  count = store.count + 1;
+  fresh = store.fresh + (if is_none keep then 1 else 0);
+  bytes = told_sum (store.bytes + size);
+}
+
+-- why all found so far are not listed
+abbrev pub store_refusal : Store → Option ScanError
+store_refusal store = sum_refusal store.letters store.fresh store.count store.bytes
+
 -- what was found so far with one more message, which is listed while no limit is passed
-abbrev pub store_with : Flags → Mail → Store → Store
-store_with flags mail store =
-    stored_if (is_none (sum_refusal store.letters (store.count + 1)
-    (told_sum (store.bytes + length mail.core))))
-    flags mail store
+abbrev pub store_with : Option ℕ → Flags → Mail → Store → Store
+store_with keep flags mail store =
+    let more = counted keep (length mail.core) store in
+    if is_none (store_refusal more) then stored_as keep flags mail more else more
 
 -- a message more
-abbrev pub store_message : Format → Message → Store → Store
-store_message format message store =
-    store_with message.flags (format.letter (store.letters + store.count) message) store
-
--- the same, where there is one
-abbrev pub store_found : Format → Option Message → Store → Store
-store_found format None store = store
-store_found format (Some message) store = store_message format message store
+abbrev pub store_message : Format → Option ℕ → Message → Store → Store
+store_message format keep message store =
+    store_with keep message.flags (format.letter (length store.archive) message) store
 
 -- No more was read of files than they take of the bytes that may be listed; where a look failed, no
 -- more than was left of these.
@@ -87,12 +94,14 @@ pub record LooksWithin {A : Type 0} (result : Result A ScanError) (bytes new_byt
   pub reads : ReadsLeft result bytes new_bytes old.bytes_read new.bytes_read
 
 -- The messages are counted, and stored where they may be listed.
-pub record Holds (format : Format) (first : Store) (messages : List Message)
-    (store : Store) : Type 0 where
+pub record Holds (format : Format) (first : Store) (keeps : List (Option ℕ))
+    (messages : List Message) (store : Store) : Type 0 where
+  pub pairs : length keeps ≡ length messages
   pub letters : store.letters ≡ first.letters
   pub count : store.count ≡ length messages
+  pub fresh : store.fresh ≡ count_fresh keeps
   pub bytes : store.bytes ≡ told_sum (bytes_together messages)
-  pub came : list_refusal first.letters messages ≡ None
-      → store.came ≡ listed_from first.letters messages
-  pub archive : list_refusal first.letters messages ≡ None
-      → store.archive ≡ first.archive ++ letters_from format first.letters messages
+  pub listing : list_refusal first.letters keeps messages ≡ None
+      → store.listing ≡ listed_by first.letters keeps messages
+  pub archive : list_refusal first.letters keeps messages ≡ None
+      → store.archive ≡ first.archive ++ letters_by format.letter first.letters keeps messages

@@ -1,6 +1,6 @@
 -- A folder of a file a message, in the directories `new` and `cur` (maildir(5)).
 use Rattle.std.specs.Prelude.{◌≡◌, ◌≤◌, ◌<◌, ◌+◌, ◌&&◌, ℕ, pos, Bool, true, false, not, List, []}
-use Rattle.std.specs.Prelude.{◌∷◌, ◌++◌, codes, map, take, drop, Option, Some, None, option_map}
+use Rattle.std.specs.Prelude.{◌∷◌, ◌++◌, codes, map, take, drop, length, Option, Some, None, option_map}
 use Rattle.std.specs.Prelude.{is_some, is_none, if◌then◌else◌}
 use Rattle.std.specs.List.{filter}
 use Rattle.std.specs.Str.{bytes_eq}
@@ -12,9 +12,11 @@ use Rattle.disk_model.specs.Names.{names_in}
 use Rattle.disk_model.specs.State.{tree_at}
 use Rattle.disk_model.specs.Tree.{TreeNode}
 use Rattle.folder_core.specs.Costs.{RaisesAtMost, cores_together}
-use Rattle.folder_core.specs.Directory.{AloneBetween, DirectoryRefused, file_at, is_folder_at}
+use Rattle.folder_core.specs.Directory.{AloneBetween, DirectoryRefused, Finds, ReadsAs, file_at}
+use Rattle.folder_core.specs.Directory.{is_folder_at}
 use Rattle.folder_core.specs.Directory.{is_name, path_in}
 use Rattle.folder_core.specs.Format.{Format}
+use Rattle.folder_core.specs.Keeping.{IsThere, kept_by_key}
 use Rattle.folder_core.specs.Known.{KnownFolder}
 use Rattle.folder_letters.specs.Letters.{Mail}
 use Rattle.folder_core.specs.Limits.{list_refusal, most_bytes}
@@ -123,20 +125,23 @@ maildir_letter id message = record {
   received = in_clock_range (pos message.order);
 }
 
--- a message stood in the folder at a mark between two marks
-pub record Stood (path : List ℕ) (m n : ℕ) (past : Past) (message : Message) : Type 0 where
+-- a message stood in the folder at a mark between two marks, with its bytes where it was not known
+pub record Stood (path : List ℕ) (m n : ℕ) (past : Past) (keep : Option ℕ) (message : Message)
+    : Type 0 where
   pub mark : ℕ
   pub from : m ≤ mark
   pub to : mark ≤ n
   pub file : MaildirFile
   pub shown : is_shown file.name ≡ true
-  pub there : message_at (tree_at past mark) path file ≡ Some message
+  pub there : IsThere keep message (message_at (tree_at past mark) path file)
 
 -- each of the messages stood there
-abbrev pub AllStood : List ℕ → ℕ → ℕ → Past → List Message → Type 0
-AllStood path m n past [] = Unit {0}
-AllStood path m n past (message ∷ messages) =
-    Stood path m n past message × AllStood path m n past messages
+abbrev pub AllStood : List ℕ → ℕ → ℕ → Past → List (Option ℕ) → List Message → Type 0
+AllStood path m n past [] [] = Unit {0}
+AllStood path m n past [] (message ∷ messages) = ⊥
+AllStood path m n past (keep ∷ keeps) [] = ⊥
+AllStood path m n past (keep ∷ keeps) (message ∷ messages) =
+    Stood path m n past keep message × AllStood path m n past keeps messages
 
 -- a file has this name at each mark from one to another
 abbrev pub StaysThere : List ℕ → MaildirFile → ℕ → ℕ → Past → Type 0
@@ -144,33 +149,38 @@ StaysThere path file m n past = (mark : ℕ) → m ≤ mark → mark ≤ n
     → is_some (message_at (tree_at past mark) path file) ≡ true
 
 -- What a scan saw between two marks: each message that it lists stood there once with its key,
--- flags and bytes, in order; one that stood under one name all along is listed, or under one name
--- in `new` until it was moved to one in `cur` before that was listed; and where nobody else acted
--- they are those of the folder.
-pub record SawMaildir (path : List ℕ) (messages : List Message) (m n : ℕ) (past : Past) : Type 0
-  where
-    pub in_order : are_in_order messages ≡ true
-    pub stood : AllStood path m n past messages
-    pub listed : ℕ
-    pub from : m ≤ listed
-    pub to : listed ≤ n
-    pub answer : Answer
-    pub call : take 1 (drop listed past.journal) ≡ Own (ListDir (directory true path)) answer ∷ []
-    pub stayed : (file : MaildirFile) → is_shown file.name ≡ true → StaysThere path file m n past
-        → has_key (base_of file) messages ≡ true
-    pub moved : (name new_name : List ℕ) (mark : ℕ) → m ≤ mark → mark < listed
-        → is_shown name ≡ true → is_shown new_name ≡ true
-        → (split_name new_name).0 ≡ (split_name name).0
-        → StaysThere path (record { in_cur = false; name = name }) m mark past
-        → StaysThere path (record { in_cur = true; name = new_name }) (mark + 1) n past
-        → has_key (split_name name).0 messages ≡ true
-    pub alone : AloneBetween m n past → maildir_reads (tree_at past n) path ≡ Some messages
+-- flags and bytes, in order, the bytes of those that were known as they were read before; one that
+-- stood under one name all along is listed, or under one name in `new` until it was moved to one in
+-- `cur` before that was listed; and where nobody else acted they are those of the folder.
+pub record SawMaildir (path : List ℕ) (keeps : List (Option ℕ)) (messages : List Message)
+    (m n : ℕ) (past : Past) : Type 0 where
+  pub in_order : are_in_order messages ≡ true
+  pub stood : AllStood path m n past keeps messages
+  pub listed : ℕ
+  pub from : m ≤ listed
+  pub to : listed ≤ n
+  pub answer : Answer
+  pub call : take 1 (drop listed past.journal) ≡ Own (ListDir (directory true path)) answer ∷ []
+  pub stayed : (file : MaildirFile) → is_shown file.name ≡ true → StaysThere path file m n past
+      → has_key (base_of file) messages ≡ true
+  pub moved : (name new_name : List ℕ) (mark : ℕ) → m ≤ mark → mark < listed
+      → is_shown name ≡ true → is_shown new_name ≡ true
+      → (split_name new_name).0 ≡ (split_name name).0
+      → StaysThere path (record { in_cur = false; name = name }) m mark past
+      → StaysThere path (record { in_cur = true; name = new_name }) (mark + 1) n past
+      → has_key (split_name name).0 messages ≡ true
+  pub alone : AloneBetween m n past → ReadsAs maildir_reads path keeps messages (tree_at past n)
 
 -- the messages may be listed, and neither bytes nor stamps of a Maildir are kept
-pub record SawListed (letters : ℕ) (known : KnownFolder) (messages : List Message) (m n : ℕ)
-    (past : Past) : Type 0 where
-  pub saw : SawMaildir known.path messages m n past
-  pub taken : list_refusal letters messages ≡ None
+pub record SawListed (letters : ℕ) (keeps : List (Option ℕ)) (known : KnownFolder)
+    (messages : List Message) (m n : ℕ) (past : Past) : Type 0 where
+  pub saw : SawMaildir known.path keeps messages m n past
+  pub taken : list_refusal letters keeps messages ≡ None
+  pub bytes : known.bytes ≡ []
+  pub stamps : known.stamps ≡ []
+
+-- of a Maildir neither bytes nor stamps are known
+pub record NothingRead (known : KnownFolder) : Type 0 where
   pub bytes : known.bytes ≡ []
   pub stamps : known.stamps ≡ []
 
@@ -180,10 +190,13 @@ maildir_format = record {
   reads = maildir_reads;
   core = λ raw. raw;
   letter = maildir_letter;
+  keep = λ old stamps messages new. kept_by_key old messages;
   Saw = SawListed;
-  Refused = λ letters path why m n past.
-      DirectoryRefused is_maildir (λ messages. SawMaildir path messages m n past) letters path why m
-      n past;
-  Costs = λ came old new. RaisesAtMost old new (cores_together came);
+  Refused = λ mails known why m n past.
+      DirectoryRefused is_maildir (Finds (λ old stamps messages new. kept_by_key old messages)
+      (λ keeps messages stamps. SawMaildir known.path keeps messages m n past) mails known)
+      (length mails) known.path why m n past;
+  Costs = λ known came old new. RaisesAtMost old.bytes_read new.bytes_read (cores_together came);
   MayRead = λ path old new. RaisesAtMost old.bytes_read new.bytes_read most_bytes;
+  WasRead = λ listed known told. NothingRead known;
 }

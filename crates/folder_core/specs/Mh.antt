@@ -15,9 +15,11 @@ use Rattle.disk_model.specs.Seen.{Seen}
 use Rattle.disk_model.specs.State.{tree_at}
 use Rattle.disk_model.specs.Tree.{TreeNode, node_at}
 use Rattle.folder_core.specs.Costs.{RaisesAtMost}
-use Rattle.folder_core.specs.Directory.{AloneBetween, DirectoryRefused, file_at, is_folder_at}
-use Rattle.folder_core.specs.Directory.{path_in}
+use Rattle.folder_core.specs.Directory.{AloneBetween, DirectoryRefused, Finds, ReadsAs, file_at}
+use Rattle.folder_core.specs.Directory.{is_folder_at, path_in, stamp_there}
+use Rattle.folder_core.specs.Bore.{Bore, IfTold}
 use Rattle.folder_core.specs.Format.{Format}
+use Rattle.folder_core.specs.Keeping.{IsThere, ListedMail, kept_by_stamp}
 use Rattle.folder_core.specs.Known.{KnownFolder}
 use Rattle.folder_letters.specs.Letters.{Mail}
 use Rattle.folder_core.specs.Limits.{list_refusal, most_bytes}
@@ -89,28 +91,27 @@ mh_letter id message = record {
   received = pos 0;
 }
 
--- the stamp of what stands there
-abbrev pub stamp_there : Option TreeNode → ℕ
-stamp_there None = 0
-stamp_there (Some node) = node.stamp
-
 -- a message with these flags stood in the folder at a mark between two marks, in a file with this
--- stamp
-pub record Stood (path sequences : List ℕ) (m n : ℕ) (past : Past) (message : Message)
-    (stamp : ℕ) : Type 0 where
+-- stamp, with its bytes where it was not known
+pub record Stood (path sequences : List ℕ) (m n : ℕ) (past : Past) (keep : Option ℕ)
+    (message : Message) (stamp : ℕ) : Type 0 where
   pub mark : ℕ
   pub from : m ≤ mark
   pub to : mark ≤ n
   pub named : is_number message.key ≡ true
-  pub there : message_at (tree_at past mark) path sequences message.key ≡ Some message
+  pub there : IsThere keep message (message_at (tree_at past mark) path sequences message.key)
   pub stamp_is : stamp_there (node_at (tree_at past mark) (path_in path message.key)) ≡ stamp
 
 -- each of the messages stood there, and the stamps are theirs
-abbrev pub AllStood : List ℕ → List ℕ → ℕ → ℕ → Past → List Message → List ℕ → Type 0
-AllStood path sequences m n past [] stamps = stamps ≡ []
-AllStood path sequences m n past (message ∷ messages) [] = ⊥
-AllStood path sequences m n past (message ∷ messages) (stamp ∷ stamps) =
-    Stood path sequences m n past message stamp × AllStood path sequences m n past messages stamps
+abbrev pub AllStood : List ℕ → List ℕ → ℕ → ℕ → Past → List (Option ℕ) → List Message → List ℕ
+    → Type 0
+AllStood path sequences m n past [] [] stamps = stamps ≡ []
+AllStood path sequences m n past [] (message ∷ messages) stamps = ⊥
+AllStood path sequences m n past (keep ∷ keeps) [] stamps = ⊥
+AllStood path sequences m n past (keep ∷ keeps) (message ∷ messages) [] = ⊥
+AllStood path sequences m n past (keep ∷ keeps) (message ∷ messages) (stamp ∷ stamps) =
+    Stood path sequences m n past keep message stamp
+    × AllStood path sequences m n past keeps messages stamps
 
 -- a file that is not empty has this name at each mark from one to another
 abbrev pub StaysThere : List ℕ → List ℕ → ℕ → ℕ → Past → Type 0
@@ -118,32 +119,39 @@ StaysThere path name m n past = (mark : ℕ) → m ≤ mark → mark ≤ n
     → is_some (message_at (tree_at past mark) path [] name) ≡ true
 
 -- What a scan saw between two marks: the sequences at one of them; each message that it lists stood
--- there once with its number and bytes, and has the flags of the sequences; one that stood there
--- all along is listed; and where nobody else acted they are those of the folder.
-pub record SawMh (path : List ℕ) (messages : List Message) (stamps : List ℕ) (m n : ℕ)
-    (past : Past) : Type 0 where
+-- there once with its number and bytes, the bytes of those that were known as they were read
+-- before, and has the flags of the sequences; one that stood there all along is listed; and where
+-- nobody else acted they are those of the folder.
+pub record SawMh (path : List ℕ) (keeps : List (Option ℕ)) (messages : List Message)
+    (stamps : List ℕ) (m n : ℕ) (past : Past) : Type 0 where
   pub mark : ℕ
   pub from : m ≤ mark
   pub to : mark ≤ n
   pub in_order : are_in_order messages ≡ true
-  pub stood : AllStood path (sequences_at (tree_at past mark) path) m n past messages stamps
+  pub stood : AllStood path (sequences_at (tree_at past mark) path) m n past keeps messages stamps
   pub stayed : (name : List ℕ) → is_number name ≡ true → StaysThere path name m n past
       → has_key name messages ≡ true
-  pub alone : AloneBetween m n past → mh_reads (tree_at past n) path ≡ Some messages
+  pub alone : AloneBetween m n past → ReadsAs mh_reads path keeps messages (tree_at past n)
 
 -- the messages may be listed, and the stamps of their files are kept
-pub record SawNumbered (letters : ℕ) (known : KnownFolder) (messages : List Message) (m n : ℕ)
-    (past : Past)
-    : Type 0 where
-  pub saw : SawMh known.path messages known.stamps m n past
-  pub taken : list_refusal letters messages ≡ None
+pub record SawNumbered (letters : ℕ) (keeps : List (Option ℕ)) (known : KnownFolder)
+    (messages : List Message) (m n : ℕ) (past : Past) : Type 0 where
+  pub saw : SawMh known.path keeps messages known.stamps m n past
+  pub taken : list_refusal letters keeps messages ≡ None
   pub bytes : known.bytes ≡ []
 
--- some stamps go with what was seen
-pub record SawStamped (path : List ℕ) (messages : List Message) (m n : ℕ) (past : Past) : Type 0
-  where
-    pub stamps : List ℕ
-    pub saw : SawMh path messages stamps m n past
+-- each listed message was read once from a file with its stamp
+abbrev pub AllBore : List ListedMail → List ℕ → Past → Type 0
+AllBore [] stamps past = stamps ≡ []
+AllBore (listed ∷ old) [] past = ⊥
+AllBore (listed ∷ old) (stamp ∷ stamps) past =
+    Bore listed.mail.core stamp past × AllBore old stamps past
+
+-- of an MH folder the stamps of the files are known
+pub record StampsRead (listed : List ListedMail) (known : KnownFolder) (told : Option Past)
+    : Type 0 where
+  pub bytes : known.bytes ≡ []
+  pub stamps : IfTold (AllBore listed known.stamps) told
 
 -- the file of the sequences had at least so many bytes at a mark between the ends of two journals
 pub record HeldSequences (path : List ℕ) (bytes : ℕ) (old new : Past) : Type 0 where
@@ -164,10 +172,13 @@ mh_format = record {
   reads = mh_reads;
   core = λ raw. raw;
   letter = mh_letter;
+  keep = kept_by_stamp;
   Saw = SawNumbered;
-  Refused = λ letters path why m n past.
-      DirectoryRefused is_folder_at (λ messages. SawStamped path messages m n past) letters path why
-      m n past;
-  Costs = λ came old new. Unit {0};
+  Refused = λ mails known why m n past.
+      DirectoryRefused is_folder_at (Finds kept_by_stamp
+      (λ keeps messages stamps. SawMh known.path keeps messages stamps m n past) mails known)
+      (length mails) known.path why m n past;
+  Costs = λ known came old new. Unit {0};
   MayRead = λ path old new. ReadsBeside path most_bytes old new;
+  WasRead = StampsRead;
 }
