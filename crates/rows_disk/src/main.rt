@@ -1,15 +1,20 @@
-//! The worked rows of disks: each case file is read, each case's calls made and compared.
+//! The worked rows of disks and of folders on them: each case file is read, each case's calls made
+//! and compared.
 #![tactic(auto)]
 
 mod calls;
 mod disks;
 mod files;
 mod folders;
+mod kinds;
+mod scans;
 mod trees;
 
 use crate::disks::DiskCalls;
 use crate::files::FileCalls;
 use crate::folders::FolderScans;
+use crate::kinds::FolderKinds;
+use crate::scans::Scans;
 use crate::trees::Trees;
 use case_files::{Report, play_file, print_report};
 use mail_base::NoMemory;
@@ -29,5 +34,8 @@ fn play_all(rt: &HostRuntime, report: &mut Report) -> Result<(), NoMemory> {
     play_file(rt, &Trees, "trees", report)?;
     play_file(rt, &DiskCalls, "disks", report)?;
     play_file(rt, &FileCalls { rt }, "files", report)?;
-    play_file(rt, &FolderScans { rt }, "folders", report)
+    play_file(rt, &FolderScans { rt }, "folders", report)?;
+    play_file(rt, &FolderKinds, "kinds", report)?;
+    play_file(rt, &Scans, "scans", report)?;
+    play_file(rt, &Scans, "rescans", report)
 }

@@ -1,15 +1,10 @@
-//! The worked rows of folders and of whole runs: each case file is read, each case's run made and
-//! compared.
+//! The worked rows of whole runs: each case file is read, each case's run made and compared.
 #![tactic(auto)]
 
 mod clock;
-mod kinds;
 mod runs;
-mod scans;
 
-use crate::kinds::FolderKinds;
 use crate::runs::WholeRuns;
-use crate::scans::Scans;
 use case_files::{Report, play_file, print_report};
 use mail_base::NoMemory;
 use std::io;
@@ -25,8 +20,6 @@ fn main(rt: HostRuntime) -> io::Result<ExitCode> {
 
 /// Plays each case file, a line a file.
 fn play_all(rt: &HostRuntime, report: &mut Report) -> Result<(), NoMemory> {
-    play_file(rt, &FolderKinds, "kinds", report)?;
-    play_file(rt, &Scans, "scans", report)?;
     play_file(rt, &WholeRuns, "runs", report)?;
     play_file(rt, &WholeRuns, "runs_rc", report)?;
     play_file(rt, &WholeRuns, "runs_index", report)?;
