@@ -50,10 +50,12 @@ pub fn append_text(
     match part.encoding {
         Encoding::Plain => append_lines(alloc, lines, charset, body),
         Encoding::Base64 => {
-            append_lines(alloc, lines, charset, decode_base64_body(alloc, body)?.as_slice())
+            let text = decode_base64_body(alloc, body)?;
+            append_lines(alloc, lines, charset, text.as_slice())
         }
         Encoding::Quoted => {
-            append_lines(alloc, lines, charset, decode_quoted(alloc, body)?.as_slice())
+            let text = decode_quoted(alloc, body)?;
+            append_lines(alloc, lines, charset, text.as_slice())
         }
     }
 }

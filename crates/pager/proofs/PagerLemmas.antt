@@ -145,8 +145,11 @@ rows_turn done new lines rows row text is at below before =
   where
     enough : row < length (lines ++ replicate rows [])
     enough =
-        omega (arith, length-append lines (replicate rows []),
-        length-replicate {A = List ℕ} rows [])
+        omega (
+          arith,
+          length-append lines (replicate rows []),
+          length-replicate {A = List ℕ} rows [],
+        )
 
 -- with one more that can be shown all can be
 pub shown_push : (cols : ℕ) (done new : List (List ℕ)) (text : List ℕ) → new ≡ done ++ text ∷ []
