@@ -18,32 +18,8 @@ use crate::parts::{chosen_child, next_child};
 use crate::source::Source;
 use crate::weeding::Weeding;
 use mail_base::{Line, Lines, NoMemory, behind_line};
-use mime_tree::{Part, decoded_text};
+use mime_tree::{Part, append_text};
 use std::alloc::Global;
-
-fn add_copies(alloc: Global, lines: &mut Lines, more: &[Line]) -> Result<(), NoMemory>
-    ensures { OnOk result (plain_texts lines.new
-        ≡ plain_texts lines.old ++ map (λ l. l.items) more.now) }
-{
-    lines.reserve(more.len())?;
-    let mut left = more;
-    while let [first, rest @ ..] = left {
-        lines.push(Line::copy_of(alloc, first.as_slice())?)?;
-        left = rest;
-    }
-    Ok(())
-}
-
-// Adds the text of a part, decoded.
-fn add_text(alloc: Global, lines: &mut Lines, raw: &[u8], part: &Part) -> Result<(), NoMemory>
-    requires { StandsWithin (length raw.now) part.now }
-    ensures { OnOk result (plain_texts lines.new ≡ plain_texts lines.old
-        ++ decoded_lines part.now.encoding part.now.charset.items
-        (slice_range raw.now part.now.body_at part.now.body_end)) }
-{
-    let text = decoded_text(alloc, raw, part)?;
-    add_copies(alloc, lines, text.as_slice())
-}
 
 /// Adds the header of a message that has the text, and an empty line.
 pub fn add_head(
@@ -132,7 +108,7 @@ fn add_looked(
         (spec.children part.now.nesting (drop behind (parts_of_source source.now))) look) }
 {
     match look {
-        Look::Text => add_text(alloc, lines, source.raw, part),
+        Look::Text => append_text(alloc, lines, source.raw, part),
         Look::Alternative => add_chosen(alloc, lines, source, part.nesting, behind, levels),
         Look::Mixed => add_children(alloc, lines, source, part.nesting, behind, levels),
         Look::Message => {

@@ -1,15 +1,15 @@
 //! The rows of the attachment screen.
 
 ghost use Rattle.std.specs.Prelude.{◌≡◌, ◌+◌, ◌<◌, ◌^◌, ◌-◌, ◌++◌, ◌∷◌, [], IfOk, OnOk, length};
-ghost use Rattle.std.specs.Prelude.{map, replicate};
+ghost use Rattle.std.specs.Prelude.{map, option_map, replicate, unwrap_or};
 ghost use Rattle.std.specs.Fmt.{decimal};
 ghost use Rattle.mail_base.specs.Series.{plain_texts};
-ghost use Rattle.mime_tree.specs.Part.{plain_part};
+ghost use Rattle.mime_tree.specs.Part.{plain_part, plain_parts};
 ghost use Rattle.message_text.specs.Rows as spec;
 
 use crate::parts::parts_in;
 use mail_base::{Line, Lines, NoMemory, append_utf8};
-use mime_tree::Part;
+use mime_tree::{Part, Parts};
 use std::alloc::Global;
 
 // How many places a number takes at least.
@@ -58,14 +58,31 @@ fn add_rows(alloc: Global, lines: &mut Lines, parts: &[Part]) -> Result<(), NoMe
     Ok(())
 }
 
+/// A row for each of these parts.
+pub fn all_rows(alloc: Global, parts: &[Part]) -> Result<Lines, NoMemory>
+    ensures { IfOk result (λ l. plain_texts l ≡ spec.rows_behind 0 (map plain_part parts.now)) }
+{
+    let mut lines = Lines::new(alloc);
+    add_rows(alloc, &mut lines, parts)?;
+    Ok(lines)
+}
+
+/// A row for each part, none where parts nest too deep.
+pub fn rows_of(alloc: Global, parts: &Option<Parts>) -> Result<Lines, NoMemory>
+    ensures { IfOk result (λ l. plain_texts l
+        ≡ spec.rows_behind 0 (unwrap_or (option_map plain_parts parts.now) [])) }
+{
+    match parts {
+        Some(parts) => all_rows(alloc, parts.as_slice()),
+        None => Ok(Lines::new(alloc)),
+    }
+}
+
 /// A row for each part of a message, in the order of reading: its number, counted from 1, its
 /// content type, and the name of its file. There is none where parts nest too deep.
 pub fn attachment_rows(alloc: Global, raw: &[u8]) -> Result<Lines, NoMemory>
     ensures { IfOk result (λ l. plain_texts l ≡ spec.attachment_lines raw.now) }
 {
-    let mut lines = Lines::new(alloc);
-    if let Some(parts) = parts_in(alloc, raw)? {
-        add_rows(alloc, &mut lines, parts.as_slice())?;
-    }
-    Ok(lines)
+    let parts = parts_in(alloc, raw)?;
+    rows_of(alloc, &parts)
 }

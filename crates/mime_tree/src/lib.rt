@@ -25,4 +25,4 @@ pub use kinds::kind_list;
 pub use laws::{quoted_bytes_are_read, written_parameter_is_read, written_sections_are_cut};
 pub use part::{Part, Parts};
 pub use parts::{MimeError, read_parts};
-pub use text::decoded_text;
+pub use text::{append_lines, append_text, decoded_text};

@@ -19,7 +19,8 @@ joined front (p ∷ ps) = (front ++ p) ∷ ps
 
 -- the pieces that a line gives with the characters that are still to be put
 abbrev pub given : PlainBreaker → List ℕ → List (List ℕ)
-given line cs = line.done ++ joined line.current (map encode_utf8_all (pieces line.cols line.left cs))
+given line cs =
+    line.done ++ joined line.current (map encode_utf8_all (pieces line.cols line.left cs))
 
 joined-front : (current : List ℕ) (c : ℕ) (ps : List (List ℕ))
     → joined (current ++ encode_utf8 c) (map encode_utf8_all ps)
@@ -54,7 +55,8 @@ given-put : (line : PlainBreaker) (c : ℕ) (cs : List ℕ)
     → given (put line c) cs ≡ given line (c ∷ cs)
 given-put line c cs = by_test (nat_le (columns_of c) line.left)
   where
-    by_test : (t : Bool) → given (cond t (put_here line c) (put_next line c)) cs ≡ line.done ++ joined line.current
+    by_test : (t : Bool) → given (cond t (put_here line c) (put_next line c)) cs
+        ≡ line.done ++ joined line.current
         (map encode_utf8_all (cond t (with_front c (pieces line.cols (line.left - columns_of c) cs))
         ([] ∷ with_front c (pieces line.cols (line.cols - columns_of c) cs))))
     by_test true = ap (λ s. line.done ++ s) (joined-front line.current c _)
@@ -62,7 +64,8 @@ given-put line c cs = by_test (nat_le (columns_of c) line.left)
         append_assoc line.done (line.current ∷ []) _
         ∙ ap (λ s. line.done ++ (line.current ∷ s)) (joined-next c _)
         ∙ ap (λ s. line.done ++ (s ∷ map encode_utf8_all
-        (with_front c (pieces line.cols (line.cols - columns_of c) cs)))) (sym (append-nil line.current))
+        (with_front c (pieces line.cols (line.cols - columns_of c) cs))))
+        (sym (append-nil line.current))
 
 given-put_all : (line : PlainBreaker) (cs ds : List ℕ)
     → given (put_all line cs) ds ≡ given line (cs ++ ds)
@@ -116,7 +119,8 @@ pub whole-put_shown : (line : PlainBreaker) (c : ℕ) (cs : List ℕ) → line.p
     → whole (put_shown line c) cs ≡ whole line (c ∷ cs)
 whole-put_shown line c cs small =
     let out = shown line.cols line.past c in
-    ap (λ n. given (put_all line out) (written n (put_all line out).past cs)) (put_all-cols line out)
+    ap (λ n. given (put_all line out) (written n (put_all line out).past cs))
+    (put_all-cols line out)
     ∙ ap (λ n. given (put_all line out) (written line.cols n cs)) (put_all-past line out small)
     ∙ given-put_all line out (written line.cols (past_stop line.past out) cs)
 
@@ -129,7 +133,8 @@ put_shown-past line c small =
     (mod_small (line.past + columns_in (shown line.cols line.past c)))
 
 joined_none : (cols left : ℕ) (cs : List ℕ)
-    → joined [] (map encode_utf8_all (pieces cols left cs)) ≡ map encode_utf8_all (pieces cols left cs)
+    → joined [] (map encode_utf8_all (pieces cols left cs))
+    ≡ map encode_utf8_all (pieces cols left cs)
 joined_none cols left [] = refl
 joined_none cols left (c ∷ cs) = by_test (nat_le (columns_of c) left)
   where

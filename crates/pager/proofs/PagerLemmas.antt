@@ -1,9 +1,11 @@
 -- The lines of a pager, with and without those that quote.
 use Rattle.std.proofs.Common.{◌≡◌, ℕ, zero, suc, ◌+◌, ◌-◌, ◌<◌, Bool, true, false, not, List}
-use Rattle.std.proofs.Common.{[], ◌∷◌, ◌++◌, cond, length, get_or, take, drop, map, replicate, refl, ap}
+use Rattle.std.proofs.Common.{[], ◌∷◌, ◌++◌, cond, length, get_or, take, drop, map, replicate, refl}
+use Rattle.std.proofs.Common.{ap}
 use Rattle.std.proofs.Common.{sym, ◌∙◌, arith, append_assoc, length-append}
 use Rattle.std.proofs.lemmas.Bool.{and_parts, and_from}
-use Rattle.std.proofs.lemmas.List.{at_drop_more, get_or_at, length-replicate, length_push, map-append, take_more}
+use Rattle.std.proofs.lemmas.List.{at_drop_more, get_or_at, length-replicate, length_push}
+use Rattle.std.proofs.lemmas.List.{map-append, take_more}
 use Rattle.std.proofs.lemmas.List.Folds.{list_all-append}
 use Rattle.std.specs.List.{list_all, range_with_len}
 use Rattle.std.specs.Prelude.{Some, None, slice_get}
@@ -143,7 +145,11 @@ rows_turn done new lines rows row text is at below before =
   where
     enough : row < length (lines ++ replicate rows [])
     enough =
-        omega (arith, length-append lines (replicate rows []), length-replicate {A = List ℕ} rows [])
+        omega (
+          arith,
+          length-append lines (replicate rows []),
+          length-replicate {A = List ℕ} rows [],
+        )
 
 -- with one more that can be shown all can be
 pub shown_push : (cols : ℕ) (done new : List (List ℕ)) (text : List ℕ) → new ≡ done ++ text ∷ []

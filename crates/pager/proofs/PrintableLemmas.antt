@@ -1,9 +1,12 @@
 -- Runs of printable characters of US-ASCII, which stand as they are.
-use Rattle.std.proofs.Common.{◌≡◌, ℕ, ◌+◌, ◌-◌, ◌%◌, ◌<◌, ◌≤◌, zero, suc, Bool, true, false, List, [], ◌∷◌}
-use Rattle.std.proofs.Common.{◌++◌, ◌==◌, cond, drop, get_or, length, nat_le, subst, take, refl, ap, sym, ◌∙◌, arith}
+use Rattle.std.proofs.Common.{◌≡◌, ℕ, ◌+◌, ◌-◌, ◌%◌, ◌<◌, ◌≤◌, zero, suc, Bool, true, false, List}
+use Rattle.std.proofs.Common.{[], ◌∷◌}
+use Rattle.std.proofs.Common.{◌++◌, ◌==◌, cond, drop, get_or, length, nat_le, subst, take, refl, ap}
+use Rattle.std.proofs.Common.{sym, ◌∙◌, arith}
 use Rattle.std.proofs.Common.{append_assoc}
 use Rattle.std.proofs.Math.Nat.{add-mod-mod, mod-add-mod}
-use Rattle.std.proofs.lemmas.Bool.{and_from, and_parts, eqb-true, cond-true, cond-false, le-leb, lt-leb}
+use Rattle.std.proofs.lemmas.Bool.{and_from, and_parts, eqb-true, cond-true, cond-false, le-leb}
+use Rattle.std.proofs.lemmas.Bool.{lt-leb}
 use Rattle.std.proofs.lemmas.Bool.Decides.{nat_tests}
 use Rattle.std.proofs.lemmas.List.{append-nil, length-take-le, take-append-drop}
 use Rattle.std.proofs.lemmas.Str.{chars-IsAscii, encode_ascii}
@@ -11,7 +14,8 @@ use Rattle.std.specs.List.{list_all}
 use Rattle.std.specs.Str.{chars}
 use Rattle.expando.specs.Columns.{columns_of}
 use Rattle.unicode_width.specs.Width.{char_width}
-use Rattle.pager.specs.Inner.{PlainBreaker, PlainTexts, is_printable, put, put_all, put_text, with_room}
+use Rattle.pager.specs.Inner.{PlainBreaker, PlainTexts, is_printable, put, put_all, put_text}
+use Rattle.pager.specs.Inner.{with_room}
 use Rattle.pager.specs.Written.{shown}
 use Rattle.pager.proofs.BreakerLemmas.{put-cols, put_here, put_next}
 
@@ -68,7 +72,8 @@ put_all-run line (c ∷ run) are room small =
     let next = with_run line (line.current ++ c ∷ []) (line.left - 1) ((line.past + 1) % 8) in
     ap (λ l. put_all l run) (put_printable line c parts.0 (omega arith))
     ∙ put_all-run next run parts.1 (omega arith) (mod_small (line.past + 1))
-    ∙ ap (λ s. with_run line s (line.left - 1 - length run) (((line.past + 1) % 8 + length run) % 8))
+    ∙ ap (λ s. with_run line s (line.left - 1 - length run)
+    (((line.past + 1) % 8 + length run) % 8))
     (append_assoc line.current (c ∷ []) run)
     ∙ ap (λ n. with_run line (line.current ++ c ∷ run) n (((line.past + 1) % 8 + length run) % 8))
     (fewer line.left (length run))
@@ -152,7 +157,8 @@ run_turn line new text count are some wide within room small is =
         ((with_room line).left - length (take count text))
         (((with_room line).past + length (take count text)) % 8)
     puts =
-        put_all-run (with_room line) (take count text) (all_taken count text are) (omega (arith, size))
+        put_all-run (with_room line) (take count text) (all_taken count text are)
+        (omega (arith, size))
         small
 
     sized : with_run (with_room line) ((with_room line).current ++ take count text)

@@ -1,5 +1,6 @@
 -- What is written out can be shown as it stands.
-use Rattle.std.proofs.Common.{◌≡◌, ℕ, zero, suc, ◌+◌, ◌-◌, ◌%◌, ◌<◌, ◌≤◌, Bool, true, false, not, ◌&&◌}
+use Rattle.std.proofs.Common.{◌≡◌, ℕ, zero, suc, ◌+◌, ◌-◌, ◌%◌, ◌<◌, ◌≤◌, Bool, true, false, not}
+use Rattle.std.proofs.Common.{◌&&◌}
 use Rattle.std.proofs.Common.{◌==◌, List, [], ◌∷◌, ◌++◌, cond, map, nat_le, nat_lt, refl, ap}
 use Rattle.std.proofs.Common.{sym, ◌∙◌, arith}
 use Rattle.std.proofs.Math.Nat.{mod-add-mod}
@@ -7,7 +8,8 @@ use Rattle.std.proofs.lemmas.Bool.{and_parts, and_from, le-leb, leb-true, eqb-tr
 use Rattle.std.proofs.lemmas.Bool.{eqb-false, ltb-false, not_from_false}
 use Rattle.std.proofs.lemmas.Bool.Decides.{nat_tests}
 use Rattle.std.proofs.lemmas.List.Folds.{list_all-append}
-use Rattle.std.proofs.lemmas.Str.{IsUtf8-from_is_utf8, chars-encodes, is_utf8-from_IsUtf8, scalars-chars}
+use Rattle.std.proofs.lemmas.Str.{IsUtf8-from_is_utf8, chars-encodes, is_utf8-from_IsUtf8}
+use Rattle.std.proofs.lemmas.Str.{scalars-chars}
 use Rattle.std.specs.Char.{is_control}
 use Rattle.std.specs.List.{list_all, range_with_len}
 use Rattle.std.specs.Str.{IsUtf8, chars, encode_utf8_all, is_utf8}
@@ -61,7 +63,8 @@ placed cols c low seen narrow =
     (le-leb (columns_of c) cols narrow)
 
 blank_placed : (cols : ℕ) → 2 ≤ cols → has_place cols 32 ≡ true
-blank_placed cols wide = placed cols 32 (omega arith) refl (omega (arith, ascii_width 32 (omega arith) (omega arith)))
+blank_placed cols wide = placed cols 32 (omega arith) refl
+    (omega (arith, ascii_width 32 (omega arith) (omega arith)))
 
 blanks_placed : (cols n : ℕ) → 2 ≤ cols → list_all (has_place cols) (blanks n) ≡ true
 blanks_placed cols zero wide = refl
@@ -95,18 +98,21 @@ above_placed cols c wide is other = by_test (nat_lt c 32) refl
         let other : c ≡ 127 → ⊥ = eqb-false c 127 other in
         let below : c < 160 = control_below c is in
         let two : columns_of (c + 64) ≤ 2 = leb-true (columns_of (c + 64)) 2
-        (in_range (λ c. nat_le (columns_of c) 2) 32 192 (c + 64) high_widths (omega arith) (omega arith)) in
+        (in_range (λ c. nat_le (columns_of c) 2) 32 192 (c + 64) high_widths (omega arith)
+        (omega arith)) in
         placed cols (c + 64) (omega arith) (no_control_above (c + 64) (omega arith)) (omega arith)
 
 caret_placed : (cols c : ℕ) → 2 ≤ cols → is_control c ≡ true
     → list_all (has_place cols) (caret c) ≡ true
 caret_placed cols c wide is =
-    and_from _ _ (placed cols 94 (omega arith) refl (omega (arith, ascii_width 94 (omega arith) (omega arith))))
+    and_from _ _ (placed cols 94 (omega arith) refl
+    (omega (arith, ascii_width 94 (omega arith) (omega arith))))
     (and_from _ _ (by_test (c == 127) refl) refl)
   where
     by_test : (t : Bool) → (c == 127) ≡ t → has_place cols (cond t 63 (c + 64)) ≡ true
     by_test true e =
-        placed cols 63 (omega arith) refl (omega (arith, ascii_width 63 (omega arith) (omega arith)))
+        placed cols 63 (omega arith) refl
+        (omega (arith, ascii_width 63 (omega arith) (omega arith)))
     by_test false e = above_placed cols c wide is e
 
 shown_placed : (cols past c : ℕ) → 2 ≤ cols → scalar c ≡ true
@@ -190,7 +196,8 @@ pub broken_shown : PiecesAreShown
 broken_shown cols text wide utf8 =
     let placed = written_placed cols 0 (chars text) wide (scalars-chars text utf8) in
     pieces_shown cols (pieces cols cols (line_chars cols text))
-    (all-pieces is_seen cols cols (line_chars cols text) (seen_all cols (line_chars cols text) placed))
+    (all-pieces is_seen cols cols (line_chars cols text)
+    (seen_all cols (line_chars cols text) placed))
     (within-pieces cols (line_chars cols text) (narrow_all cols (line_chars cols text) placed))
 
 -- the pieces of a line are the line

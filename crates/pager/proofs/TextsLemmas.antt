@@ -153,7 +153,8 @@ texts_end ends bytes new is =
     ap (λ ends. texts_of ends bytes) is
     ∙ ap (λ done. texts done (drop (last_end 0 (ends ++ length bytes ∷ [])) bytes))
     (cut_end 0 ends bytes)
-    ∙ ap (λ current. texts ((texts_of ends bytes).done ++ (texts_of ends bytes).current ∷ []) current)
+    ∙ ap (λ current.
+    texts ((texts_of ends bytes).done ++ (texts_of ends bytes).current ∷ []) current)
     (ap (λ n. drop n bytes) (last_push 0 ends (length bytes))
     ∙ drop_all (length bytes) bytes (omega arith))
 

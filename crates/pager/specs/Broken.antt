@@ -33,4 +33,5 @@ is_plain cs = list_all (λ c. not (is_control c)) cs
 
 -- a screen of so many columns shows the text as it stands
 abbrev pub is_shown : ℕ → List ℕ → Bool
-is_shown cols text = is_utf8 text && (nat_le (columns_in (chars text)) cols && is_plain (chars text))
+is_shown cols text =
+    is_utf8 text && (nat_le (columns_in (chars text)) cols && is_plain (chars text))

@@ -1,5 +1,6 @@
 -- For the code alone: texts in one buffer, and a line as it is broken character by character.
-use Rattle.std.specs.Prelude.{◌+◌, ◌-◌, ◌%◌, ◌==◌, ◌&&◌, ℕ, zero, suc, Bool, nat_le, List, [], ◌∷◌, ◌++◌, length}
+use Rattle.std.specs.Prelude.{◌+◌, ◌-◌, ◌%◌, ◌==◌, ◌&&◌, ℕ, zero, suc, Bool, nat_le, List, [], ◌∷◌}
+use Rattle.std.specs.Prelude.{◌++◌, length}
 use Rattle.std.specs.Prelude.{slice_range, encode_utf8, if◌then◌else◌}
 use Rattle.std.specs.Int.{is_in_range}
 use Rattle.std.specs.List.{range_with_len}
@@ -28,8 +29,8 @@ abbrev pub ascends : ℕ → List ℕ → ℕ → Bool
 ascends start [] size = nat_le start size
 ascends start (end ∷ ends) size = nat_le start end && ascends end ends size
 
--- lines that are broken, and the one that is being broken: its last piece, the columns that are left
--- in it, and how far it ends behind a multiple of eight
+-- lines that are broken, and the one that is being broken: its last piece, the columns that are
+-- left in it, and how far it ends behind a multiple of eight
 pub record PlainBreaker : Type 0 where
   pub done : List (List ℕ)
   pub current : List ℕ

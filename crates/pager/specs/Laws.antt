@@ -1,5 +1,6 @@
 -- Laws of lines that are broken.
-use Rattle.std.specs.Prelude.{◌≡◌, ◌+◌, ◌%◌, ◌≤◌, ◌&&◌, ◌++◌, ℕ, Bool, true, false, nat_lt, List, [], ◌∷◌}
+use Rattle.std.specs.Prelude.{◌≡◌, ◌+◌, ◌%◌, ◌≤◌, ◌&&◌, ◌++◌, ℕ, Bool, true, false, nat_lt, List}
+use Rattle.std.specs.Prelude.{[], ◌∷◌}
 use Rattle.std.specs.List.{concat, list_all}
 use Rattle.std.specs.Str.{IsUtf8, byte}
 use Rattle.expando.specs.Columns.{columns_in, columns_of}

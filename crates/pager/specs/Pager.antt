@@ -1,5 +1,6 @@
 -- A message on pages.
-use Rattle.std.specs.Prelude.{◌+◌, ◌-◌, ℕ, Bool, false, not, List, [], ◌++◌, Option, length, take, drop}
+use Rattle.std.specs.Prelude.{◌+◌, ◌-◌, ℕ, Bool, false, not, List, [], ◌++◌, Option, length, take}
+use Rattle.std.specs.Prelude.{drop}
 use Rattle.std.specs.Prelude.{min, replicate, if◌then◌else◌}
 use Rattle.std.specs.List.{flat_map, position_from}
 use Rattle.people.specs.Expr.{finds}

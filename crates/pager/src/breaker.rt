@@ -191,6 +191,7 @@ impl Breaker {
     fn put_text(&mut self, text: &str) -> Result<(), NoMemory>
         ensures { OnOk result (self.new ≡ spec.put_text self.old (chars text.now)) }
     {
+        // A field that is read tells that a wide character has room in the columns.
         let _ = &self.cols;
         let bytes = text.as_bytes();
         if is_printable(bytes) {
@@ -208,6 +209,7 @@ impl Breaker {
             ≡ spec.fresh self.old.cols (self.old.done ++ broken self.old.cols line.now)) }
         ensures shown { list_all (is_shown self.old.cols) (broken self.old.cols line.now) ≡ true }
     {
+        // As in `put_text`.
         let _ = &self.cols;
         self.put_text(line)?;
         self.end_line()?;

@@ -9,7 +9,7 @@ ghost use Rattle.pager.specs.Opening as spec;
 use crate::Pager;
 use folder_letters::Letter;
 use mail_base::NoMemory;
-use message_text::{Weeding, attachment_rows, message_text, part_text};
+use message_text::{MessageText, Weeding, message_text, part_text};
 use std::alloc::Global;
 
 // The text of a letter.
@@ -33,8 +33,7 @@ impl Pager {
             ≡ spec.opened_message cols (plain_weeding weed.now) (plain_letter letter.now)) }
     {
         let raw = text_of(letter);
-        let lines = message_text(alloc, raw, weed)?;
-        let rows = attachment_rows(alloc, raw)?;
+        let MessageText { lines, rows } = message_text(alloc, raw, weed)?;
         Ok(Pager::over(alloc, &lines, rows, usize::from(cols))?)
     }
 
@@ -54,8 +53,7 @@ impl Pager {
     {
         let raw = text_of(letter);
         match part_text(alloc, raw, number)? {
-            Some(lines) => {
-                let rows = attachment_rows(alloc, raw)?;
+            Some(MessageText { lines, rows }) => {
                 Ok(Some(Pager::over(alloc, &lines, rows, usize::from(cols))?))
             }
             None => Ok(None),

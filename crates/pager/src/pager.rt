@@ -1,6 +1,7 @@
 //! A message on pages.
 
-ghost use Rattle.std.specs.Prelude.{◌≡◌, ◌++◌, ◌≤◌, ◌-◌, drop, length, map, min, not, slice_index_or};
+ghost use Rattle.std.specs.Prelude.{◌≡◌, ◌++◌, ◌≤◌, ◌-◌, drop, length, map, min, not};
+ghost use Rattle.std.specs.Prelude.{slice_index_or};
 ghost use Rattle.std.specs.Prelude.{true, IfOk, IsOk, OnOk, [], ◌<◌};
 ghost use Rattle.std.specs.List.{list_all, position_from};
 ghost use Rattle.mail_base.specs.Series.{plain_texts};

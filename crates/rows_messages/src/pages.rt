@@ -9,12 +9,12 @@ use pager::{Pager, Weeding};
 use people::{Expr, ExprError, RegexBuild, Verdicts};
 use std::alloc::Global;
 
-/// `message` is opened with the fields that `ignore`, `unignore` and `order` name, or with all where
-/// `noweed` stands, in `cols` columns, 80 at first; with `part` a part of it alone, which is
+/// `message` is opened with the fields that `ignore`, `unignore` and `order` name, or with all
+/// where `noweed` stands, in `cols` columns, 80 at first; with `part` a part of it alone, which is
 /// `opened: none` where there is none. Then come steps in their order: `scroll` to a line, `quotes`
-/// hidden or shown, and questions: `lines N` are so many lines from the top, `top` its number, `find
-/// N EXPR` the first line behind one in which the expression is found, or `-`, and `attachments`
-/// the rows of the parts.
+/// hidden or shown, and questions: `lines N` are so many lines from the top, `top` its number,
+/// `find N EXPR` the first line behind one in which the expression is found, or `-`, and
+/// `attachments` the rows of the parts.
 pub struct Pages;
 
 impl Subject for Pages {

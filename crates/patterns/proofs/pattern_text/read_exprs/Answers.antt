@@ -11,6 +11,7 @@ use Rattle.patterns_match.specs.declared.operation.Operation.TheVariants as oper
 use Rattle.patterns.proofs.CauseLemmas.{asked_more, expr_asked, halfway_on, halfway_skip}
 use Rattle.patterns.proofs.CauseLemmas.{halfway_end, halfway_start, halfway_stop, no_memory}
 use Rattle.patterns.proofs.pattern_text.read_exprs.Goals as goal
+use Rattle.patterns.proofs.pattern_text.read_exprs.Goals.{}
 use Rattle.patterns.proofs.pattern_text.read_exprs.Goals.{in-Some-expr_of+in_ok-expr-in-Some-expr_of}
 use Rattle.patterns.proofs.pattern_text.read_exprs.Goals.{in-None+in_ok-next-in-None}
 

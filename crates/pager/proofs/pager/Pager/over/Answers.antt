@@ -33,7 +33,8 @@ returns c =
     let noted = after.places
     ∙ ap (λ s. s ++ unquoted_places c.new-breaker.result.cols (length c.new-breaker.result.done)
     (items c.as_slice.result.now)) c.new-unquoted.ensures
-    ∙ ap (λ (b : PlainBreaker). unquoted_places b.cols (length b.done) (items c.as_slice.result.now))
+    ∙ ap (λ (b : PlainBreaker).
+    unquoted_places b.cols (length b.done) (items c.as_slice.result.now))
     c.new-breaker.ensures
     ∙ ap (unquoted_places cols 0) is in
     is_opened cols lines c.into_texts.result.done c.break_lines.new.unquoted.items
