@@ -29,7 +29,7 @@ use Rattle.folder_core.specs.Directory.{file_at, stamp_there}
 use Rattle.folder_core.specs.Keeping.{IsDifference, ListedMail, ids_differ}
 use Rattle.folder_core.specs.Keeping.{kept_by_key, kept_by_stamp, kept_front, lists_id, mail_of}
 use Rattle.folder_core.specs.Keeping.{mails_of, with_mail}
-use Rattle.folder_core.specs.Known.{KnownFolder}
+use Rattle.folder_core.specs.Known.{KnownFolder, nothing_known}
 use Rattle.folder_core.specs.Mbox.{IsKeptStamp, begins_with_postmark}
 use Rattle.folder_core.specs.Message.{Message}
 use Rattle.folder_core.specs.Mh.{AllBore}
@@ -145,17 +145,6 @@ right_same kind mails known a b looks right =
     (right_later kind mails [] known a b (looks_grows a b looks) right)
 
 -- A folder of which nothing is known.
-
--- nothing is known of a folder but where it is
-abbrev pub nothing_known : List ℕ → Kind → Bool → KnownFolder
-nothing_known path sort held = record {
-  path = path;
-  kind = sort;
-  listing = [];
-  bytes = [];
-  stamps = [];
-  held = held;
-}
 
 read_new : (kind sort : Kind) (path : List ℕ) (held : Bool) (told : Option Past)
     → (format_of kind).WasRead [] (nothing_known path sort held) told

@@ -1,5 +1,5 @@
 -- What the looks of an opening have seen, as its last journal shows it.
-use Rattle.std.proofs.Common.{◌≡◌, ◌≤◌, ◌⊎◌, ℕ, List, [], inl, inr, Option, Result, Ok, Err, length}
+use Rattle.std.proofs.Common.{◌≡◌, ◌≤◌, ◌⊎◌, ℕ, false, List, [], inl, inr, Option, Result, Ok, Err, length}
 use Rattle.std.proofs.Common.{sym, ◌∙◌, ap}
 use Rattle.std.proofs.Common.{subst, arith}
 use Rattle.mail_base.specs.declared.kind.Kind.{Kind}
@@ -10,7 +10,7 @@ use Rattle.disk_model.specs.Looking.{HasLooked, LooksOnly}
 use Rattle.disk_model.proofs.Looking.{looked_longer}
 use Rattle.disk_model.proofs.Marks.{tree_at-longer}
 use Rattle.folder_core.specs.Kinds.{IsKindSeen, KindSeen, WasKind, kind_at}
-use Rattle.folder_core.specs.Known.{KnownFolder}
+use Rattle.folder_core.specs.Known.{KnownFolder, nothing_known}
 use Rattle.folder_letters.specs.Letters.{Mail}
 use Rattle.folder_core.specs.Reads.{format_of}
 use Rattle.folder_core.specs.Scanned.{Saw}
@@ -20,6 +20,7 @@ use Rattle.folder_core.specs.declared.error.ScanError.TheVariants.{Missing, NotM
 use Rattle.folder_core.specs.declared.error.ScanError.TheVariants.{TooLarge, Unfinished}
 use Rattle.folder_core.specs.declared.error.ScanError.TheVariants.{ArchiveFull, Fault, NoMemory}
 use Rattle.folder_letters.specs.declared.listing.Found.{Found}
+use Rattle.folder_letters.specs.declared.listing.Listed.{Listed}
 use Rattle.session_events.specs.declared.event.OpenFault.TheVariants.{Folder}
 use Rattle.session_events.specs.Happened.{WasNotListed, WasOpened, WasRefused}
 
@@ -39,45 +40,49 @@ kind_later result empty path m n mid new looked within was = record {
 
 -- the folder was read
 found_past : (empty : Kind) (kind : Kind) (path : List ℕ) (archive : List Mail)
-    (known : KnownFolder) (found : Found)
-    (old mid new : Past) → known.path ≡ path → HasLooked old mid → HasLooked mid new
-    → KindSeen (Ok kind) empty path old mid → Saw kind [] archive known (Ok found) mid new
-    → WasOpened empty archive path kind found.came.items (length old.journal) (length new.journal)
-    new
-found_past empty kind path archive known found old mid new at first next seen saw = record {
+    (known new_known : KnownFolder) (found : Found) (came : List Listed) (old mid new : Past)
+    → known ≡ nothing_known path kind false → new_known.path ≡ path → new_known.listing ≡ came
+    → HasLooked old mid → HasLooked mid new
+    → KindSeen (Ok kind) empty path old mid
+    → Saw kind [] archive known new_known (Ok found) mid new
+    → WasOpened empty archive path kind came (length old.journal) (length new.journal) new
+found_past empty kind path archive known new_known found came old mid new none at listed first next
+    seen saw = record {
   scan = length mid.journal;
   from = longer_later old mid first;
   to = longer_later mid new next;
   kind_is = kind_later (Ok kind) empty path (length old.journal) (length mid.journal) mid new next
       (omega arith)
       seen;
-  known = known;
+  known = new_known;
   at = at;
-  found = saw;
+  listed = listed;
+  found = subst (λ (k : KnownFolder). Saw kind [] archive k new_known (Ok found) mid new) none saw;
 }
 
 pub found_told : (empty : Kind) (kind : Kind) (path : List ℕ) {before : List Mail}
-    (archive : List Mail) (known : KnownFolder)
-    (found : Found) (old mid new : Option Past) → before ≡ [] → known.path ≡ path
+    (archive : List Mail) (known new_known : KnownFolder) (found : Found) (came : List Listed)
+    (old mid new : Option Past) → before ≡ [] → known ≡ nothing_known path kind false
+    → new_known.path ≡ path → new_known.listing ≡ came
     → GoesOn (KindSeen (Ok kind) empty path) old mid → LooksOnly old mid → LooksOnly mid new
-    → GoesOn (Saw kind before archive known (Ok found)) mid new
-    → GoesOn (λ (o n : Past). WasOpened empty archive path kind found.came.items (length o.journal)
-    (length n.journal) n)
-    old new
-found_told empty kind path {before} archive known found old mid new none at seen first next saw =
-    goes_then old mid new (λ p q r x y k s. found_past empty kind path archive known found p q r at
-    x y k s) first next seen
-    (subst (λ (b : List Mail). GoesOn (Saw kind b archive known (Ok found)) mid new) none saw)
+    → GoesOn (Saw kind before archive known new_known (Ok found)) mid new
+    → GoesOn (λ (o n : Past). WasOpened empty archive path kind came (length o.journal)
+    (length n.journal) n) old new
+found_told empty kind path {before} archive known new_known found came old mid new no_letters none
+    at listed seen first next saw =
+    goes_then old mid new (λ p q r x y k s. found_past empty kind path archive known new_known found
+    came p q r none at listed x y k s) first next seen
+    (subst (λ (b : List Mail). GoesOn (Saw kind b archive known new_known (Ok found)) mid new)
+    no_letters saw)
 
 -- the folder was not listed
 not_listed : (empty : Kind) (Has : Kind → Type 0) (kind : Kind) (path : List ℕ) (why : ScanError)
-    (known : KnownFolder)
-    (old mid new : Past) → known.path ≡ path → HasLooked old mid → HasLooked mid new
-    → KindSeen (Ok kind) empty path old mid
-    → (format_of kind).Refused 0 known.path why (length mid.journal) (length new.journal) new
+    (known : KnownFolder) (old mid new : Past) → known ≡ nothing_known path kind false
+    → HasLooked old mid → HasLooked mid new → KindSeen (Ok kind) empty path old mid
+    → (format_of kind).Refused [] known why (length mid.journal) (length new.journal) new
     → Has kind
     → WasNotListed Has empty path why (length old.journal) (length new.journal) new
-not_listed empty Has kind path why known old mid new at first next seen refused has = record {
+not_listed empty Has kind path why known old mid new none first next seen refused has = record {
   driver = has;
   kind = kind;
   scan = length mid.journal;
@@ -86,9 +91,8 @@ not_listed empty Has kind path why known old mid new at first next seen refused 
   kind_is = kind_later (Ok kind) empty path (length old.journal) (length mid.journal) mid new next
       (omega arith)
       seen;
-  refused = subst (λ (p : List ℕ). (format_of kind).Refused 0 p why (length mid.journal)
-      (length new.journal) new) at
-      refused;
+  refused = subst (λ (k : KnownFolder). (format_of kind).Refused [] k why (length mid.journal)
+      (length new.journal) new) none refused;
 }
 
 -- a cause of the tree, or a fault or want of memory
@@ -116,16 +120,16 @@ no_kind_told empty Has path why old new seen =
     (inl k)) seen
 
 pub refused_told : (empty : Kind) (Has : Kind → Type 0) (kind : Kind) (path : List ℕ)
-    {before : List Mail} (archive : List Mail)
-    (known : KnownFolder) (why : ScanError) (old mid new : Option Past) → before ≡ [] → known.path
-    ≡ path
+    {before : List Mail} (archive : List Mail) (known new_known : KnownFolder) (why : ScanError)
+    (old mid new : Option Past) → before ≡ [] → known ≡ nothing_known path kind false
     → GoesOn (KindSeen (Ok kind) empty path) old mid → LooksOnly old mid → LooksOnly mid new
-    → GoesOn (Saw kind before archive known (Err why)) mid new → Has kind
+    → GoesOn (Saw kind before archive known new_known (Err why)) mid new → Has kind
     → GoesOn (λ (o n : Past). WasRefused Has empty path (Folder why) (length o.journal)
     (length n.journal) n) old new
-refused_told empty Has kind path {before} archive known why old mid new none at seen first next saw
-    has =
+refused_told empty Has kind path {before} archive known new_known why old mid new no_letters none
+    seen first next saw has =
     goes_then old mid new (λ p q r x y k s. refused_by empty Has path why (length p.journal)
     (length r.journal) r
-    (inr (not_listed empty Has kind path why known p q r at x y k s has))) first next seen
-    (subst (λ (b : List Mail). GoesOn (Saw kind b archive known (Err why)) mid new) none saw)
+    (inr (not_listed empty Has kind path why known p q r none x y k s has))) first next seen
+    (subst (λ (b : List Mail). GoesOn (Saw kind b archive known new_known (Err why)) mid new)
+    no_letters saw)

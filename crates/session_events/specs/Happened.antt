@@ -1,5 +1,5 @@
 -- What an event says of the disk.
-use Rattle.std.specs.Prelude.{◌≡◌, ◌≤◌, ◌⊎◌, ℕ, List, [], ◌∷◌, Option, Some, None, Result, Ok, Err}
+use Rattle.std.specs.Prelude.{◌≡◌, ◌≤◌, ◌⊎◌, ℕ, false, List, [], ◌∷◌, Option, Some, None, Result, Ok, Err}
 use Rattle.std.specs.Prelude.{length, map, take}
 use Rattle.mail_base.specs.Faults.{Rose}
 use Rattle.mail_base.specs.declared.kind.Kind.{Kind}
@@ -10,7 +10,7 @@ use Rattle.disk_model.specs.declared.answers.DiskError.{DiskError}
 use Rattle.disk_model.specs.declared.answers.DiskError.TheVariants as disk
 use Rattle.disk_model.specs.declared.answers.Stat.{Stat}
 use Rattle.folder_core.specs.Kinds.{IsKindSeen, WasKind}
-use Rattle.folder_core.specs.Known.{KnownFolder}
+use Rattle.folder_core.specs.Known.{KnownFolder, nothing_known}
 use Rattle.folder_letters.specs.Letters.{Mail}
 use Rattle.folder_core.specs.Reads.{format_of}
 use Rattle.folder_core.specs.Scanned.{IsFound}
@@ -33,8 +33,9 @@ abbrev pub WasRead : Result (Stat × List ℕ) DiskError → List ℕ → Past �
 WasRead answer path old new =
     StepBy answer (ReadAll path most_commands) (λ tree. read_of tree path most_commands) old new
 
--- The path was looked at from one mark to another and was of this kind, and then a scan saw the
--- folder up to a third: what came was listed, and its letters are the archive.
+-- The path was looked at from one mark to another and was of this kind, and then a scan of which
+-- nothing was known saw the folder up to a third: what came is listed, and its letters are the
+-- archive.
 pub record WasOpened (empty : Kind) (archive : List Mail) (path : List ℕ) (kind : Kind)
     (came : List Listed) (before after : ℕ) (past : Past) : Type 0 where
   pub scan : ℕ
@@ -43,7 +44,9 @@ pub record WasOpened (empty : Kind) (archive : List Mail) (path : List ℕ) (kin
   pub kind_is : WasKind (Ok kind) empty path before scan past
   pub known : KnownFolder
   pub at : known.path ≡ path
-  pub found : IsFound (format_of kind) [] archive came known scan after past
+  pub listed : known.listing ≡ came
+  pub found : IsFound (format_of kind) [] archive (nothing_known path kind false) known scan after
+      past
 
 -- the folder was of a kind that has a driver, and then was not listed for this cause
 pub record WasNotListed (Has : Kind → Type 0) (empty : Kind) (path : List ℕ) (why : ScanError)
@@ -54,7 +57,7 @@ pub record WasNotListed (Has : Kind → Type 0) (empty : Kind) (path : List ℕ)
   pub to : scan ≤ after
   pub kind_is : WasKind (Ok kind) empty path before scan past
   pub driver : Has kind
-  pub refused : (format_of kind).Refused 0 path why scan after past
+  pub refused : (format_of kind).Refused [] (nothing_known path kind false) why scan after past
 
 -- why the folder was not opened, as the tree shows it
 abbrev pub WasRefused : (Kind → Type 0) → Kind → List ℕ → OpenFault → ℕ → ℕ → Past → Type 0

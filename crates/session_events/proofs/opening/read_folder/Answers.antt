@@ -1,7 +1,8 @@
-use Rattle.std.proofs.Common.{rules, ap, map, ◌∙◌}
+use Rattle.std.proofs.Common.{rules, ap, false, map, sym, ◌∙◌}
 use Rattle.folder_core.specs.Known.{KnownFolder}
 use Rattle.folder_letters.specs.Letters.{plain_letter}
 use Rattle.disk_model.proofs.Looking.{looks_then}
+use Rattle.folder_core.proofs.RightLemmas.{first_came, right_new}
 use Rattle.session_events.proofs.Looked.{found_told, no_kind_told, refused_told}
 use Rattle.session_events.proofs.opening.read_folder.Goals as goal
 
@@ -25,38 +26,41 @@ returns-then-not-has g c = record {
   only = search rules;
 }
 
+pub requires-scan-right : goal.requires-scan-right
+requires-scan-right g c = rw c.in-Ok-new.ensures
+    (right_new c.in-Ok.kind c.in-Ok.kind _ c.args.path.now false _)
+
 pub returns-in-Ok-scan : goal.returns-in-Ok-scan
-returns-in-Ok-scan g c = record {
-  looked =
-      found_told c.args.empty c.in-Ok.kind _ _ _ c.in-Ok-scan.found _ _ _
-      (ap (map plain_letter) c.requires)
-      (ap (λ (k : KnownFolder). k.path) (c.in-Ok-scan.ensures.lists.kept
-      ∙ ap (λ (k : KnownFolder). record k {
-        listing = c.in-Ok-scan.found.came.items;
-        bytes = c.scan.new.known.bytes;
-        stamps =
-            c.scan.new.known.stamps;
-      })
-      c.in-Ok-new.ensures))
-      c.in-Ok.ensures.kind c.in-Ok.ensures.only.looks c.in-Ok-scan.ensures.only.looks
-      c.in-Ok-scan.ensures.saw;
-  cause = search rules;
-  driver = search rules;
-  fresh = search rules;
-  none = search rules;
-  only = record {
-    looks = looks_then _ _ _ c.in-Ok.ensures.only.looks c.in-Ok-scan.ensures.only.looks;
-    marks = search rules;
-    faults = search rules;
-  };
-}
+returns-in-Ok-scan g c =
+    let lists = c.in-Ok-scan.ensures.lists in
+    let came = (first_came c.scan.new.known.listing c.in-Ok-scan.found
+    (rw (ap (λ (k : KnownFolder). k.listing) c.in-Ok-new.ensures) lists.difference)).0 in
+    record {
+      looked =
+          found_told c.args.empty c.in-Ok.kind _ _ _ c.scan.new.known c.in-Ok-scan.found _ _ _ _
+          (ap (map plain_letter) c.requires) c.in-Ok-new.ensures
+          (ap (λ (k : KnownFolder). k.path) lists.kept
+          ∙ ap (λ (k : KnownFolder). k.path) c.in-Ok-new.ensures)
+          (sym came)
+          c.in-Ok.ensures.kind c.in-Ok.ensures.only.looks c.in-Ok-scan.ensures.only.looks
+          c.in-Ok-scan.ensures.saw;
+      cause = search rules;
+      driver = search rules;
+      fresh = search rules;
+      none = search rules;
+      only = record {
+        looks = looks_then _ _ _ c.in-Ok.ensures.only.looks c.in-Ok-scan.ensures.only.looks;
+        marks = search rules;
+        faults = search rules;
+      };
+    }
 
 pub returns : goal.returns
 returns g c = record {
   looked =
       refused_told c.args.empty _ c.in-Ok.kind _ (map plain_letter c.scan.new.archive.items)
-      c.scan.new.known c.in-Err-scan.why _ _ _ (ap (map plain_letter) c.requires)
-      (ap (λ (k : KnownFolder). k.path) (c.in-Err-scan.ensures.err_known ∙ c.in-Ok-new.ensures))
+      _ c.scan.new.known c.in-Err-scan.why _ _ _ (ap (map plain_letter) c.requires)
+      c.in-Ok-new.ensures
       c.in-Ok.ensures.kind c.in-Ok.ensures.only.looks c.in-Err-scan.ensures.only.looks
       c.in-Err-scan.ensures.saw (search rules);
   cause = search rules;
