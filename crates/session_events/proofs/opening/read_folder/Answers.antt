@@ -1,5 +1,7 @@
-use Rattle.std.proofs.Common.{rules, ap, false, map, sym, ◌∙◌}
+use Rattle.std.proofs.Common.{◌≡◌, List, [], rules, ap, false, map, subst, sym, ◌∙◌}
+use Rattle.folder_core.specs.Keeping.{IsDifference}
 use Rattle.folder_core.specs.Known.{KnownFolder}
+use Rattle.folder_letters.specs.declared.listing.Listed.{Listed}
 use Rattle.folder_letters.specs.Letters.{plain_letter}
 use Rattle.disk_model.proofs.Looking.{looks_then}
 use Rattle.folder_core.proofs.RightLemmas.{first_came, right_new}
@@ -26,15 +28,18 @@ returns-then-not-has g c = record {
   only = search rules;
 }
 
-pub requires-scan-right : goal.requires-scan-right
-requires-scan-right g c = rw c.in-Ok-new.ensures
+pub scan-requires-clause-right : goal.scan-requires-clause-right
+scan-requires-clause-right g c = rw c.in-Ok-new.ensures
     (right_new c.in-Ok.kind c.in-Ok.kind _ c.args.path.now false _)
 
 pub returns-in-Ok-scan : goal.returns-in-Ok-scan
 returns-in-Ok-scan g c =
     let lists = c.in-Ok-scan.ensures.lists in
+    let none : c.in-Ok-new.known.listing ≡ [] =
+    ap (λ (k : KnownFolder). k.listing) c.in-Ok-new.ensures in
     let came = (first_came c.scan.new.known.listing c.in-Ok-scan.found
-    (rw (ap (λ (k : KnownFolder). k.listing) c.in-Ok-new.ensures) lists.difference)).0 in
+    (subst (λ (l : List Listed). IsDifference l c.scan.new.known.listing c.in-Ok-scan.found) none
+    lists.difference)).0 in
     record {
       looked =
           found_told c.args.empty c.in-Ok.kind _ _ _ c.scan.new.known c.in-Ok-scan.found _ _ _ _
