@@ -1,19 +1,23 @@
 -- How two listings differ, by the tables of the code.
-use Rattle.std.proofs.Common.{◌≡◌, ◌≤◌, ◌<◌, ◌&&◌, ◌||◌, ◌==◌, ℕ, suc, Bool, true, false, not, List, []}
+use Rattle.std.proofs.Common.{◌≡◌, ◌≤◌, ◌<◌, ◌&&◌, ◌||◌, ◌==◌, ℕ, suc, Bool, true, false, not, List}
+use Rattle.std.proofs.Common.{[]}
 use Rattle.std.proofs.Common.{◌∷◌, Option, Some, None, length, map, nat_lt, is_none, is_some}
 use Rattle.std.proofs.Common.{if◌then◌else◌, replicate, refl, sym, ◌∙◌, ap, subst, arith}
 use Rattle.std.proofs.Common.{◌++◌, ◌-◌, append_assoc, ltb-false, ltb-true}
 use Rattle.std.proofs.lemmas.Bool.{and_parts, eq-eqb, eqb-true}
 use Rattle.std.proofs.lemmas.Grind.{get_or-set_at}
-use Rattle.std.proofs.lemmas.List.{get_or-replicate, get_or-set_other, get_or_past, length-replicate}
+use Rattle.std.proofs.lemmas.List.{get_or-replicate, get_or-set_other, get_or_past}
+use Rattle.std.proofs.lemmas.List.{length-replicate}
 use Rattle.std.proofs.lemmas.List.{length-set}
 use Rattle.std.proofs.lemmas.List.Elements.{All-head, All-tail}
 use Rattle.std.specs.List.{All, filter, list_any}
 use Rattle.mail_base.specs.declared.flags.Flags.{Flags}
 use Rattle.folder_letters.specs.declared.listing.Found.{Found}
 use Rattle.folder_letters.specs.declared.listing.Listed.{Listed}
-use Rattle.folder_core.specs.Difference.{are_others, filled, flags_at, has_others, is_new, with_flags}
-use Rattle.folder_core.specs.Keeping.{IsDifference, had_other_flags, ids_differ, lists_id, same_flags}
+use Rattle.folder_core.specs.Difference.{are_others, filled, flags_at, has_others, is_new}
+use Rattle.folder_core.specs.Difference.{with_flags}
+use Rattle.folder_core.specs.Keeping.{IsDifference, had_other_flags, ids_differ, lists_id}
+use Rattle.folder_core.specs.Keeping.{same_flags}
 
 true_false : ◌≡◌ {A = Bool} true false → ⊥
 true_false e = cc
@@ -242,7 +246,8 @@ pub differ_so : (letters : ℕ) (old new : List Listed) (found : Found) → AreB
 differ_so letters old new found below differ gone came reflagged = record {
   gone = gone ∙ ap (map (λ listed. listed.id)) (gone_same letters old new below);
   came = came ∙ (λ i. filter (λ listed. new_each letters old below listed i) new);
-  reflagged = reflagged ∙ (λ i. filter (λ listed. others_each letters old below differ listed i) new);
+  reflagged = reflagged
+      ∙ (λ i. filter (λ listed. others_each letters old below differ listed i) new);
 }
 
 -- a table without flags and one place less

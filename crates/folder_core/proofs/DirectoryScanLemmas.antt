@@ -404,8 +404,8 @@ right_listed kind order_of archive new_archive known told listing stamps Sees ol
     let many = listed_length (length archive) is.keeps is.messages lists.pairs in
     record {
       within = subst (AreBelow (length new_archive)) (sym is.listed)
-          (listed_below (length archive) (length archive) (length new_archive) known.listing is.keeps
-          is.messages right.within (omega arith)
+          (listed_below (length archive) (length archive) (length new_archive) known.listing
+          is.keeps is.messages right.within (omega arith)
           (omega (arith, ap length is.letters, grown, fresh)) lists.ids);
       ordered = rise_as (mails_of new_archive listing) is.messages lists.each is.in_order;
       few = omega (arith, ap length is.listed, many, within.messages);

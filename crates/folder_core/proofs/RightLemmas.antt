@@ -111,7 +111,8 @@ mails_later mails more [] below = refl
 mails_later mails more (listed ∷ listing) below =
     let same = mail_stays mails more listed.id.0
     (All-head (λ l. l.id.0 < length mails) listed listing below) in
-    let again = mails_later mails more listing (All-tail (λ l. l.id.0 < length mails) listed listing below) in
+    let again = mails_later mails more listing
+    (All-tail (λ l. l.id.0 < length mails) listed listing below) in
     λ i. record { id = listed.id.0; flags = listed.flags; mail = same i } ∷ again i
 
 pub below_later : (letters end : ℕ) (listing : List Listed) → letters ≤ end

@@ -1,5 +1,6 @@
 -- What a scan of a directory has found.
-use Rattle.std.specs.Prelude.{◌≡◌, ◌<◌, ◌+◌, ◌++◌, ℕ, true, List, [], None, Result, IfErr, IfOk, IsErrOf}
+use Rattle.std.specs.Prelude.{◌≡◌, ◌<◌, ◌+◌, ◌++◌, ℕ, true, List, [], None, Result, IfErr, IfOk}
+use Rattle.std.specs.Prelude.{IsErrOf}
 use Rattle.std.specs.Prelude.{OnErr, length}
 use Rattle.std.specs.Prelude.{Option}
 use Rattle.mail_base.specs.Faults.{Rose}

@@ -1,6 +1,7 @@
 -- A folder of a file a message, in the directories `new` and `cur` (maildir(5)).
 use Rattle.std.specs.Prelude.{◌≡◌, ◌≤◌, ◌<◌, ◌+◌, ◌&&◌, ℕ, pos, Bool, true, false, not, List, []}
-use Rattle.std.specs.Prelude.{◌∷◌, ◌++◌, codes, map, take, drop, length, Option, Some, None, option_map}
+use Rattle.std.specs.Prelude.{◌∷◌, ◌++◌, codes, map, take, drop, length, Option, Some, None}
+use Rattle.std.specs.Prelude.{option_map}
 use Rattle.std.specs.Prelude.{is_some, is_none, if◌then◌else◌}
 use Rattle.std.specs.List.{filter}
 use Rattle.std.specs.Str.{bytes_eq}

@@ -1,5 +1,6 @@
 -- What the looks of an opening have seen, as its last journal shows it.
-use Rattle.std.proofs.Common.{◌≡◌, ◌≤◌, ◌⊎◌, ℕ, false, List, [], inl, inr, Option, Result, Ok, Err, length}
+use Rattle.std.proofs.Common.{◌≡◌, ◌≤◌, ◌⊎◌, ℕ, false, List, [], inl, inr, Option, Result, Ok, Err}
+use Rattle.std.proofs.Common.{length}
 use Rattle.std.proofs.Common.{sym, ◌∙◌, ap}
 use Rattle.std.proofs.Common.{subst, arith}
 use Rattle.mail_base.specs.declared.kind.Kind.{Kind}
@@ -48,17 +49,17 @@ found_past : (empty : Kind) (kind : Kind) (path : List ℕ) (archive : List Mail
     → WasOpened empty archive path kind came (length old.journal) (length new.journal) new
 found_past empty kind path archive known new_known found came old mid new none at listed first next
     seen saw = record {
-  scan = length mid.journal;
-  from = longer_later old mid first;
-  to = longer_later mid new next;
-  kind_is = kind_later (Ok kind) empty path (length old.journal) (length mid.journal) mid new next
-      (omega arith)
-      seen;
-  known = new_known;
-  at = at;
-  listed = listed;
-  found = subst (λ (k : KnownFolder). Saw kind [] archive k new_known (Ok found) mid new) none saw;
-}
+      scan = length mid.journal;
+      from = longer_later old mid first;
+      to = longer_later mid new next;
+      kind_is = kind_later (Ok kind) empty path (length old.journal) (length mid.journal) mid new next
+          (omega arith)
+          seen;
+      known = new_known;
+      at = at;
+      listed = listed;
+      found = subst (λ (k : KnownFolder). Saw kind [] archive k new_known (Ok found) mid new) none saw;
+    }
 
 pub found_told : (empty : Kind) (kind : Kind) (path : List ℕ) {before : List Mail}
     (archive : List Mail) (known new_known : KnownFolder) (found : Found) (came : List Listed)

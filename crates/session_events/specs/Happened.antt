@@ -1,5 +1,6 @@
 -- What an event says of the disk.
-use Rattle.std.specs.Prelude.{◌≡◌, ◌≤◌, ◌⊎◌, ℕ, false, List, [], ◌∷◌, Option, Some, None, Result, Ok, Err}
+use Rattle.std.specs.Prelude.{◌≡◌, ◌≤◌, ◌⊎◌, ℕ, false, List, [], ◌∷◌, Option, Some, None, Result}
+use Rattle.std.specs.Prelude.{Ok, Err}
 use Rattle.std.specs.Prelude.{length, map, take}
 use Rattle.mail_base.specs.Faults.{Rose}
 use Rattle.mail_base.specs.declared.kind.Kind.{Kind}
