@@ -1,4 +1,4 @@
-mod Driving
+pub mod Changing
 pub mod MessageLemmas
 pub mod PostmarkLemmas
 pub mod Reading

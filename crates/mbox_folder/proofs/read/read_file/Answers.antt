@@ -13,7 +13,7 @@ use Rattle.mbox_folder.proofs.read.read_file.Goals as goal
 
 pub returns-in-Ok-clause-seen : goal.returns-in-Ok-clause-seen
 returns-in-Ok-clause-seen g c =
-    ok_seen _ c.args.path.now _ _ c.in-Ok.ensures.0.called c.read_all.ensures.1.0
+    ok_seen c.in-Ok.file c.args.path.now _ _ c.in-Ok.ensures.0.called c.read_all.ensures.1.0
 
 pub returns-in-Err-Missing-clause-seen : goal.returns-in-Err-Missing-clause-seen
 returns-in-Err-Missing-clause-seen g c =
