@@ -1,6 +1,6 @@
 -- What the first look of a call has found.
-use Rattle.std.proofs.Common.{◌≡◌, ◌≤◌, ℕ, Bool, true, false, List, [], ◌∷◌, ◌++◌, Option, Some}
-use Rattle.std.proofs.Common.{None, Result, Ok, Err, map, length, drop, is_some, is_none}
+use Rattle.std.proofs.Common.{◌≡◌, ℕ, Bool, true, false, List, [], ◌∷◌, ◌++◌, Option, Some}
+use Rattle.std.proofs.Common.{None, Result, Ok, Err, map, length, drop, is_some}
 use Rattle.std.proofs.Common.{if◌then◌else◌, refl, sym, ◌∙◌, ◌⊎◌, inl, inr, ap, subst}
 use Rattle.std.proofs.Common.{append_assoc}
 use Rattle.std.specs.Prelude.{option_and_then}
@@ -19,7 +19,7 @@ use Rattle.disk_model.specs.declared.answers.DiskError.TheVariants.{NoMemory as 
 use Rattle.disk_model.specs.declared.answers.Stat.{Stat}
 use Rattle.disk_model.proofs.Runs.{run_entries-append}
 use Rattle.folder_core.specs.Directory.{node_file}
-use Rattle.folder_core.specs.FirstLook.{FindsFirst, Look, TellsMissing, first_look, found_by}
+use Rattle.folder_core.specs.FirstLook.{Look, TellsMissing, first_look, found_by}
 use Rattle.folder_core.specs.FirstLook.{found_first, has_failed, tells_of_path}
 use Rattle.folder_core.specs.Looked.{stat_there}
 use Rattle.folder_core.specs.declared.error.ScanError.{ScanError}

@@ -26,7 +26,7 @@ use Rattle.folder_core.specs.declared.error.ScanError.{ScanError}
 use Rattle.folder_core.specs.declared.looks.Content.{Content}
 use Rattle.folder_core.specs.declared.looks.Content.TheVariants.{NoFile, TooLong, Whole}
 use Rattle.folder_core.specs.Looked.{IsContent, Looked, SawAt, node_stat, stat_there}
-use Rattle.folder_core.specs.Mh.{stamp_there}
+use Rattle.folder_core.specs.Directory.{stamp_there}
 
 -- One step.
 

@@ -1,5 +1,5 @@
 -- What a scan of a directory has found.
-use Rattle.std.specs.Prelude.{◌≡◌, ◌<◌, ◌+◌, ◌++◌, ℕ, List, [], None, Result, IfErr, IfOk, IsErrOf}
+use Rattle.std.specs.Prelude.{◌≡◌, ◌<◌, ◌+◌, ◌++◌, ℕ, true, List, [], None, Result, IfErr, IfOk, IsErrOf}
 use Rattle.std.specs.Prelude.{OnErr, length}
 use Rattle.std.specs.Prelude.{Option}
 use Rattle.mail_base.specs.Faults.{Rose}
@@ -14,9 +14,10 @@ use Rattle.folder_core.specs.Format.{Format}
 use Rattle.folder_core.specs.Known.{KnownFolder}
 use Rattle.folder_letters.specs.Letters.{Mail}
 use Rattle.folder_core.specs.Limits.{list_refusal, most_letters, most_messages}
-use Rattle.folder_core.specs.Message.{Message}
+use Rattle.folder_core.specs.Message.{ArePlaced, Message, are_in_order}
 use Rattle.folder_core.specs.Keeping.{KeepCores, letters_by, listed_by, mails_of}
 use Rattle.folder_core.specs.Reads.{format_of}
+use Rattle.folder_core.specs.Right.{Right}
 use Rattle.folder_core.specs.Scanned.{ListsFound, Saw}
 use Rattle.folder_core.specs.declared.error.ScanError.{ScanError}
 use Rattle.folder_core.specs.declared.error.ScanError.TheVariants.{ArchiveFull, Fault}
@@ -29,8 +30,8 @@ known_listed known listing stamps =
     record known { listing = listing; bytes = []; stamps = stamps }
 
 -- The messages that were found may be listed, and the letters of those that were not known stand at
--- the end of the archive.
-pub record IsListing (format : Format)
+-- the end of the archive; the messages are in order, and their keys give their places.
+pub record IsListing (format : Format) (order_of : List ℕ → ℕ)
     (Sees : List (Option ℕ) → List Message → List ℕ → Past → Past → Type 0)
     (archive new_archive : List Mail) (known : KnownFolder) (listing : List Listed)
     (stamps : List ℕ) (old new : Option Past) : Type 0 where
@@ -39,6 +40,8 @@ pub record IsListing (format : Format)
   pub kept : keeps
       ≡ format.keep (mails_of archive known.listing) known.stamps messages stamps
   pub cores : KeepCores (λ raw. raw) archive keeps messages
+  pub in_order : are_in_order messages ≡ true
+  pub placed : ArePlaced order_of messages
   pub taken : list_refusal (length archive) keeps messages ≡ None
   pub letters : new_archive
       ≡ archive ++ letters_by format.letter (length archive) keeps messages
@@ -52,12 +55,13 @@ FolderRefused format archive known why old new =
 
 -- The messages of a directory are listed as they were seen, or it is refused for a cause that was
 -- seen.
-pub record ListsFolder {A : Type 0} (format : Format) (known : KnownFolder)
+pub record ListsFolder {A : Type 0} (format : Format) (order_of : List ℕ → ℕ)
+    (known : KnownFolder)
     (archive new_archive : List Mail) (result : Result A ScanError)
     (listing_of : A → List Listed) (stamps_of : A → List ℕ)
     (Sees : List (Option ℕ) → List Message → List ℕ → Past → Past → Type 0)
     (old new : Seen) : Type 0 where
-  pub ok : IfOk result (λ given. IsListing format Sees archive new_archive known
+  pub ok : IfOk result (λ given. IsListing format order_of Sees archive new_archive known
       (listing_of given) (stamps_of given) old.told new.told)
   pub refused : IfErr result (λ why. GoesOn (FolderRefused format archive known why) old.told
       new.told)
@@ -78,6 +82,7 @@ pub record ScansFolder (kind : Kind) (archive new_archive : List Mail)
       (letters_behind archive new_archive) old new)
   pub first : GoesOn (TellsMissing result known.path) old.told new.told
   pub within : (format_of kind).MayRead known.path old new
+  pub right : IfOk result (λ found. Right kind new_archive new_known new.told)
   pub err_known : OnErr result (new_known ≡ known)
   pub full : IsErrOf result ArchiveFull → most_letters < length archive + most_messages
   pub only : OnlyLooks old new

@@ -1,7 +1,7 @@
 -- What the first look of a call has found at a path: the first own entry behind those of others.
 use Rattle.std.specs.Prelude.{◌≡◌, ◌↔◌, Bool, true, false, ℕ, List, [], ◌∷◌, Option, Some, None}
 use Rattle.std.specs.Prelude.{Result, Ok, Err, IsErrOf, is_some, length, drop, if◌then◌else◌}
-use Rattle.disk_model.specs.Journal.{Answer, Done, Refused, Entry, Own, Others, Past}
+use Rattle.disk_model.specs.Journal.{Answer, Refused, Entry, Own, Others, Past}
 use Rattle.disk_model.specs.State.{State, after_entry, state_after, tree_of}
 use Rattle.disk_model.specs.Tree.{TreeNode, node_at}
 use Rattle.disk_model.specs.declared.answers.DiskError.TheVariants.{Fault as DiskFault}

@@ -1,7 +1,7 @@
 -- Which listed messages a scan meets again, and the listing and the letters that it makes.
 use Rattle.std.specs.Prelude.{◌≡◌, ◌+◌, ◌&&◌, ◌==◌, ℕ, pos, Bool, true, not, List, [], ◌∷◌, Option, Some, None}
-use Rattle.std.specs.Prelude.{map, length, find, option_map, slice_index_or, if◌then◌else◌}
-use Rattle.std.specs.List.{filter, list_any}
+use Rattle.std.specs.Prelude.{map, option_map, slice_index_or, if◌then◌else◌}
+use Rattle.std.specs.List.{filter, find, list_any}
 use Rattle.std.specs.Bool.{beq}
 use Rattle.std.specs.Str.{bytes_eq}
 use Rattle.mail_base.specs.declared.flags.Flags.{Flags}
@@ -123,11 +123,30 @@ AreThere (keep ∷ keeps) (message ∷ messages) (other ∷ there) =
     IsThere keep message (Some other) × AreThere keeps messages there
 AreThere _ _ _ = ⊥
 
+-- Where letters stand.
+
+-- the place of each letter is the one that its key gives, as it is in a directory
+abbrev pub PlacedByKey : (List ℕ → ℕ) → List ListedMail → Type 0
+PlacedByKey order_of [] = Unit {0}
+PlacedByKey order_of (listed ∷ old) =
+    (listed.mail.order ≡ order_of listed.mail.key) × PlacedByKey order_of old
+
+-- the place of each letter is its id, and no key tells it from others, as it is in one file
+abbrev pub PlacedById : List ListedMail → Type 0
+PlacedById [] = Unit {0}
+PlacedById (listed ∷ old) =
+    (listed.mail.order ≡ listed.id) × ((listed.mail.key ≡ []) × PlacedById old)
+
 -- What changed from one listing to another.
 
 -- the id is listed
 abbrev pub lists_id : List Listed → ℕ → Bool
 lists_id listing id = list_any (λ listed. listed.id.0 == id) listing
+
+-- no id is listed twice
+abbrev pub ids_differ : List Listed → Bool
+ids_differ [] = true
+ids_differ (listed ∷ more) = not (lists_id more listed.id.0) && ids_differ more
 
 -- a message was listed with other flags
 abbrev pub had_other_flags : List Listed → Listed → Bool

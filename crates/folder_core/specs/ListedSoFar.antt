@@ -45,38 +45,74 @@ pub record IsEmpty (store : Store) : Type 0 where
   pub bytes : store.bytes ≡ 0
   pub listing : store.listing ≡ []
 
--- the message has an id, and its letter stands in the archive where it is new
-abbrev pub stored_as : Option ℕ → Flags → Mail → Store → Store
-stored_as (Some id) flags mail store = record store
-    { listing = store.listing ++ record { id = record { 0 = id }; flags = flags } ∷ [] }
-stored_as None flags mail store = record store {
-  listing = store.listing
-      ++ record { id = record { 0 = length store.archive }; flags = flags } ∷ [];
-  archive = store.archive ++ mail ∷ [];
-}
-
--- a message more of so many bytes is counted, new or known
-abbrev pub counted : Option ℕ → ℕ → Store → Store
-counted keep size store = record store {
-  count = store.count + 1;
-  fresh = store.fresh + (if is_none keep then 1 else 0);
-  bytes = told_sum (store.bytes + size);
-}
+-- the listed message of an id
+abbrev pub listed_as : ℕ → Flags → Listed
+listed_as id flags = record { id = record { 0 = id }; flags = flags }
 
 -- why all found so far are not listed
 abbrev pub store_refusal : Store → Option ScanError
 store_refusal store = sum_refusal store.letters store.fresh store.count store.bytes
 
--- what was found so far with one more message, which is listed while no limit is passed
-abbrev pub store_with : Option ℕ → Flags → Mail → Store → Store
-store_with keep flags mail store =
-    let more = counted keep (length mail.core) store in
-    if is_none (store_refusal more) then stored_as keep flags mail more else more
+-- a new message more of so many bytes is counted
+abbrev pub counted_new : ℕ → Store → Store
+counted_new size store = record store {
+  count = store.count + 1;
+  fresh = store.fresh + 1;
+  bytes = told_sum (store.bytes + size);
+}
 
--- a message more
+-- a known message more of so many bytes is counted
+abbrev pub counted_known : ℕ → Store → Store
+counted_known size store = record store {
+  count = store.count + 1;
+  bytes = told_sum (store.bytes + size);
+}
+
+-- a new message more by its letter, which is stored where all found so far may be listed; it gets
+-- the next id of those that the archive has no letter for
+abbrev pub new_if : Bool → Flags → Mail → Store → Store
+new_if fits flags mail store = record {
+  letters = store.letters;
+  count = store.count + 1;
+  fresh = store.fresh + 1;
+  bytes = told_sum (store.bytes + length mail.core);
+  listing = if fits then store.listing ++ listed_as (store.letters + store.fresh) flags ∷ []
+      else store.listing;
+  archive = if fits then store.archive ++ mail ∷ [] else store.archive;
+}
+
+-- the same while no limit is passed
+abbrev pub store_new : Flags → Mail → Store → Store
+store_new flags mail store =
+    new_if (is_none (store_refusal (counted_new (length mail.core) store))) flags mail store
+
+-- a known message more of so many bytes, which is listed where all found so far may be
+abbrev pub known_if : Bool → ℕ → Flags → ℕ → Store → Store
+known_if fits id flags size store = record {
+  letters = store.letters;
+  count = store.count + 1;
+  fresh = store.fresh;
+  bytes = told_sum (store.bytes + size);
+  listing = if fits then store.listing ++ listed_as id flags ∷ [] else store.listing;
+  archive = store.archive;
+}
+
+-- the same while no limit is passed
+abbrev pub store_known : ℕ → Flags → ℕ → Store → Store
+store_known id flags size store =
+    known_if (is_none (store_refusal (counted_known size store))) id flags size store
+
+-- a message more, new or known by this id
 abbrev pub store_message : Format → Option ℕ → Message → Store → Store
-store_message format keep message store =
-    store_with keep message.flags (format.letter (length store.archive) message) store
+store_message format None message store =
+    store_new message.flags (format.letter (store.letters + store.fresh) message) store
+store_message format (Some id) message store =
+    store_known id message.flags (length message.raw) store
+
+-- the same, where there is one
+abbrev pub store_found : Format → Option ℕ → Option Message → Store → Store
+store_found format keep None store = store
+store_found format keep (Some message) store = store_message format keep message store
 
 -- No more was read of files than they take of the bytes that may be listed; where a look failed, no
 -- more than was left of these.

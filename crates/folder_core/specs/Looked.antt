@@ -12,8 +12,7 @@ use Rattle.disk_model.specs.Seen.{Seen}
 use Rattle.disk_model.specs.State.{tree_at}
 use Rattle.disk_model.specs.Tree.{TreeNode, node_at}
 use Rattle.disk_model.specs.declared.answers.Stat.{Stat}
-use Rattle.folder_core.specs.Directory.{file_at, is_folder_at}
-use Rattle.folder_core.specs.Mh.{stamp_there}
+use Rattle.folder_core.specs.Directory.{file_at, is_folder_at, stamp_there}
 use Rattle.folder_core.specs.declared.error.ScanError.{ScanError}
 use Rattle.folder_core.specs.declared.error.ScanError.TheVariants.{Fault, NoMemory}
 use Rattle.folder_core.specs.declared.looks.Contents.{Contents}

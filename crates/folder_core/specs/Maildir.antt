@@ -16,7 +16,7 @@ use Rattle.folder_core.specs.Directory.{AloneBetween, DirectoryRefused, Finds, R
 use Rattle.folder_core.specs.Directory.{is_folder_at}
 use Rattle.folder_core.specs.Directory.{is_name, path_in}
 use Rattle.folder_core.specs.Format.{Format}
-use Rattle.folder_core.specs.Keeping.{IsThere, kept_by_key}
+use Rattle.folder_core.specs.Keeping.{IsThere, ListedMail, PlacedByKey, kept_by_key}
 use Rattle.folder_core.specs.Known.{KnownFolder}
 use Rattle.folder_letters.specs.Letters.{Mail}
 use Rattle.folder_core.specs.Limits.{list_refusal, most_bytes}
@@ -179,8 +179,9 @@ pub record SawListed (letters : ℕ) (keeps : List (Option ℕ)) (known : KnownF
   pub bytes : known.bytes ≡ []
   pub stamps : known.stamps ≡ []
 
--- of a Maildir neither bytes nor stamps are known
-pub record NothingRead (known : KnownFolder) : Type 0 where
+-- of a Maildir neither bytes nor stamps are known, and its letters have the order of their bases
+pub record NothingRead (listed : List ListedMail) (known : KnownFolder) : Type 0 where
+  pub placed : PlacedByKey order_of listed
   pub bytes : known.bytes ≡ []
   pub stamps : known.stamps ≡ []
 
@@ -198,5 +199,5 @@ maildir_format = record {
       (length mails) known.path why m n past;
   Costs = λ known came old new. RaisesAtMost old.bytes_read new.bytes_read (cores_together came);
   MayRead = λ path old new. RaisesAtMost old.bytes_read new.bytes_read most_bytes;
-  WasRead = λ listed known told. NothingRead known;
+  WasRead = λ listed known told. NothingRead listed known;
 }

@@ -1,5 +1,5 @@
 -- A message of a folder as it stands there.
-use Rattle.std.specs.Prelude.{◌+◌, ◌&&◌, ℕ, Bool, true, List, [], ◌∷◌, length}
+use Rattle.std.specs.Prelude.{◌≡◌, ◌+◌, ◌&&◌, ℕ, Bool, true, List, [], ◌∷◌, length}
 use Rattle.std.specs.Cmp.Lexicographic.{slice_cmp}
 use Rattle.std.specs.List.{list_any}
 use Rattle.std.specs.Ordering.{is_lt, nat_cmp, ordering_then}
@@ -23,6 +23,12 @@ has_key key messages = list_any (λ message. bytes_eq message.key key) messages
 abbrev pub bytes_together : List Message → ℕ
 bytes_together [] = 0
 bytes_together (message ∷ messages) = length message.raw + bytes_together messages
+
+-- the place of each message is the one that its key gives, as it is in a directory
+abbrev pub ArePlaced : (List ℕ → ℕ) → List Message → Type 0
+ArePlaced order_of [] = Unit {0}
+ArePlaced order_of (message ∷ messages) =
+    (message.order ≡ order_of message.key) × ArePlaced order_of messages
 
 -- one message stands before another in its folder: by its place, and by its key where that is the
 -- same

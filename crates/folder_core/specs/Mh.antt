@@ -19,7 +19,7 @@ use Rattle.folder_core.specs.Directory.{AloneBetween, DirectoryRefused, Finds, R
 use Rattle.folder_core.specs.Directory.{is_folder_at, path_in, stamp_there}
 use Rattle.folder_core.specs.Bore.{Bore, IfTold}
 use Rattle.folder_core.specs.Format.{Format}
-use Rattle.folder_core.specs.Keeping.{IsThere, ListedMail, kept_by_stamp}
+use Rattle.folder_core.specs.Keeping.{IsThere, ListedMail, PlacedByKey, kept_by_stamp}
 use Rattle.folder_core.specs.Known.{KnownFolder}
 use Rattle.folder_letters.specs.Letters.{Mail}
 use Rattle.folder_core.specs.Limits.{list_refusal, most_bytes}
@@ -147,9 +147,11 @@ AllBore (listed ∷ old) [] past = ⊥
 AllBore (listed ∷ old) (stamp ∷ stamps) past =
     Bore listed.mail.core stamp past × AllBore old stamps past
 
--- of an MH folder the stamps of the files are known
+-- of an MH folder the stamps of the files are known, and its letters have the order of their
+-- numbers
 pub record StampsRead (listed : List ListedMail) (known : KnownFolder) (told : Option Past)
     : Type 0 where
+  pub placed : PlacedByKey number_at listed
   pub bytes : known.bytes ≡ []
   pub stamps : IfTold (AllBore listed known.stamps) told
 
