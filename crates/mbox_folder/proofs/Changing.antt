@@ -1,13 +1,13 @@
 -- What is told of a file that is read only where it is not as it is known.
 use Rattle.std.proofs.Common.{◌≡◌, ◌≤◌, ◌+◌, ◌⊎◌, ◌==◌, ◌&&◌, ℕ, Bool, true, false, not, List, [], ◌∷◌, Option}
-use Rattle.std.proofs.Common.{Some, None, Result, Ok, Err, IfErr, IfSome, IfOk, inl, inr, length, nat_lt, is_some, refl}
+use Rattle.std.proofs.Common.{Some, None, Result, Ok, Err, IfSome, inl, inr, length, nat_lt, is_some, refl}
 use Rattle.std.proofs.Common.{sym, ◌∙◌, ap, subst, arith, eq-eqb, eqb-true}
 use Rattle.std.specs.Prelude.{option_and_then}
 use Rattle.std.proofs.lemmas.Bool.{and_from, and_parts}
 use Rattle.disk_model.specs.Journal.{Past, StatPath}
 use Rattle.disk_model.specs.Judge.{GoesOn, stat_node}
 use Rattle.disk_model.specs.Lawful.{IsLawful}
-use Rattle.disk_model.specs.Looking.{HasLooked, LooksOnly, OnlyLooks}
+use Rattle.disk_model.specs.Looking.{HasLooked, LooksOnly}
 use Rattle.disk_model.specs.Seen.{Seen}
 use Rattle.disk_model.specs.State.{tree_at}
 use Rattle.disk_model.specs.Tree.{TreeNode, is_first_tree, node_at}
@@ -15,10 +15,10 @@ use Rattle.disk_model.specs.declared.answers.FileRead.{FileRead}
 use Rattle.disk_model.specs.declared.answers.Stat.{Stat}
 use Rattle.disk_model.proofs.Looking.{looked_longer, looked_then}
 use Rattle.disk_model.proofs.Marks.{tree_at-longer}
-use Rattle.folder_core.specs.Bore.{Bore, IfTold}
+use Rattle.folder_core.specs.Bore.{Bore}
 use Rattle.folder_core.specs.Costs.{RaisesAtMost}
-use Rattle.folder_core.specs.Directory.{file_at, node_file, stamp_there}
-use Rattle.folder_core.specs.FirstLook.{FindsFirst, TellsMissing, found_first}
+use Rattle.folder_core.specs.Directory.{node_file, stamp_there}
+use Rattle.folder_core.specs.FirstLook.{FindsFirst, TellsMissing}
 use Rattle.folder_core.specs.Keeping.{mails_of}
 use Rattle.folder_core.specs.Known.{KnownFolder}
 use Rattle.folder_core.specs.Limits.{most_bytes}
@@ -32,11 +32,12 @@ use Rattle.folder_core.proofs.CostsLemmas.{raises_more, raises_then}
 use Rattle.folder_core.proofs.FirstLookLemmas.{first_as, stat_stands, stood_first, stood_later, tells_failed}
 use Rattle.folder_core.proofs.FirstLookLemmas.{tells_missing, tells_there}
 use Rattle.folder_core.proofs.SeenLemmas.{goes_as, longer_later, only_then, rose_later, saw_later}
-use Rattle.folder_core.proofs.Stamps.{bore_later, same_stamp}
+use Rattle.folder_core.proofs.RightLemmas.{bore_later}
+use Rattle.mbox_folder.proofs.Stamps.{same_stamp}
 use Rattle.folder_letters.specs.Letters.{Mail}
-use Rattle.mbox_folder.specs.FileSeen.{ChangeSeen, FileSeen, IsFile, IsRead, IsFileError, MeetsFile, SeenThere}
-use Rattle.mbox_folder.specs.FileSeen.{TellsChange, WasSo, behind_look, bytes_now, is_as_known, kept_stamp, stamps_now}
-use Rattle.mbox_folder.proofs.Reading.{alone_at, file_of}
+use Rattle.mbox_folder.specs.FileSeen.{ChangeSeen, FileSeen, IsFile, IsFileAnswer, IsRead, IsFileError, MeetsFile, SeenThere}
+use Rattle.mbox_folder.specs.FileSeen.{TellsChange, WasSo, behind_look, is_as_known, kept_stamp}
+use Rattle.mbox_folder.proofs.Reading.{alone_at}
 
 -- What `stat` tells.
 
@@ -267,17 +268,20 @@ went_away : (mails : List Mail) (known : KnownFolder) (stat : Stat) (old mid new
     → HasLooked mid new → StatSeen known.path stat old mid
     → SeenThere (λ there. there ≡ None) known.path mid new
     → mbox_refused mails known (NotMailbox 0) (length old.journal) (length new.journal) new
-went_away mails known stat old mid new looked saw seen = inr (refl, record {
-  before = saw.mark;
-  from = saw.from;
-  there = ap (λ (tree : List TreeNode). is_some (node_at tree known.path))
-      (tree_at-longer mid new saw.mark (looked_longer mid new looked) saw.to)
-      ∙ stat_stands (node_at (tree_at mid saw.mark) known.path) stat saw.tells;
-  mark = seen.mark;
-  later = omega (arith, saw.to, seen.from);
-  to = seen.to;
-  nothing = seen.is;
-})
+went_away mails known stat old mid new looked saw seen = inr (
+  refl,
+  record {
+    before = saw.mark;
+    from = saw.from;
+    there = ap (λ (tree : List TreeNode). is_some (node_at tree known.path))
+        (tree_at-longer mid new saw.mark (looked_longer mid new looked) saw.to)
+        ∙ stat_stands (node_at (tree_at mid saw.mark) known.path) stat saw.tells;
+    mark = seen.mark;
+    later = omega (arith, saw.to, seen.from);
+    to = seen.to;
+    nothing = seen.is;
+  },
+)
 
 -- What is told by the looks.
 
@@ -311,7 +315,7 @@ pub record ReadTold (result : Result FileRead ScanError) (path : List ℕ) (old 
   where
     pub seen : GoesOn (FileSeen result path) old.told new.told
     pub first : GoesOn (TellsMissing result path) old.told new.told
-    pub possible : IfErr result IsFileError
+    pub possible : IsFileAnswer result
     pub meets : MeetsFile result old new
 
 pub read_at_path : (result : Result FileRead ScanError) (path name : List ℕ) → path ≡ name
@@ -337,17 +341,18 @@ tells_kept known path stamp marks stat old new was lawful kept is at told =
     let first = look.first in
     let reads = look.reads in
     record {
-  saw = saw_kept known stamp marks stat old.told new.told was lawful looked.only.looks kept is looked.saw;
-  kept = (stamp, kept);
-  first = tells_there (Ok None) known.path old.told new.told (λ e. (cc)) first;
-  costs = costs_nothing known old new reads;
-  possible = tt;
-  meets = record {
-    only = looked.only;
-    cause = λ is. absurd (cc);
-    within = raises_more old.bytes_read new.bytes_read 0 most_bytes (omega arith) reads;
-  };
-}
+      saw = saw_kept known stamp marks stat old.told new.told was lawful looked.only.looks kept is looked.saw;
+      few = was.few;
+      kept = (stamp, kept);
+      first = tells_there (Ok None) known.path old.told new.told (λ e. (cc)) first;
+      costs = costs_nothing known old new reads;
+      possible = tt;
+      meets = record {
+        only = looked.only;
+        cause = λ is. absurd (cc);
+        within = raises_more old.bytes_read new.bytes_read 0 most_bytes (omega arith) reads;
+      };
+    }
 
 -- the costs of both
 within_both : (old mid new : Seen) → RaisesAtMost old.bytes_read mid.bytes_read 0
@@ -372,20 +377,21 @@ tells_read known path stamp stat file old mid new kept not_so at told next =
     let seen = more.seen in
     let meets = more.meets in
     record {
-  saw = told_then {P = HasLooked} old.told mid.told new.told
-      (λ p q r x y s t. seen_behind (IsRead (Ok file)) known.path p q r x y t)
-      looked.only.looks meets.only.looks looked.only.looks seen;
-  kept = tt;
-  first = tells_there (Ok (Some file)) known.path old.told new.told (λ e. (cc))
-      (stood_later known.path old.told mid.told new.told looked.only.looks meets.only.looks first);
-  costs = costs_looked known stamp stat old mid new looked.saw meets.only.looks kept not_so;
-  possible = tt;
-  meets = record {
-    only = only_then old mid new looked.only meets.only;
-    cause = λ is. absurd (cc);
-    within = within_both old mid new reads meets.within;
-  };
-}
+      saw = told_then {P = HasLooked} old.told mid.told new.told
+          (λ p q r x y s t. seen_behind (IsRead (Ok file)) known.path p q r x y t)
+          looked.only.looks meets.only.looks looked.only.looks seen;
+      few = more.possible;
+      kept = tt;
+      first = tells_there (Ok (Some file)) known.path old.told new.told (λ e. (cc))
+          (stood_later known.path old.told mid.told new.told looked.only.looks meets.only.looks first);
+      costs = costs_looked known stamp stat old mid new looked.saw meets.only.looks kept not_so;
+      possible = tt;
+      meets = record {
+        only = only_then old mid new looked.only meets.only;
+        cause = λ is. absurd (cc);
+        within = within_both old mid new reads meets.within;
+      };
+    }
 
 -- the file went away behind the first look
 tells_gone : (known : KnownFolder) (path : List ℕ) (stat : Stat) (old mid new : Seen)
@@ -401,20 +407,21 @@ tells_gone known path stat old mid new at told next =
     let seen = more.seen in
     let meets = more.meets in
     record {
-  saw = told_then {P = StatSeen known.path stat} old.told mid.told new.told
-      (λ p q r x y s t mails. went_away mails known stat p q r y s t)
-      looked.only.looks meets.only.looks looked.saw seen;
-  kept = tt;
-  first = tells_there (Err (NotMailbox 0)) known.path old.told new.told (λ e. (cc))
-      (stood_later known.path old.told mid.told new.told looked.only.looks meets.only.looks first);
-  costs = tt;
-  possible = refl;
-  meets = record {
-    only = only_then old mid new looked.only meets.only;
-    cause = λ is. absurd (cc);
-    within = within_both old mid new reads meets.within;
-  };
-}
+      saw = told_then {P = StatSeen known.path stat} old.told mid.told new.told
+          (λ p q r x y s t mails. went_away mails known stat p q r y s t)
+          looked.only.looks meets.only.looks looked.saw seen;
+      few = tt;
+      kept = tt;
+      first = tells_there (Err (NotMailbox 0)) known.path old.told new.told (λ e. (cc))
+          (stood_later known.path old.told mid.told new.told looked.only.looks meets.only.looks first);
+      costs = tt;
+      possible = refl;
+      meets = record {
+        only = only_then old mid new looked.only meets.only;
+        cause = λ is. absurd (cc);
+        within = within_both old mid new reads meets.within;
+      };
+    }
 
 -- another file is not read, for this cause
 tells_unread : (known : KnownFolder) (path : List ℕ) (why : ScanError) (stat : Stat) (old mid new : Seen)
@@ -432,22 +439,23 @@ tells_unread known path why stat old mid new other at told next =
     let meets = more.meets in
     let possible = more.possible in
     record {
-  saw = told_then {P = HasLooked} old.told mid.told new.told
-      (λ p q r x y s t mails. read_refused mails known why p r
-      (seen_behind (IsRead (Err why)) known.path p q r x y t))
-      looked.only.looks meets.only.looks looked.only.looks seen;
-  kept = tt;
-  first = tells_there (Err why) known.path old.told new.told (λ e. other (cc))
-      (stood_later known.path old.told mid.told new.told looked.only.looks meets.only.looks first);
-  costs = tt;
-  possible = possible;
-  meets = record {
-    only = only_then old mid new looked.only meets.only;
-    cause = λ is. rose_later old.faults mid.faults new.faults looked.only.faults
-        (meets.cause (let e : why ≡ Fault = cc in ap Err e));
-    within = within_both old mid new reads meets.within;
-  };
-}
+      saw = told_then {P = HasLooked} old.told mid.told new.told
+          (λ p q r x y s t mails. read_refused mails known why p r
+          (seen_behind (IsRead (Err why)) known.path p q r x y t))
+          looked.only.looks meets.only.looks looked.only.looks seen;
+      few = tt;
+      kept = tt;
+      first = tells_there (Err why) known.path old.told new.told (λ e. other (cc))
+          (stood_later known.path old.told mid.told new.told looked.only.looks meets.only.looks first);
+      costs = tt;
+      possible = possible;
+      meets = record {
+        only = only_then old mid new looked.only meets.only;
+        cause = λ is. rose_later old.faults mid.faults new.faults looked.only.faults
+            (meets.cause (let e : why ≡ Fault = cc in ap Err e));
+        within = within_both old mid new reads meets.within;
+      };
+    }
 
 -- a file that the first look has found is not read
 tells_behind : (known : KnownFolder) (path : List ℕ) (why : ScanError) (stat : Stat)
@@ -489,23 +497,24 @@ tells_nothing_there known path old new at told =
     let first = look.first in
     let reads = look.reads in
     record {
-  saw = goes_as old.told new.told (λ p q saw mails. record {
-    mark = saw.mark;
-    from = saw.from;
-    to = saw.to;
-    refused = ap (mbox_refusal (length mails) (mails_of mails known.listing))
-        (nothing (node_at (tree_at q saw.mark) known.path) saw.tells);
-  }) looked.saw;
-  kept = tt;
-  first = tells_missing (Option FileRead) known.path old.told new.told first;
-  costs = tt;
-  possible = tt;
-  meets = record {
-    only = looked.only;
-    cause = λ is. absurd (cc);
-    within = raises_more old.bytes_read new.bytes_read 0 most_bytes (omega arith) reads;
-  };
-}
+      saw = goes_as old.told new.told (λ p q saw mails. record {
+        mark = saw.mark;
+        from = saw.from;
+        to = saw.to;
+        refused = ap (mbox_refusal (length mails) (mails_of mails known.listing))
+            (nothing (node_at (tree_at q saw.mark) known.path) saw.tells);
+      }) looked.saw;
+      few = tt;
+      kept = tt;
+      first = tells_missing (Option FileRead) known.path old.told new.told first;
+      costs = tt;
+      possible = tt;
+      meets = record {
+        only = looked.only;
+        cause = λ is. absurd (cc);
+        within = raises_more old.bytes_read new.bytes_read 0 most_bytes (omega arith) reads;
+      };
+    }
   where
     nothing : (there : Option TreeNode) → ◌≡◌ {A = Option Stat} None (stat_there there) → there ≡ None
     nothing None is = refl
@@ -521,18 +530,19 @@ tells_no_look known path why old new at told =
     let first = look.first in
     let reads = look.reads in
     record {
-  saw = goes_as old.told new.told (λ p q looks mails. failed_refused mails known why _ _ q looked.errors)
-      looked.only.looks;
-  kept = tt;
-  first = tells_failed (Option FileRead) why known.path old.told new.told looked.errors first;
-  costs = tt;
-  possible = possible_error looked.errors;
-  meets = record {
-    only = looked.only;
-    cause = λ is. looked.cause (let e : why ≡ Fault = cc in ap Err e);
-    within = raises_more old.bytes_read new.bytes_read 0 most_bytes (omega arith) reads;
-  };
-}
+      saw = goes_as old.told new.told (λ p q looks mails. failed_refused mails known why _ _ q looked.errors)
+          looked.only.looks;
+      few = tt;
+      kept = tt;
+      first = tells_failed (Option FileRead) why known.path old.told new.told looked.errors first;
+      costs = tt;
+      possible = possible_error looked.errors;
+      meets = record {
+        only = looked.only;
+        cause = λ is. looked.cause (let e : why ≡ Fault = cc in ap Err e);
+        within = raises_more old.bytes_read new.bytes_read 0 most_bytes (omega arith) reads;
+      };
+    }
   where
     possible_error : (why ≡ Fault) ⊎ (why ≡ NoMemory) → IsFileError why
     possible_error (inl is) = subst IsFileError (sym is) tt
@@ -550,14 +560,15 @@ tells_first known path file old new none at next =
     let meets = more.meets in
     let first = more.first in
     record {
-  saw = seen;
-  kept = tt;
-  first = tells_there (Ok (Some file)) known.path old.told new.told (λ e. (cc))
-      (stood_first file known.path old.told new.told first);
-  costs = costs_first known old new none;
-  possible = tt;
-  meets = record { only = meets.only; cause = λ is. absurd (cc); within = meets.within };
-}
+      saw = seen;
+      few = more.possible;
+      kept = tt;
+      first = tells_there (Ok (Some file)) known.path old.told new.told (λ e. (cc))
+          (stood_first file known.path old.told new.told first);
+      costs = costs_first known old new none;
+      possible = tt;
+      meets = record { only = meets.only; cause = λ is. absurd (cc); within = meets.within };
+    }
 
 pub tells_no_read : (known : KnownFolder) (path : List ℕ) (why : ScanError) (old new : Seen)
     → path ≡ known.path → ReadTold (Err why) path old new → TellsChange known (Err why) old new
@@ -565,6 +576,7 @@ tells_no_read known path why old new at next =
     let more = read_at_path (Err why) path known.path at next in
     record {
       saw = goes_as old.told new.told (λ p q seen mails. read_refused mails known why p q seen) more.seen;
+      few = tt;
       kept = tt;
       first = first_as FileRead (Option FileRead) why known.path old.told new.told more.first;
       costs = tt;

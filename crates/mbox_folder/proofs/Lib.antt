@@ -3,5 +3,11 @@ pub mod MessageLemmas
 pub mod PostmarkLemmas
 pub mod Reading
 pub mod RegionsLemmas
+pub mod Rising
 pub mod StampLemmas
 pub mod StatusLemmas
+pub mod Stamps
+pub mod Staying
+pub mod StampsLater
+pub mod Driving
+pub mod Unchanged

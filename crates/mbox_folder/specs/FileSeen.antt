@@ -1,5 +1,5 @@
 -- What the looks of a scan at a mailbox have seen.
-use Rattle.std.specs.Prelude.{◌≡◌, ◌≤◌, ◌==◌, ◌&&◌, ℕ, Bool, true, false, not, List, [], ◌∷◌, Option}
+use Rattle.std.specs.Prelude.{◌≡◌, ◌≤◌, ◌==◌, ◌&&◌, ℕ, Bool, false, not, List, [], ◌∷◌, Option}
 use Rattle.std.specs.Prelude.{Some, None, Result, Ok, Err, IfOk, IfErr, IfNone, IsErrOf, length}
 use Rattle.std.specs.Prelude.{nat_lt, option_and_then}
 use Rattle.mail_base.specs.Faults.{Rose}
@@ -71,6 +71,11 @@ IsFileError (TooMany count) = ⊥
 IsFileError Unfinished = ⊥
 IsFileError ArchiveFull = ⊥
 
+-- an answer that a read of the file may have: the bytes are no more than may be read
+abbrev pub IsFileAnswer : Result FileRead ScanError → Type 0
+IsFileAnswer (Ok file) = nat_lt most_bytes (length file.bytes.items) ≡ false
+IsFileAnswer (Err why) = IsFileError why
+
 -- The same of a file that is read only where it is not as it is known.
 
 -- the stamp that is kept of a file, where it is one
@@ -113,6 +118,7 @@ ChangeSeen known (Err why) old new =
 pub record TellsChange (known : KnownFolder) (result : Result (Option FileRead) ScanError)
     (old new : Seen) : Type 0 where
   pub saw : GoesOn (ChangeSeen known result) old.told new.told
+  pub few : IfOk result (λ file. nat_lt most_bytes (length (bytes_now known file)) ≡ false)
   pub kept : IfOk result (λ file. IfNone file ((stamp : ℕ) × (known.stamps ≡ stamp ∷ [])))
   pub first : GoesOn (TellsMissing result known.path) old.told new.told
   pub costs : IfOk result (λ file. ReadsIfChanged known old new)

@@ -83,3 +83,9 @@ pub record FindsFile (file : Option FileRead) (archive new_archive : List Mail)
   pub lists : ListsFile (bytes_now known file) archive new_archive known.listing new_known.listing
   pub difference : IsDifference known.listing new_known.listing found
   pub put : new_known ≡ known_file known new_known.listing file
+
+-- nothing changed
+pub record IsNothing (found : Found) : Type 0 where
+  pub gone : found.gone.items ≡ []
+  pub came : found.came.items ≡ []
+  pub reflagged : found.reflagged.items ≡ []

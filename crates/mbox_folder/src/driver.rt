@@ -9,7 +9,7 @@ ghost use Rattle.folder_core.specs.Limits.{count_refusal as spec_refusal};
 ghost use Rattle.folder_core.specs.Right.{Right};
 ghost use Rattle.folder_core.specs.Scanned.{Scans};
 ghost use Rattle.mbox_folder.specs.FileSeen.{bytes_now};
-ghost use Rattle.mbox_folder.specs.ListedFile.{FindsFile, IsUnlisted};
+ghost use Rattle.mbox_folder.specs.ListedFile.{FindsFile, IsNothing, IsUnlisted};
 
 use crate::listing::{count_refusal, list_file};
 use crate::read::read_changed;
@@ -46,7 +46,7 @@ impl Driver for MboxDriver {
     }
 }
 
-/// Reads a mailbox of which this is known, as the driver's `scan`.
+// Reads a mailbox of which this is known, as the driver's `scan`.
 fn scan_file(
     alloc: Global,
     disk: &mut dyn Disk,
@@ -71,8 +71,8 @@ fn scan_file(
     }
 }
 
-/// Lists a file that was read, or that is as it is known. After a refusal letters may stand behind
-/// those that were there.
+// Lists a file that was read, or that is as it is known. After a refusal letters may stand behind
+// those that were there.
 fn list_known(
     alloc: Global,
     file: Option<FileRead>,
@@ -95,12 +95,10 @@ fn list_known(
     }
 }
 
-/// Finds that nothing changed, where the messages may be listed beside so many letters.
+// Finds that nothing changed, where the messages may be listed beside so many letters.
 fn find_nothing(alloc: Global, letters: usize, known: &Known) -> Result<Found, ScanError>
     ensures ok { IfOk result (λ found. spec_refusal letters 0 (length known.now.listing) ≡ None) }
-    ensures found { IfOk result (λ found. found.gone.items ≡ []) }
-    ensures came { IfOk result (λ found. found.came.items ≡ []) }
-    ensures reflagged { IfOk result (λ found. found.reflagged.items ≡ []) }
+    ensures nothing { IfOk result IsNothing }
     ensures refused { IfErr result (λ why. spec_refusal letters 0 (length known.now.listing)
         ≡ Some why) }
 {
@@ -114,7 +112,7 @@ fn find_nothing(alloc: Global, letters: usize, known: &Known) -> Result<Found, S
     }
 }
 
-/// Lists a file that was read.
+// Lists a file that was read.
 fn list_read(
     alloc: Global,
     file: FileRead,

@@ -71,7 +71,7 @@ pub fn count_refusal(letters: usize, fresh: usize, count: usize) -> Option<ScanE
     None
 }
 
-/// How many messages at the front stand as they are listed.
+// How many messages at the front stand as they are listed.
 fn count_staying(
     alloc: Global,
     bytes: &[u8],
@@ -81,11 +81,14 @@ fn count_staying(
 ) -> Result<usize, NoMemory>
     requires cover { (from : ℕ) × Cover from (length bytes.now) regions.now }
     requires within { All (λ listed. listed.id.0 < length letters.now) old.now }
-    ensures { IfOk result (λ count. count
+    ensures count { IfOk result (λ count. count
         ≡ stay_count (mails_of (map plain_letter letters.now) old.now)
         (raws_in bytes.now regions.now)) }
+    ensures listed { IfOk result (λ count. count ≤ length old.now) }
+    ensures there { IfOk result (λ count. count ≤ length regions.now) }
 {
-    let (mut listed, mut left) = (old, regions);
+    let mut listed = old;
+    let mut left = regions;
     let mut count = 0;
     while let [first, more @ ..] = listed {
         let [region, rest @ ..] = left else {
@@ -95,18 +98,14 @@ fn count_staying(
             return Ok(count);
         }
         count += 1;
-        (listed, left) = (more, rest);
+        listed = more;
+        left = rest;
     }
     Ok(count)
 }
 
-/// Whether a message stands as it is listed.
-fn stays(
-    alloc: Global,
-    raw: &[u8],
-    listed: Listed,
-    letters: &[Letter],
-) -> Result<bool, NoMemory>
+// Whether a message stands as it is listed.
+fn stays(alloc: Global, raw: &[u8], listed: Listed, letters: &[Letter]) -> Result<bool, NoMemory>
     requires { listed.id.0 < length letters.now }
     ensures { IfOk result (λ same. same
         ≡ spec_stays (with_mail (map plain_letter letters.now) listed) raw.now) }
@@ -128,8 +127,8 @@ fn same_flags(flags: Flags, others: Flags) -> bool
         && flags.trashed == others.trashed
 }
 
-/// Adds the letters of the messages to an archive, and answers their listing behind those that
-/// stay listed.
+// Adds the letters of the messages to an archive, and answers their listing behind those that
+// stay listed.
 fn list_messages(
     alloc: Global,
     bytes: &[u8],
@@ -161,7 +160,7 @@ fn list_messages(
     Ok(listing)
 }
 
-/// The letter of a message, of which that stays.
+// The letter of a message, of which that stays.
 fn letter_of(alloc: Global, core: Bytes, raw: &[u8], id: u32) -> Letter
     requires { core.items ≡ spec_core raw.now }
     ensures { plain_letter result ≡ mbox_letter id raw.now }
@@ -175,7 +174,7 @@ fn letter_of(alloc: Global, core: Bytes, raw: &[u8], id: u32) -> Letter
     }
 }
 
-/// The moment of a message's postmark, or 0 where it has none.
+// The moment of a message's postmark, or 0 where it has none.
 fn received(raw: &[u8]) -> i64
     ensures value { result ≡ received_lem raw.now }
     ensures range { IsClockMoment result }

@@ -1,9 +1,9 @@
 //! The looks at a mailbox.
 
-ghost use Rattle.std.specs.Prelude.{◌≡◌, ◌∷◌, [], IfErr, length};
+ghost use Rattle.std.specs.Prelude.{◌≡◌, ◌∷◌, [], None};
 ghost use Rattle.disk_model.specs.Judge.{GoesOn};
 ghost use Rattle.folder_core.specs.FirstLook.{TellsMissing};
-ghost use Rattle.mbox_folder.specs.FileSeen.{FileSeen, IsFileError, MeetsFile, TellsChange, WasSo};
+ghost use Rattle.mbox_folder.specs.FileSeen.{FileSeen, IsFileAnswer, MeetsFile, TellsChange, WasSo};
 ghost use Rattle.mbox_folder.specs.FileSeen.{behind_look as spec_behind_look};
 ghost use Rattle.mbox_folder.specs.FileSeen.{is_as_known as spec_as_known};
 ghost use Rattle.mbox_folder.specs.FileSeen.{kept_stamp as spec_kept_stamp};
@@ -28,7 +28,7 @@ pub fn read_changed(
     }
 }
 
-/// The stamp that is kept of the file.
+// The stamp that is kept of the file.
 fn kept_stamp(known: &Known) -> Option<u128>
     ensures { result ≡ spec_kept_stamp known.now.stamps }
 {
@@ -38,7 +38,7 @@ fn kept_stamp(known: &Known) -> Option<u128>
     }
 }
 
-/// Reads the file of which no stamp is kept.
+// Reads the file of which no stamp is kept.
 fn read_first(
     alloc: Global,
     disk: &mut dyn Disk,
@@ -53,7 +53,7 @@ fn read_first(
     }
 }
 
-/// Reads the file unless it has the stamp that is kept, and the length that is known.
+// Reads the file unless it has the stamp that is kept, and the length that is known.
 fn read_unless_kept(
     alloc: Global,
     disk: &mut dyn Disk,
@@ -81,7 +81,7 @@ fn read_unless_kept(
     }
 }
 
-/// Why a file is not read that a first look has found: where it went away it is no mailbox.
+// Why a file is not read that a first look has found: where it went away it is no mailbox.
 fn behind_look(why: ScanError) -> ScanError
     ensures { result ≡ spec_behind_look why }
 {
@@ -91,7 +91,7 @@ fn behind_look(why: ScanError) -> ScanError
     }
 }
 
-/// Whether it is a file of this length with this stamp.
+// Whether it is a file of this length with this stamp.
 fn is_as_known(size: usize, stamp: u128, stat: Stat) -> bool
     ensures { result ≡ spec_as_known size stamp stat }
 {
@@ -103,7 +103,7 @@ pub fn read_file(alloc: Global, disk: &mut dyn Disk, path: &str) -> Result<FileR
     ensures seen { GoesOn (FileSeen result path.now) (seen disk.old).told (seen disk.new).told }
     ensures first { GoesOn (TellsMissing result path.now) (seen disk.old).told
         (seen disk.new).told }
-    ensures possible { IfErr result IsFileError }
+    ensures possible { IsFileAnswer result }
     ensures meets { MeetsFile result (seen disk.old) (seen disk.new) }
 {
     match disk.read_all(alloc, path, MOST_BYTES) {

@@ -1,4 +1,5 @@
-use Rattle.std.proofs.Common.{Ok, Err, ap, false, inl, inr, is_some, refl, true}
+use Rattle.std.proofs.Common.{Ok, Err, ap, arith, false, inl, inr, is_some, le-ltb, length, refl}
+use Rattle.std.proofs.Common.{true}
 use Rattle.disk_model.specs.Tree.{node_at}
 use Rattle.disk_model.specs.declared.answers.DiskError.TheVariants.{Missing, WrongNode, Long}
 use Rattle.folder_core.specs.Limits.{most_bytes}
@@ -84,3 +85,8 @@ returns-in-Err-NoMemory-clause-first g c =
     tells_failed _ NoMemory c.args.path.now _ _ (inr refl)
     (found_no_room c.args.path.now c.in-Err-NoMemory.field-0 c.in-Err-NoMemory.field-0-is
     c.in-Err-NoMemory.ensures.0)
+
+pub returns-in-Ok-clause-possible : goal.returns-in-Ok-clause-possible
+returns-in-Ok-clause-possible g c =
+    let whole = c.in-Ok.ensures.1.1 in
+    le-ltb most_bytes (length c.in-Ok.file.bytes.items) (omega (arith, whole.length, whole.within))

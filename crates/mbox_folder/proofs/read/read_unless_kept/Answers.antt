@@ -1,4 +1,4 @@
-use Rattle.std.proofs.Common.{rules, ◌≡◌, ◌∙◌, ap, sym, false, length, true, Some, None}
+use Rattle.std.proofs.Common.{◌∙◌, ap, sym, false, length, true, Some, None}
 use Rattle.mbox_folder.proofs.Changing.{by_size, look_is, read_at_path, tells_kept, tells_no_look}
 use Rattle.mbox_folder.proofs.Changing.{tells_nothing_there, tells_read, tells_refused}
 use Rattle.mbox_folder.proofs.read.read_unless_kept.Goals as goal
