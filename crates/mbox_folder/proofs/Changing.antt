@@ -1,7 +1,7 @@
 -- What is told of a file that is read only where it is not as it is known.
-use Rattle.std.proofs.Common.{◌≡◌, ◌≤◌, ◌+◌, ◌⊎◌, ◌==◌, ◌&&◌, ℕ, Bool, true, false, not, List, [], ◌∷◌, Option}
-use Rattle.std.proofs.Common.{Some, None, Result, Ok, Err, IfSome, inl, inr, length, nat_lt, is_some, refl}
-use Rattle.std.proofs.Common.{sym, ◌∙◌, ap, subst, arith, eq-eqb, eqb-true}
+use Rattle.std.proofs.Common.{◌≡◌, ◌≤◌, ◌+◌, ◌⊎◌, ◌==◌, ◌&&◌, ℕ, Bool, true, false, not, List, []}
+use Rattle.std.proofs.Common.{◌∷◌, Option, Some, None, Result, Ok, Err, IfSome, inl, inr, length}
+use Rattle.std.proofs.Common.{nat_lt, is_some, refl, sym, ◌∙◌, ap, subst, arith, eq-eqb, eqb-true}
 use Rattle.std.specs.Prelude.{option_and_then}
 use Rattle.std.proofs.lemmas.Bool.{and_from, and_parts}
 use Rattle.disk_model.specs.Journal.{Past, StatPath}
@@ -23,20 +23,22 @@ use Rattle.folder_core.specs.Keeping.{mails_of}
 use Rattle.folder_core.specs.Known.{KnownFolder}
 use Rattle.folder_core.specs.Limits.{most_bytes}
 use Rattle.folder_core.specs.Looked.{Looked, SawAt, node_stat, stat_there}
-use Rattle.folder_core.specs.Mbox.{MailboxRefused, ReadsIfChanged, StaysKnown, mbox_refusal, mbox_refused}
+use Rattle.folder_core.specs.Mbox.{MailboxRefused, ReadsIfChanged, StaysKnown, mbox_refusal}
+use Rattle.folder_core.specs.Mbox.{mbox_refused}
 use Rattle.folder_core.specs.declared.error.ScanError.{ScanError}
 use Rattle.folder_core.specs.declared.error.ScanError.TheVariants.{Missing, NotMailbox, TooMany}
 use Rattle.folder_core.specs.declared.error.ScanError.TheVariants.{TooLarge, Unfinished}
 use Rattle.folder_core.specs.declared.error.ScanError.TheVariants.{ArchiveFull, Fault, NoMemory}
 use Rattle.folder_core.proofs.CostsLemmas.{raises_more, raises_then}
-use Rattle.folder_core.proofs.FirstLookLemmas.{first_as, stat_stands, stood_first, stood_later, tells_failed}
-use Rattle.folder_core.proofs.FirstLookLemmas.{tells_missing, tells_there}
+use Rattle.folder_core.proofs.FirstLookLemmas.{first_as, stat_stands, stood_first, stood_later}
+use Rattle.folder_core.proofs.FirstLookLemmas.{tells_failed, tells_missing, tells_there}
 use Rattle.folder_core.proofs.SeenLemmas.{goes_as, longer_later, only_then, rose_later, saw_later}
 use Rattle.folder_core.proofs.RightLemmas.{bore_later}
-use Rattle.mbox_folder.proofs.Stamps.{same_stamp}
+use Rattle.mbox_folder.proofs.FileStamps.{same_stamp}
 use Rattle.folder_letters.specs.Letters.{Mail}
-use Rattle.mbox_folder.specs.FileSeen.{ChangeSeen, FileSeen, IsFile, IsFileAnswer, IsRead, IsFileError, MeetsFile, SeenThere}
-use Rattle.mbox_folder.specs.FileSeen.{TellsChange, WasSo, behind_look, is_as_known, kept_stamp}
+use Rattle.mbox_folder.specs.FileSeen.{ChangeSeen, FileSeen, IsFile, IsFileAnswer, IsRead}
+use Rattle.mbox_folder.specs.FileSeen.{IsFileError, MeetsFile, SeenThere, TellsChange, WasSo}
+use Rattle.mbox_folder.specs.FileSeen.{behind_look, is_as_known, kept_stamp}
 use Rattle.mbox_folder.proofs.Reading.{alone_at}
 
 -- What `stat` tells.
@@ -180,7 +182,8 @@ costs_told known stamp other stat None mid new saw looks kept not_so past next a
 costs_told known stamp other stat (Some p) None new saw looks kept not_so past next a b stays = saw
 costs_told known stamp other stat (Some p) (Some q) None saw looks kept not_so past next a b stays =
     looks
-costs_told known stamp other stat (Some p) (Some q) (Some r) saw looks kept not_so past next a b stays =
+costs_told known stamp other stat (Some p) (Some q)
+    (Some r) saw looks kept not_so past next a b stays =
     let first : p ≡ past = cc in
     let last : r ≡ next = cc in
     not_known known stamp other stat p q r saw looks kept not_so
@@ -193,7 +196,8 @@ pub costs_looked : (known : KnownFolder) (stamp : ℕ) (stat : Stat) (old mid ne
     → ReadsIfChanged known old new
 costs_looked known stamp stat old mid new saw looks kept not_so =
     λ other past next a b stays.
-    absurd (costs_told known stamp other stat old.told mid.told new.told saw looks kept not_so past next
+    absurd (costs_told known stamp other stat old.told mid.told new.told saw looks kept not_so past
+    next
     a b stays)
 
 -- Refusals.
@@ -231,7 +235,8 @@ read_refused : (mails : List Mail) (known : KnownFolder) (why : ScanError) (old 
 read_refused mails known Missing old new seen = shown mails known Missing old new
     (seen_as (λ there. there ≡ None) _ known.path old new
     (λ there is. ap (mbox_refusal (length mails) (mails_of mails known.listing)) is) seen)
-read_refused mails known (NotMailbox place) old new seen = inl (shown mails known (NotMailbox place) old
+read_refused mails known (NotMailbox place) old new seen = inl
+    (shown mails known (NotMailbox place) old
     new (seen_as (IsRead (Err (NotMailbox place))) _ known.path old new
     (λ there is. is (length mails) (mails_of mails known.listing)) seen))
 read_refused mails known (TooMany count) old new seen = shown mails known (TooMany count) old new
@@ -301,7 +306,8 @@ told_then {P} {Q} {R} (Some a) (Some b) (Some c) by first second p q = by a b c 
 -- what the look at a path has told
 pub record LookTold (result : Result (Option Stat) ScanError) (path : List ℕ) (old new : Seen)
     : Type 0 where
-  pub looked : Looked result (StatPath path) (λ found tree. found ≡ stat_there (node_at tree path)) old new
+  pub looked : Looked result (StatPath path)
+      (λ found tree. found ≡ stat_there (node_at tree path)) old new
   pub first : GoesOn (FindsFirst (λ found. is_some found) result path) old.told new.told
   pub reads : RaisesAtMost old.bytes_read new.bytes_read 0
 
@@ -324,13 +330,15 @@ read_at_path result path name at {old} {new} told =
     subst (λ (p : List ℕ). ReadTold result p old new) at told
 
 -- what a look told of its answer
-pub look_is : (found : Option Stat) (path : List ℕ) {other : Option Stat} {old new : Seen} → other ≡ found
+pub look_is : (found : Option Stat) (path : List ℕ) {other : Option Stat} {old new : Seen}
+    → other ≡ found
     → LookTold (Ok other) path old new → LookTold (Ok found) path old new
 look_is found path {other} {old} {new} same told =
     subst (λ (o : Option Stat). LookTold (Ok o) path old new) same told
 
 -- a file with the kept stamp: nothing is read
-pub tells_kept : (known : KnownFolder) (path : List ℕ) (stamp marks : ℕ) (stat : Stat) (old new : Seen)
+pub tells_kept : (known : KnownFolder) (path : List ℕ) (stamp marks : ℕ) (stat : Stat)
+    (old new : Seen)
     → WasSo known old.told → IfSome old.told (IsLawful marks) → known.stamps ≡ stamp ∷ []
     → is_as_known (length known.bytes) stamp stat ≡ true
     → path ≡ known.path → LookTold (Ok (Some stat)) path old new
@@ -341,7 +349,8 @@ tells_kept known path stamp marks stat old new was lawful kept is at told =
     let first = look.first in
     let reads = look.reads in
     record {
-      saw = saw_kept known stamp marks stat old.told new.told was lawful looked.only.looks kept is looked.saw;
+      saw = saw_kept known stamp marks stat old.told new.told was lawful looked.only.looks kept is
+          looked.saw;
       few = was.few;
       kept = (stamp, kept);
       first = tells_there (Ok None) known.path old.told new.told (λ e. (cc)) first;
@@ -363,7 +372,8 @@ within_both old mid new first next =
     (raises_then old.bytes_read mid.bytes_read new.bytes_read 0 most_bytes first next)
 
 -- another file: it is read
-pub tells_read : (known : KnownFolder) (path : List ℕ) (stamp : ℕ) (stat : Stat) (file : FileRead) (old mid new : Seen)
+pub tells_read : (known : KnownFolder) (path : List ℕ) (stamp : ℕ) (stat : Stat) (file : FileRead)
+    (old mid new : Seen)
     → known.stamps ≡ stamp ∷ [] → is_as_known (length known.bytes) stamp stat ≡ false
     → path ≡ known.path → LookTold (Ok (Some stat)) path old mid
     → ReadTold (Ok file) path mid new
@@ -383,7 +393,8 @@ tells_read known path stamp stat file old mid new kept not_so at told next =
       few = more.possible;
       kept = tt;
       first = tells_there (Ok (Some file)) known.path old.told new.told (λ e. (cc))
-          (stood_later known.path old.told mid.told new.told looked.only.looks meets.only.looks first);
+          (stood_later known.path old.told mid.told new.told looked.only.looks meets.only.looks
+          first);
       costs = costs_looked known stamp stat old mid new looked.saw meets.only.looks kept not_so;
       possible = tt;
       meets = record {
@@ -413,7 +424,8 @@ tells_gone known path stat old mid new at told next =
       few = tt;
       kept = tt;
       first = tells_there (Err (NotMailbox 0)) known.path old.told new.told (λ e. (cc))
-          (stood_later known.path old.told mid.told new.told looked.only.looks meets.only.looks first);
+          (stood_later known.path old.told mid.told new.told looked.only.looks meets.only.looks
+          first);
       costs = tt;
       possible = refl;
       meets = record {
@@ -424,7 +436,8 @@ tells_gone known path stat old mid new at told next =
     }
 
 -- another file is not read, for this cause
-tells_unread : (known : KnownFolder) (path : List ℕ) (why : ScanError) (stat : Stat) (old mid new : Seen)
+tells_unread : (known : KnownFolder) (path : List ℕ) (why : ScanError) (stat : Stat)
+    (old mid new : Seen)
     → (why ≡ Missing → ⊥)
     → path ≡ known.path → LookTold (Ok (Some stat)) path old mid
     → ReadTold (Err why) path mid new
@@ -446,7 +459,8 @@ tells_unread known path why stat old mid new other at told next =
       few = tt;
       kept = tt;
       first = tells_there (Err why) known.path old.told new.told (λ e. other (cc))
-          (stood_later known.path old.told mid.told new.told looked.only.looks meets.only.looks first);
+          (stood_later known.path old.told mid.told new.told looked.only.looks meets.only.looks
+          first);
       costs = tt;
       possible = possible;
       meets = record {
@@ -516,7 +530,8 @@ tells_nothing_there known path old new at told =
       };
     }
   where
-    nothing : (there : Option TreeNode) → ◌≡◌ {A = Option Stat} None (stat_there there) → there ≡ None
+    nothing : (there : Option TreeNode) → ◌≡◌ {A = Option Stat} None (stat_there there)
+        → there ≡ None
     nothing None is = refl
     nothing (Some node) is = absurd (cc)
 
@@ -530,7 +545,8 @@ tells_no_look known path why old new at told =
     let first = look.first in
     let reads = look.reads in
     record {
-      saw = goes_as old.told new.told (λ p q looks mails. failed_refused mails known why _ _ q looked.errors)
+      saw = goes_as old.told new.told
+          (λ p q looks mails. failed_refused mails known why _ _ q looked.errors)
           looked.only.looks;
       few = tt;
       kept = tt;
@@ -575,7 +591,8 @@ pub tells_no_read : (known : KnownFolder) (path : List ℕ) (why : ScanError) (o
 tells_no_read known path why old new at next =
     let more = read_at_path (Err why) path known.path at next in
     record {
-      saw = goes_as old.told new.told (λ p q seen mails. read_refused mails known why p q seen) more.seen;
+      saw = goes_as old.told new.told
+          (λ p q seen mails. read_refused mails known why p q seen) more.seen;
       few = tt;
       kept = tt;
       first = first_as FileRead (Option FileRead) why known.path old.told new.told more.first;

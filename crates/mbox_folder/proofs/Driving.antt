@@ -1,7 +1,8 @@
 -- What a scan has seen and what it leaves, by its looks and by what it lists.
-use Rattle.std.proofs.Common.{◌≡◌, ◌≤◌, ◌<◌, ◌+◌, ◌-◌, ◌++◌, ℕ, Bool, true, false, List, [], ◌∷◌, Option}
-use Rattle.std.proofs.Common.{Some, None, Result, Ok, Err, IfNone, inl, length, map, nat_lt}
-use Rattle.std.proofs.Common.{if◌then◌else◌, refl, sym, ◌∙◌, ap, subst, arith, length-append, ltb-false, ltb-true}
+use Rattle.std.proofs.Common.{◌≡◌, ◌≤◌, ◌<◌, ◌+◌, ◌-◌, ◌++◌, ℕ, Bool, true, false, List, [], ◌∷◌}
+use Rattle.std.proofs.Common.{Option, Some, None, Result, Ok, Err, IfNone, inl, length, map, nat_lt}
+use Rattle.std.proofs.Common.{if◌then◌else◌, refl, sym, ◌∙◌, ap, subst, arith, length-append}
+use Rattle.std.proofs.Common.{ltb-false, ltb-true}
 use Rattle.std.specs.Prelude.{option_and_then, unwrap_or}
 use Rattle.std.proofs.lemmas.List.{length-map}
 use Rattle.mail_base.specs.declared.kind.Kind.TheVariants.{Mbox}
@@ -23,10 +24,10 @@ use Rattle.folder_core.specs.FirstLook.{TellsMissing}
 use Rattle.folder_core.specs.Keeping.{ListedMail, count_fresh, letters_by, listed_by, mails_of}
 use Rattle.folder_core.specs.Known.{KnownFolder}
 use Rattle.folder_core.specs.Limits.{count_refusal, most_bytes, most_letters, most_messages}
-use Rattle.folder_core.specs.Mbox.{IsKeptStamp, KeptStamp, begins_mailbox, bytes_of}
-use Rattle.folder_core.specs.Mbox.{bytes_refusal, core, file_reads, file_refusal, mbox_message}
-use Rattle.folder_core.specs.Mbox.{mbox_refusal, mbox_refused, messages_in, messages_of, node_reads}
-use Rattle.folder_core.specs.Mbox.{raw_messages, stamps_of}
+use Rattle.folder_core.specs.Mbox.{IsKeptStamp, KeptStamp, begins_mailbox, bytes_of, bytes_refusal}
+use Rattle.folder_core.specs.Mbox.{core, file_reads, file_refusal, mbox_message, mbox_refusal}
+use Rattle.folder_core.specs.Mbox.{mbox_refused, messages_in, messages_of, node_reads, raw_messages}
+use Rattle.folder_core.specs.Mbox.{stamps_of}
 use Rattle.folder_core.specs.Right.{Right}
 use Rattle.folder_core.specs.Scanned.{ListsFound, Saw}
 use Rattle.folder_core.specs.declared.error.ScanError.{ScanError}
@@ -35,16 +36,17 @@ use Rattle.folder_core.specs.declared.error.ScanError.TheVariants.{TooLarge, Unf
 use Rattle.folder_core.specs.declared.error.ScanError.TheVariants.{ArchiveFull, Fault, NoMemory}
 use Rattle.folder_core.proofs.FirstLookLemmas.{told_there}
 use Rattle.folder_core.proofs.KeepingLemmas.{EachIs, came_new, came_of, each_listed, front_ids}
-use Rattle.folder_core.proofs.KeepingLemmas.{front_length, letters_length, listed_below, listed_length}
+use Rattle.folder_core.proofs.KeepingLemmas.{front_length, letters_length, listed_below}
+use Rattle.folder_core.proofs.KeepingLemmas.{listed_length}
 use Rattle.folder_core.proofs.RightLemmas.{right_same}
 use Rattle.folder_core.proofs.SeenLemmas.{alone_foreign, goes_as}
 use Rattle.mbox_folder.specs.FileSeen.{ChangeSeen, IsFile, WasSo, bytes_now, stamps_now}
-use Rattle.mbox_folder.specs.ListedFile.{FindsFile, IsStatedCause, IsUnlisted, ListsFile, known_file}
-use Rattle.mbox_folder.specs.ListedFile.{stay_count}
+use Rattle.mbox_folder.specs.ListedFile.{FindsFile, IsStatedCause, IsUnlisted, ListsFile}
+use Rattle.mbox_folder.specs.ListedFile.{known_file, stay_count}
 use Rattle.mbox_folder.proofs.Rising.{new_rise, old_rise, rise_back}
-use Rattle.mbox_folder.proofs.Staying.{IsMessage, all_are, cores_kept, count_both, first_are, fresh_count}
-use Rattle.mbox_folder.proofs.Staying.{keeps_of, kept_are, letter_by, letters_new, listing_new, new_is}
-use Rattle.mbox_folder.proofs.Staying.{placed_are}
+use Rattle.mbox_folder.proofs.Staying.{IsMessage, all_are, cores_kept, count_both, first_are}
+use Rattle.mbox_folder.proofs.Staying.{fresh_count, keeps_of, kept_are, letter_by, letters_new}
+use Rattle.mbox_folder.proofs.Staying.{listing_new, new_is, placed_are}
 
 -- The file of a mark.
 
@@ -69,7 +71,8 @@ refused_as : (there : Option TreeNode) (bytes stamps : List ℕ) (letters : ℕ)
 refused_as None bytes stamps letters old file = absurd (let no = file.content in cc)
 refused_as (Some node) bytes stamps letters old file =
     ap (file_refusal letters old) file.content
-    ∙ ap (λ (b : Bool). if b then Some (TooLarge (length bytes)) else bytes_refusal letters old bytes)
+    ∙ ap (λ (b : Bool). if b then Some (TooLarge (length bytes))
+    else bytes_refusal letters old bytes)
     file.few
 
 messages_listed : (bytes : List ℕ) → begins_mailbox bytes ≡ true
@@ -274,9 +277,11 @@ right_found file found archive new_archive known new_known old new right finds f
     let is = is_listed bytes archive new_archive known.listing new_known.listing finds.lists in
     let single = single_stamp known file kept in
     subst (λ (k : KnownFolder). Right Mbox new_archive k new) (sym finds.put)
-    (subst (λ (l : List Listed). Right Mbox new_archive (known_file known l file) new) (sym is.listed)
+    (subst (λ (l : List Listed). Right Mbox new_archive (known_file known l file) new)
+    (sym is.listed)
     (subst (λ (a : List Mail). Right Mbox a (known_file known
-    (listed_by (length archive) (keeps_in archive known.listing bytes) (messages_in bytes)) file) new)
+    (listed_by (length archive) (keeps_in archive known.listing bytes) (messages_in bytes)) file)
+    new)
     (sym is.letters)
     (right_listed file archive known single.0 old new right finds.lists.begins few is.taken single.1
     seen)))
@@ -296,7 +301,8 @@ lists_found file found archive new_archive known new_known told right finds =
     front_length core (mails_of archive known.listing) messages in
     let came = came_new (length archive) (length archive) known.listing keeps messages right.within
     (omega arith) pairs (front_ids core archive known.listing messages) in
-    let same : found.came.items ≡ came_of known.listing (listed_by (length archive) keeps messages) =
+    let same : found.came.items
+    ≡ came_of known.listing (listed_by (length archive) keeps messages) =
     finds.difference.came ∙ ap (came_of known.listing) is.listed in
     record {
       difference = finds.difference;
@@ -313,7 +319,8 @@ lists_found file found archive new_archive known new_known told right finds =
 -- A refusal was seen.
 
 -- a cause that the tree shows at a mark
-refused_at : (why : ScanError) (mails : List Mail) (known : KnownFolder) (mark m n : ℕ) (past : Past)
+refused_at : (why : ScanError) (mails : List Mail) (known : KnownFolder) (mark m n : ℕ)
+    (past : Past)
     → m ≤ mark → mark ≤ n
     → IsStatedCause why (mbox_refusal (length mails) (mails_of mails known.listing)
     (node_at (tree_at past mark) known.path))
@@ -455,7 +462,8 @@ was_so mails known told right = record {
       IsKeptStamp (mails_of mails known.listing) known l told) kept right.read.stamp).bore;
 }
 
-untold_stamp : (listed : List ListedMail) (known : KnownFolder) (stamps : List ℕ) (told : Option Past)
+untold_stamp : (listed : List ListedMail) (known : KnownFolder) (stamps : List ℕ)
+    (told : Option Past)
     → IsKeptStamp listed known stamps told → IsKeptStamp listed known stamps None
 untold_stamp listed known [] told kept = tt
 untold_stamp listed known (stamp ∷ []) told kept = record { all = kept.all; bore = tt }

@@ -1,4 +1,7 @@
 pub mod Changing
+pub mod Driving
+pub mod FileStamps
+pub mod LaterStates
 pub mod MessageLemmas
 pub mod PostmarkLemmas
 pub mod Reading
@@ -6,8 +9,5 @@ pub mod RegionsLemmas
 pub mod Rising
 pub mod StampLemmas
 pub mod StatusLemmas
-pub mod Stamps
 pub mod Staying
-pub mod StampsLater
-pub mod Driving
 pub mod Unchanged

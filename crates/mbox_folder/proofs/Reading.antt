@@ -1,7 +1,7 @@
 -- What one whole read of a mailbox has seen.
 use Rattle.std.proofs.Common.{◌≡◌, ◌≤◌, ◌<◌, ℕ, Bool, true, List, [], ◌∷◌, Option, Some, None}
-use Rattle.std.proofs.Common.{Result, Ok, Err, inr, length, is_some, if◌then◌else◌, refl}
-use Rattle.std.proofs.Common.{sym, ◌∙◌, ap, subst, arith, le-ltb, lt-ltb}
+use Rattle.std.proofs.Common.{Result, Ok, Err, inr, length, is_some, if◌then◌else◌, refl, sym, ◌∙◌}
+use Rattle.std.proofs.Common.{ap, subst, arith, le-ltb, lt-ltb}
 use Rattle.std.specs.Prelude.{option_and_then}
 use Rattle.disk_model.specs.Tree.{TreeNode, node_at}
 use Rattle.disk_model.specs.Journal.{NoForeign, Past, ReadAll}

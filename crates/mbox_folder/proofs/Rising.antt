@@ -1,7 +1,6 @@
 -- The ids of a mailbox rise in its listing.
 use Rattle.std.proofs.Common.{◌≡◌, ◌≤◌, ◌<◌, ◌+◌, ◌==◌, ℕ, Bool, true, false, List, [], ◌∷◌, Some}
-use Rattle.std.proofs.Common.{None, map, if◌then◌else◌, refl, sym, ◌∙◌, ap, arith}
-use Rattle.std.proofs.Common.{lt-ltb}
+use Rattle.std.proofs.Common.{None, map, if◌then◌else◌, refl, sym, ◌∙◌, ap, arith, lt-ltb}
 use Rattle.std.specs.Prelude.{cond}
 use Rattle.std.specs.Cmp.Lexicographic.{slice_cmp}
 use Rattle.std.specs.Ordering.{is_lt, nat_cmp, ordering_then}
@@ -102,7 +101,8 @@ new_rise low next mails (listed ∷ old) (raw ∷ raws) from below rise =
         → IdsFrom (listed.id.0 + 1)
         (listed_by next (keeps_of (mails_of mails old) raws) (map mbox_message raws))
         → IdsFrom low (listed_by next
-        (if t then Some listed.id.0 ∷ keeps_of (mails_of mails old) raws else None ∷ keeps_of [] raws)
+        (if t then Some listed.id.0 ∷ keeps_of (mails_of mails old) raws
+        else None ∷ keeps_of [] raws)
         (map mbox_message (raw ∷ raws)))
     by_test true again = (rise.0, again)
     by_test false again = all_rise low next (raw ∷ raws) from

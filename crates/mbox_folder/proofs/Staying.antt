@@ -1,7 +1,7 @@
 -- Messages at the front of a file that stand as they are listed, and the others, which are new.
-use Rattle.std.proofs.Common.{◌≡◌, ◌≤◌, ◌<◌, ◌+◌, ◌-◌, ◌++◌, ◌&&◌, ℕ, suc, Bool, true, false, List, []}
-use Rattle.std.proofs.Common.{◌∷◌, Option, Some, None, length, map, take, drop, if◌then◌else◌, refl}
-use Rattle.std.proofs.Common.{sym, ◌∙◌, ap, arith, add-one}
+use Rattle.std.proofs.Common.{◌≡◌, ◌≤◌, ◌<◌, ◌+◌, ◌-◌, ◌++◌, ◌&&◌, ℕ, suc, Bool, true, false, List}
+use Rattle.std.proofs.Common.{[], ◌∷◌, Option, Some, None, length, map, take, drop, if◌then◌else◌}
+use Rattle.std.proofs.Common.{refl, sym, ◌∙◌, ap, arith, add-one}
 use Rattle.std.specs.Str.{bytes_eq}
 use Rattle.std.specs.Bool.{beq}
 use Rattle.std.proofs.lemmas.Bool.{and_from, and_parts}
@@ -50,7 +50,8 @@ flags_same f g is =
     && beq f.flagged g.flagged) (beq f.passed g.passed) five.0 in
     let three = and_parts ((beq f.seen g.seen && beq f.aged g.aged) && beq f.replied g.replied)
     (beq f.flagged g.flagged) four.0 in
-    let two = and_parts (beq f.seen g.seen && beq f.aged g.aged) (beq f.replied g.replied) three.0 in
+    let two = and_parts (beq f.seen g.seen && beq f.aged g.aged)
+    (beq f.replied g.replied) three.0 in
     let one = and_parts (beq f.seen g.seen) (beq f.aged g.aged) two.0 in
     let a : f.seen ≡ g.seen = beq_same f.seen g.seen one.0 in
     let b : f.aged ≡ g.aged = beq_same f.aged g.aged one.1 in
@@ -78,8 +79,12 @@ flags_itself f =
 pub stays_parts : (listed : ListedMail) (raw : List ℕ) → stays listed raw ≡ true
     → (listed.mail.core ≡ core raw) × (listed.flags ≡ status raw)
 stays_parts listed raw is =
-    let parts = and_parts (bytes_eq listed.mail.core (core raw)) (same_flags listed.flags (status raw)) is in
-    ((bytes_eq-Decides listed.mail.core (core raw)).0 parts.0, flags_same listed.flags (status raw) parts.1)
+    let parts = and_parts (bytes_eq listed.mail.core (core raw))
+    (same_flags listed.flags (status raw)) is in (
+      (bytes_eq-Decides listed.mail.core (core raw)).0 parts.0,
+      flags_same listed.flags
+          (status raw) parts.1,
+    )
 
 pub stays_from : (listed : ListedMail) (raw : List ℕ) → listed.mail.core ≡ core raw
     → listed.flags ≡ status raw → stays listed raw ≡ true
@@ -189,7 +194,8 @@ listing_new next mails (listed ∷ old) (raw ∷ raws) =
         ∷ listed_by next (keeps_of rest raws) (map mbox_message raws))
         (sym (stays_parts (with_mail mails listed) raw is).1)
         ∙ ap (λ (l : List Listed). listed ∷ l) again
-        ∙ ap (λ (n : ℕ). take n (listed ∷ old) ++ listed_from next (drop (stay_count rest raws) raws))
+        ∙ ap (λ (n : ℕ). take n (listed ∷ old)
+        ++ listed_from next (drop (stay_count rest raws) raws))
         (sym (add-one (stay_count rest raws)))
         ∙ ap (λ (l : List (List ℕ)). take (stay_count rest raws + 1) (listed ∷ old)
         ++ listed_from next l) (sym (drop_one (stay_count rest raws) raw raws))
@@ -273,7 +279,8 @@ kept_are mails (listed ∷ old) (raw ∷ raws) below placed =
 
 -- What follows for a listing of which each is so.
 
-pub all_are : (listed : List ListedMail) (messages : List Message) → EachIs IsMessage listed messages
+pub all_are : (listed : List ListedMail) (messages : List Message)
+    → EachIs IsMessage listed messages
     → AreAll listed messages
 all_are [] [] each = tt
 all_are [] (message ∷ messages) each = absurd each
@@ -281,7 +288,8 @@ all_are (first ∷ listed) [] each = absurd each
 all_are (first ∷ listed) (message ∷ messages) each =
     (each.0.core_is, (each.0.flags_are, all_are listed messages each.1))
 
-pub first_are : (listed : List ListedMail) (messages : List Message) → EachIs IsMessage listed messages
+pub first_are : (listed : List ListedMail) (messages : List Message)
+    → EachIs IsMessage listed messages
     → AreFirst listed messages
 first_are [] messages each = tt
 first_are (first ∷ listed) [] each = absurd each

@@ -1,8 +1,8 @@
 -- A mailbox that is as it is known: nothing is gone, nothing came, and all stay listed.
 use Rattle.std.proofs.Common.{◌≡◌, ◌-◌, ◌++◌, ◌&&◌, ◌||◌, ◌==◌, ℕ, Bool, true, false, not, List, []}
-use Rattle.std.proofs.Common.{◌∷◌, Option, Some, None, Result, Ok, Err, IfErr, IfNone, IfOk, length, map, take, drop}
-use Rattle.std.proofs.Common.{if◌then◌else◌, refl}
-use Rattle.std.proofs.Common.{sym, ◌∙◌, ap, subst, arith, append-nil, eq-eqb, eqb-true, take_all}
+use Rattle.std.proofs.Common.{◌∷◌, Option, Some, None, Result, Ok, Err, IfErr, IfNone, IfOk, length}
+use Rattle.std.proofs.Common.{map, take, drop, if◌then◌else◌, refl, sym, ◌∙◌, ap, subst, arith}
+use Rattle.std.proofs.Common.{append-nil, eq-eqb, eqb-true, take_all}
 use Rattle.std.proofs.Math.Seq.{drop-length}
 use Rattle.std.specs.List.{filter}
 use Rattle.std.proofs.lemmas.Bool.{and_parts}
@@ -10,8 +10,8 @@ use Rattle.mail_base.specs.declared.kind.Kind.TheVariants.{Mbox}
 use Rattle.folder_letters.specs.Letters.{Mail}
 use Rattle.folder_letters.specs.declared.listing.Found.{Found}
 use Rattle.folder_letters.specs.declared.listing.Listed.{Listed}
-use Rattle.folder_core.specs.Keeping.{IsDifference, count_fresh, had_other_flags, ids_differ, lists_id}
-use Rattle.folder_core.specs.Keeping.{mails_of, same_flags}
+use Rattle.folder_core.specs.Keeping.{IsDifference, count_fresh, had_other_flags, ids_differ}
+use Rattle.folder_core.specs.Keeping.{lists_id, mails_of, same_flags}
 use Rattle.folder_core.specs.Known.{KnownFolder}
 use Rattle.folder_core.specs.Limits.{count_refusal}
 use Rattle.folder_core.specs.Mbox.{AreAll, IsKeptStamp, begins_mailbox, bytes_refusal, messages_in}
@@ -71,7 +71,8 @@ all_behind first all [] none in_all = tt
 all_behind first all (listed ∷ part) none in_all = (
   or_true (first.id.0 == listed.id.0) (lists_id all listed.id.0) in_all.0,
   (
-    ap (λ (t : Bool). (t && not (same_flags first.flags listed.flags)) || had_other_flags all listed)
+    ap (λ (t : Bool).
+        (t && not (same_flags first.flags listed.flags)) || had_other_flags all listed)
         (other_id all first listed in_all.0 none)
         ∙ in_all.1.0,
     all_behind first all part none in_all.1.1,

@@ -1,5 +1,5 @@
-use Rattle.std.proofs.Common.{◌≡◌, ◌≤◌, ◌<◌, ◌+◌, ◌-◌, ℕ, Bool, true, List, [], ◌∷◌, length, map, take, drop}
-use Rattle.std.proofs.Common.{if◌then◌else◌, slice_index_or, take_all, sym, ◌∙◌, ap}
+use Rattle.std.proofs.Common.{◌≡◌, ◌≤◌, ◌<◌, ◌+◌, ◌-◌, ℕ, Bool, true, List, [], ◌∷◌, length, map}
+use Rattle.std.proofs.Common.{take, drop, if◌then◌else◌, slice_index_or, take_all, sym, ◌∙◌, ap}
 use Rattle.std.proofs.Common.{subst, arith}
 use Rattle.std.proofs.lemmas.List.Elements.{All-tail}
 use Rattle.folder_letters.specs.Letters.{Mail, plain_letter}
@@ -43,7 +43,8 @@ within_on letters (first ∷ listed) some below =
     subst (AreBelow letters) (sym (rest_is first listed))
     (All-tail (λ l. l.id.0 < letters) first listed below)
 
-few_on : {A : Type 0} (count all : ℕ) (listed : List A) → 1 ≤ length listed → count + length listed ≡ all
+few_on : {A : Type 0} (count all : ℕ) (listed : List A) → 1 ≤ length listed
+    → count + length listed ≡ all
     → (count + 1) + length (rest_of listed) ≡ all
 few_on count all [] some few = absurd (omega arith)
 few_on count all (first ∷ listed) some few = omega (arith, ap length (rest_is first listed), few)
@@ -53,15 +54,18 @@ count_on : (mails : List Mail) (bytes : List ℕ) (listed : List Listed) (left :
     → stays (with_mail mails (slice_index_or listed 0 first))
     (in_region bytes (slice_index_or left 0 region)) ≡ true
     → count + stay_count (mails_of mails listed) (raws_in bytes left) ≡ all
-    → (count + 1) + stay_count (mails_of mails (rest_of listed)) (raws_in bytes (rest_of left)) ≡ all
+    → (count + 1) + stay_count (mails_of mails (rest_of listed)) (raws_in bytes (rest_of left))
+    ≡ all
 count_on mails bytes [] left first region count all some more is same = absurd (omega arith)
 count_on mails bytes (x ∷ listed) [] first region count all some more is same = absurd (omega arith)
 count_on mails bytes (x ∷ listed) (y ∷ left) first region count all some more is same =
-    let rest : stay_count (mails_of mails (rest_of (x ∷ listed))) (raws_in bytes (rest_of (y ∷ left)))
+    let rest : stay_count (mails_of mails (rest_of (x ∷ listed)))
+    (raws_in bytes (rest_of (y ∷ left)))
     ≡ stay_count (mails_of mails listed) (raws_in bytes left) =
     ap (λ (l : List Listed). stay_count (mails_of mails l) (raws_in bytes (rest_of (y ∷ left))))
     (rest_is x listed)
-    ∙ ap (λ (l : List Region). stay_count (mails_of mails listed) (raws_in bytes l)) (rest_is y left) in
+    ∙ ap (λ (l : List Region). stay_count (mails_of mails listed) (raws_in bytes l))
+    (rest_is y left) in
     let here : stay_count (mails_of mails (x ∷ listed)) (raws_in bytes (y ∷ left))
     ≡ stay_count (mails_of mails listed) (raws_in bytes left) + 1 =
     ap (λ (t : Bool). if t then stay_count (mails_of mails listed) (raws_in bytes left) + 1 else 0)

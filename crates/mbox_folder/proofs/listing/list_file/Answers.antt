@@ -10,8 +10,8 @@ use Rattle.folder_letters.specs.Letters.{Mail, plain_letter}
 use Rattle.folder_letters.specs.declared.letter.Letter.{Letter}
 use Rattle.folder_letters.specs.declared.listing.Listed.{Listed}
 use Rattle.folder_core.proofs.Messages.{in_region, map-regions}
-use Rattle.mbox_folder.specs.ListedFile.{count_staying, letters_from}
-use Rattle.mbox_folder.specs.ListedFile.{listed_from, raws_in, stay_count}
+use Rattle.mbox_folder.specs.ListedFile.{count_staying, letters_from, listed_from, raws_in}
+use Rattle.mbox_folder.specs.ListedFile.{stay_count}
 use Rattle.mbox_folder.proofs.Unchanged.{counts_unlisted}
 use Rattle.mbox_folder.proofs.listing.list_file.Goals as goal
 
@@ -53,9 +53,11 @@ at_slices : (letters part : List Letter) (old : List Listed) (bytes : List ℕ)
     → items ≡ regions bytes → k ≡ count_staying (map plain_letter letters) old bytes
 at_slices letters part old bytes items slice k same all is cut =
     staying_is (map plain_letter letters) old bytes items k cut
-    (is ∙ ap (λ (l : List Letter). stay_count (mails_of (map plain_letter l) old) (raws_in bytes slice))
+    (is ∙ ap (λ (l : List Letter). stay_count (mails_of (map plain_letter l) old)
+    (raws_in bytes slice))
     same
-    ∙ ap (λ (l : List Region). stay_count (mails_of (map plain_letter letters) old) (raws_in bytes l))
+    ∙ ap (λ (l : List Region). stay_count (mails_of (map plain_letter letters) old)
+    (raws_in bytes l))
     all)
 
 -- the counts of the code are those of the messages
@@ -69,7 +71,8 @@ same_counts : (mails : List Mail) (old : List Listed) (bytes : List ℕ) (items 
 same_counts mails old bytes items k letters archive count total found same is at all whole told =
     let size : length (raw_messages bytes) ≡ count = sym (all ∙ many bytes items same) in
     let sizes : length (raw_messages bytes) ≡ total = sym (whole ∙ many bytes items same) in
-    ap (λ (n : ℕ). count_refusal archive (length (raw_messages bytes) - n) (length (raw_messages bytes)))
+    ap (λ (n : ℕ). count_refusal archive (length (raw_messages bytes) - n)
+    (length (raw_messages bytes)))
     (sym is)
     ∙ ap (λ (n : ℕ). count_refusal archive (n - k) (length (raw_messages bytes))) size
     ∙ ap (count_refusal archive (count - k)) sizes
@@ -83,7 +86,8 @@ rest_slice k items slice same =
     ∙ ap (drop k) same
 
 -- the messages of the regions behind those that stay
-fresh_raws : (mails : List Mail) (old : List Listed) (bytes : List ℕ) (items slice : List Region) (k : ℕ)
+fresh_raws : (mails : List Mail) (old : List Listed) (bytes : List ℕ) (items slice : List Region)
+    (k : ℕ)
     → slice ≡ items → items ≡ regions bytes → k ≡ count_staying mails old bytes
     → raws_in bytes (take (length slice - k) (drop k slice))
     ≡ drop (count_staying mails old bytes) (raw_messages bytes)

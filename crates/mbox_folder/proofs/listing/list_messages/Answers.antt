@@ -40,7 +40,8 @@ returns-clause-letters c =
 
 pub returns-clause-listed : goal.returns-clause-listed
 returns-clause-listed c =
-    sym (nothing_listed c.loop-left.listing.items (length c.loop-left.archive.items) c.args.bytes.now
+    sym (nothing_listed c.loop-left.listing.items
+    (length c.loop-left.archive.items) c.args.bytes.now
     c.loop-left.left.now
     c.in_default.len_below)
     ∙ c.loop-left.invariant.listed

@@ -8,8 +8,8 @@ use Rattle.folder_core.specs.declared.error.ScanError.TheVariants.{NoMemory}
 use Rattle.folder_core.proofs.FirstLookLemmas.{bytes_stand, found_err, found_fault, found_no_room}
 use Rattle.folder_core.proofs.FirstLookLemmas.{found_ok, tells_failed, tells_missing, tells_there}
 use Rattle.folder_core.proofs.LookedLemmas.{read_long, read_missing, read_tells, read_wrong}
-use Rattle.mbox_folder.proofs.Reading.{ok_seen, missing_seen, wrong_seen, long_seen}
-use Rattle.mbox_folder.proofs.Reading.{fault_seen, memory_seen}
+use Rattle.mbox_folder.proofs.Reading.{ok_seen, missing_seen, wrong_seen, long_seen, fault_seen}
+use Rattle.mbox_folder.proofs.Reading.{memory_seen}
 use Rattle.mbox_folder.proofs.read.read_file.Goals as goal
 
 pub returns-in-Ok-clause-seen : goal.returns-in-Ok-clause-seen

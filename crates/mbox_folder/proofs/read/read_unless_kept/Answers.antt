@@ -19,7 +19,8 @@ returns-then-is_as_known g c =
 
 pub returns-in-Ok-read_file : goal.returns-in-Ok-read_file
 returns-in-Ok-read_file g c =
-    tells_read c.args.known.now c.path.result.now c.args.stamp c.in-Some.stat c.in-Ok-read_file.file _ _ _
+    tells_read c.args.known.now c.path.result.now c.args.stamp c.in-Some.stat c.in-Ok-read_file.file
+    _ _ _
     c.requires.kept
     (by_size c.len.result (length c.args.known.now.bytes) c.args.stamp c.in-Some.stat
     c.is_as_known.result false (c.len.ensures ∙ ap length c.bytes.ensures) c.is_as_known.ensures
@@ -30,7 +31,8 @@ returns-in-Ok-read_file g c =
       first = c.in-Ok.ensures.first;
       reads = c.in-Ok.ensures.reads;
     }))
-    (read_at_path _ c.path-2.result.now c.path.result.now (c.path-2.ensures ∙ sym c.path.ensures) (record {
+    (read_at_path _ c.path-2.result.now c.path.result.now (c.path-2.ensures ∙ sym c.path.ensures)
+    (record {
       seen = c.in-Ok-read_file.ensures.seen;
       first = c.in-Ok-read_file.ensures.first;
       possible = c.in-Ok-read_file.ensures.possible;
@@ -39,13 +41,15 @@ returns-in-Ok-read_file g c =
 
 pub returns-in-Err-read_file : goal.returns-in-Err-read_file
 returns-in-Err-read_file g c =
-    tells_refused c.args.known.now c.path.result.now c.in-Err-read_file.why _ c.in-Some.stat _ _ _ c.path.ensures
+    tells_refused c.args.known.now c.path.result.now c.in-Err-read_file.why _ c.in-Some.stat _ _ _
+    c.path.ensures
     (look_is (Some c.in-Some.stat) c.path.result.now c.in-Some.is (record {
       looked = c.in-Ok.ensures.looked;
       first = c.in-Ok.ensures.first;
       reads = c.in-Ok.ensures.reads;
     }))
-    (read_at_path _ c.path-2.result.now c.path.result.now (c.path-2.ensures ∙ sym c.path.ensures) (record {
+    (read_at_path _ c.path-2.result.now c.path.result.now (c.path-2.ensures ∙ sym c.path.ensures)
+    (record {
       seen = c.in-Err-read_file.ensures.seen;
       first = c.in-Err-read_file.ensures.first;
       possible = c.in-Err-read_file.ensures.possible;

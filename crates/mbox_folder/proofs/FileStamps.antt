@@ -1,10 +1,11 @@
 -- Two files that stood in one past with one stamp had one content.
 use Rattle.std.proofs.Common.{◌≡◌, ◌≤◌, ◌<◌, ◌+◌, ◌-◌, ◌⊎◌, ℕ, zero, suc, true, List, [], ◌∷◌}
-use Rattle.std.proofs.Common.{Option, Some, None, inl, inr}
-use Rattle.std.proofs.Common.{length, take, drop, refl, sym, ◌∙◌, ap, subst, arith, take-add}
+use Rattle.std.proofs.Common.{Option, Some, None, inl, inr, length, take, drop, refl, sym, ◌∙◌, ap}
+use Rattle.std.proofs.Common.{subst, arith, take-add}
 use Rattle.disk_model.specs.Tree.{TreeNode, is_first_tree, node_at}
 use Rattle.disk_model.specs.Journal.{Entry, Past}
-use Rattle.disk_model.specs.State.{File, State, file_at, name_at, run_entries, state_at, state_of, tree_at}
+use Rattle.disk_model.specs.State.{File, State, file_at, name_at, run_entries, state_at, state_of}
+use Rattle.disk_model.specs.State.{tree_at}
 use Rattle.disk_model.specs.Laws.{AreStampedOnce, HasFiles, IsNew, Older}
 use Rattle.disk_model.proofs.LawsOfNames.{each_name_has_its_file, names_are_of_files}
 use Rattle.disk_model.proofs.Runs.{run_entries-append}
@@ -12,7 +13,7 @@ use Rattle.disk_model.proofs.Trees.{node_at-tree_of, node_by}
 use Rattle.folder_core.specs.Bore.{Bore}
 use Rattle.folder_core.specs.Directory.{node_file, stamp_there}
 use Rattle.std.specs.Prelude.{option_and_then}
-use Rattle.mbox_folder.proofs.StampsLater.{Later, later_entries, stamps_tell}
+use Rattle.mbox_folder.proofs.LaterStates.{Later, later_entries, stamps_tell}
 
 -- The files of one state.
 
@@ -71,7 +72,8 @@ stands_by state path (Some None) bytes stamp has at node =
 stands_by state path (Some (Some number)) bytes stamp has at node = record {
   number = number;
   low = (names_are_of_files state path number has at).below;
-  bytes_are = some_same _ _ (ap (λ (n : Option TreeNode). bytes_in n) node.node_is ∙ node.bytes_are);
+  bytes_are = some_same _ _ (ap (λ (n : Option TreeNode). bytes_in n) node.node_is
+      ∙ node.bytes_are);
   stamp_is = ap (λ (n : Option TreeNode). stamp_in n) node.node_is ∙ node.stamp_is;
 }
   where
@@ -106,11 +108,14 @@ stands_at past mark path bytes stamp first node =
 later_at : (past : Past) (m more : ℕ) → Later (state_at past m) (state_at past (m + more))
 later_at past m more =
     subst (λ (state : State). Later (state_at past m) state)
-    (sym (ap (λ (l : List Entry). run_entries l (state_of past.first)) (take-add m more past.journal)
-    ∙ run_entries-append (take m past.journal) (take more (drop m past.journal)) (state_of past.first)))
+    (sym (ap (λ (l : List Entry). run_entries l (state_of past.first))
+    (take-add m more past.journal)
+    ∙ run_entries-append (take m past.journal) (take more (drop m past.journal))
+    (state_of past.first)))
     (later_entries (take more (drop m past.journal)) (state_at past m))
 
-one_content : (past : Past) (m more : ℕ) (a b : List ℕ) (stamp : ℕ) → is_first_tree past.first ≡ true
+one_content : (past : Past) (m more : ℕ) (a b : List ℕ) (stamp : ℕ)
+    → is_first_tree past.first ≡ true
     → Stands (state_at past m) a stamp → Stands (state_at past (m + more)) b stamp → a ≡ b
 one_content past m more a b stamp first one two =
     let state : State = state_at past m in
