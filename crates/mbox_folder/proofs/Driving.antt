@@ -40,7 +40,7 @@ use Rattle.folder_core.proofs.KeepingLemmas.{front_length, letters_length, liste
 use Rattle.folder_core.proofs.KeepingLemmas.{listed_length}
 use Rattle.folder_core.proofs.RightLemmas.{right_same}
 use Rattle.folder_core.proofs.SeenLemmas.{alone_foreign, goes_as}
-use Rattle.mbox_folder.specs.FileSeen.{ChangeSeen, IsFile, WasSo, bytes_now, stamps_now}
+use Rattle.mbox_folder.specs.FileSeen.{ChangeSeen, IsFile, bytes_now, stamps_now}
 use Rattle.mbox_folder.specs.ListedFile.{FindsFile, IsStatedCause, IsUnlisted, ListsFile}
 use Rattle.mbox_folder.specs.ListedFile.{known_file, stay_count}
 use Rattle.mbox_folder.proofs.Rising.{new_rise, old_rise, rise_back}
@@ -371,12 +371,6 @@ saw_unlisted why file archive new_archive known new_known old new told seen =
     (mails_of archive known.listing) (node_at (tree_at next at.mark) known.path) told at.is))
     seen
 
-pub saw_unread : (why : ScanError) (archive new_archive : List Mail) (known new_known : KnownFolder)
-    (old new : Option Past) → GoesOn (ChangeSeen known (Err why)) old new
-    → GoesOn (Saw Mbox archive new_archive known new_known (Err why)) old new
-saw_unread why archive new_archive known new_known old new seen =
-    goes_as old new (λ past next refused. refused archive) seen
-
 -- What the first look has found.
 
 -- a file that was met stood at the path
@@ -450,40 +444,6 @@ full_unlisted letters bytes old why full told =
         full_count letters fresh (length (raw_messages bytes))
         (omega (arith, count_both old (raw_messages bytes))) is
     begun false begins is = absurd (cc)
-
--- What a scan wants of what is known.
-
--- what is known of the file was so once
-pub was_so : (mails : List Mail) (known : KnownFolder) (told : Option Past)
-    → Right Mbox mails known told → WasSo known told
-was_so mails known told right = record {
-  few = right.read.few;
-  bore = λ stamp kept. (subst (λ (l : List ℕ).
-      IsKeptStamp (mails_of mails known.listing) known l told) kept right.read.stamp).bore;
-}
-
-untold_stamp : (listed : List ListedMail) (known : KnownFolder) (stamps : List ℕ)
-    (told : Option Past)
-    → IsKeptStamp listed known stamps told → IsKeptStamp listed known stamps None
-untold_stamp listed known [] told kept = tt
-untold_stamp listed known (stamp ∷ []) told kept = record { all = kept.all; bore = tt }
-untold_stamp listed known (stamp ∷ other ∷ stamps) told kept = absurd kept
-
--- what is right is right where nothing is told
-pub right_untold : (mails : List Mail) (known : KnownFolder) (told : Option Past)
-    → Right Mbox mails known told → Right Mbox mails known None
-right_untold mails known told right = record {
-  within = right.within;
-  ordered = right.ordered;
-  few = right.few;
-  read = record {
-    placed = right.read.placed;
-    few = right.read.few;
-    begins = right.read.begins;
-    first = right.read.first;
-    stamp = untold_stamp (mails_of mails known.listing) known known.stamps told right.read.stamp;
-  };
-}
 
 -- after a refusal all is as right as before
 pub right_kept : (letters left : List Letter) (known k : KnownFolder) (old new : Option Past)

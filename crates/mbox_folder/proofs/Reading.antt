@@ -162,10 +162,3 @@ memory_seen e path (Some past) (Some next) is step looks =
       is = tt;
       alone = λ nobody. tree_at-length next;
     }
-
--- what was seen at a path was seen at an equal one
-pub seen_at : (result : Result FileRead ScanError) (name path : List ℕ) (old new : Option Past)
-    → name ≡ path
-    → GoesOn (FileSeen result name) old new → GoesOn (FileSeen result path) old new
-seen_at result name path old new same told =
-    subst (λ (p : List ℕ). GoesOn (FileSeen result p) old new) same told

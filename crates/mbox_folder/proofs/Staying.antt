@@ -1,5 +1,5 @@
 -- Messages at the front of a file that stand as they are listed, and the others, which are new.
-use Rattle.std.proofs.Common.{◌≡◌, ◌≤◌, ◌<◌, ◌+◌, ◌-◌, ◌++◌, ◌&&◌, ℕ, suc, Bool, true, false, List}
+use Rattle.std.proofs.Common.{◌≡◌, ◌<◌, ◌+◌, ◌-◌, ◌++◌, ◌&&◌, ℕ, suc, Bool, true, false, List}
 use Rattle.std.proofs.Common.{[], ◌∷◌, Option, Some, None, length, map, take, drop, if◌then◌else◌}
 use Rattle.std.proofs.Common.{refl, sym, ◌∙◌, ap, arith, add-one}
 use Rattle.std.specs.Str.{bytes_eq}
@@ -118,17 +118,6 @@ count_both (listed ∷ old) (raw ∷ raws) =
 pub fresh_count : (old : List ListedMail) (raws : List (List ℕ))
     → count_fresh (keeps_of old raws) ≡ length raws - stay_count old raws
 fresh_count old raws = omega (arith, count_both old raws)
-
--- no more stand as they are listed than are listed
-pub stay_within : (old : List ListedMail) (raws : List (List ℕ)) → stay_count old raws ≤ length old
-stay_within [] raws = omega arith
-stay_within (listed ∷ old) [] = omega arith
-stay_within (listed ∷ old) (raw ∷ raws) = by_test (stays listed raw) (stay_within old raws)
-  where
-    by_test : (t : Bool) → stay_count old raws ≤ length old
-        → (if t then stay_count old raws + 1 else 0) ≤ length (listed ∷ old)
-    by_test true again = omega (arith, again)
-    by_test false again = omega arith
 
 -- Letters and listing.
 
