@@ -9,7 +9,7 @@ use Rattle.std.specs.List.{filter}
 use Rattle.std.specs.Str.{bytes_eq}
 use Rattle.std.proofs.lemmas.Bool.{and_parts}
 use Rattle.disk_model.specs.Journal.{ListDir, NoForeign, Own, Past}
-use Rattle.disk_model.specs.Looking.{HasLooked, LooksOnly}
+use Rattle.disk_model.specs.Looking.{HasLooked, OnlyLooks}
 use Rattle.disk_model.specs.Names.{names_in}
 use Rattle.disk_model.specs.State.{tree_at}
 use Rattle.disk_model.specs.Tree.{TreeNode}
@@ -32,7 +32,18 @@ use Rattle.maildir_folder.specs.Candidates.{plain_file}
 use Rattle.maildir_folder.specs.Files.{CurSeen, FolderSeen, ListsFiles, NamesSeen, NewSeen}
 use Rattle.maildir_folder.specs.Walk.{IsWalked, WalkSeen}
 use Rattle.maildir_folder.specs.Scan.{MessagesSeen}
-use Rattle.folder_core.proofs.FirstScanLemmas.{FolderWalked}
+use Rattle.folder_core.proofs.DirectoryScanLemmas.{FolderWalked, TellsKind}
+use Rattle.folder_core.specs.Directory.{ReadsAs}
+use Rattle.folder_core.specs.Keeping.{AreThere}
+use Rattle.folder_core.specs.Known.{KnownFolder}
+use Rattle.folder_core.specs.MaildirNames.{order_of}
+use Rattle.folder_core.specs.Message.{are_in_order}
+use Rattle.folder_core.specs.Right.{Right}
+use Rattle.folder_letters.specs.Letters.{Mail}
+use Rattle.folder_letters.specs.declared.listing.Listed.{Listed}
+use Rattle.mail_base.specs.declared.kind.Kind.TheVariants.{Maildir}
+use Rattle.disk_model.specs.Seen.{Seen}
+use Rattle.maildir_folder.specs.KnownBase.{CanSearch}
 use Rattle.mail_base.proofs.OrderedLemmas.{in_order_held}
 use Rattle.folder_core.specs.ListedSoFar.{Store}
 use Rattle.mail_base.specs.Ordered.{IsIn}
@@ -96,11 +107,13 @@ there_listed tree path in_cur name names told shown there =
 
 -- What was seen from the first look on.
 
-stood_earlier : (path : List ℕ) (from mid to : ℕ) (past : Past) (messages : List Message)
-    → from ≤ mid
-    → AllStood path mid to past messages → AllStood path from to past messages
-stood_earlier path from mid to past [] low stood = tt
-stood_earlier path from mid to past (message ∷ messages) low stood =
+stood_earlier : (path : List ℕ) (from mid to : ℕ) (past : Past) (keeps : List (Option ℕ))
+    (messages : List Message) → from ≤ mid
+    → AllStood path mid to past keeps messages → AllStood path from to past keeps messages
+stood_earlier path from mid to past [] [] low stood = tt
+stood_earlier path from mid to past [] (message ∷ messages) low stood = absurd stood
+stood_earlier path from mid to past (keep ∷ keeps) [] low stood = absurd stood
+stood_earlier path from mid to past (keep ∷ keeps) (message ∷ messages) low stood =
     let one = stood.0 in (
       record {
         mark = one.mark;
@@ -110,60 +123,67 @@ stood_earlier path from mid to past (message ∷ messages) low stood =
         shown = one.shown;
         there = one.there;
       },
-      stood_earlier path from mid to past messages low stood.1,
+      stood_earlier path from mid to past keeps messages low stood.1,
     )
 
 -- the folder at a tree of each mark
 still_reads : (tree : List TreeNode) (path : List ℕ) (cur new : List (List ℕ))
-    (files : List MaildirFile)
-    (messages : List Message)
+    (files : List MaildirFile) (keeps : List (Option ℕ)) (messages : List Message)
     → files ≡ in_order_by comes_before (files_in true cur ++ files_in false new)
     → is_folder_at tree path ≡ true
     → (new ≡ names_in tree (directory false path)) × (file_at tree (directory false path) ≡ None)
     → (cur ≡ names_in tree (directory true path)) × (is_folder_at tree (directory true path) ≡ true)
-    → messages ≡ messages_behind tree path None files → maildir_reads tree path ≡ Some messages
-still_reads tree path cur new files messages order folder news curs is =
+    → AreThere keeps messages (messages_behind tree path None files)
+    → ReadsAs maildir_reads path keeps messages tree
+still_reads tree path cur new files keeps messages order folder news curs are =
     let maildir : is_maildir tree path ≡ true =
-    λ i. folder i && curs.1 i && is_none (news.1 i) in
-    ap (λ (t : Bool). if t then Some (maildir_messages tree path) else None) maildir
-    ∙ ap Some (sym (is ∙ ap (messages_behind tree path None)
-    (order ∙ λ i. in_order_by comes_before
-    (files_in true (curs.0 i) ++ files_in false (news.0 i)))))
+    λ i. folder i && curs.1 i && is_none (news.1 i) in (
+      messages_behind tree path None files,
+      (
+        ap (λ (t : Bool). if t then Some (maildir_messages tree path) else None) maildir
+            ∙ ap Some (sym (ap (messages_behind tree path None)
+            (order ∙ λ i. in_order_by comes_before
+            (files_in true (curs.0 i) ++ files_in false (news.0 i))))),
+        are,
+      ),
+    )
 
 seen_messages : (path : List ℕ) (cur new : List (List ℕ)) (files : List MaildirFile)
-    (messages : List Message)
+    (keeps : List (Option ℕ)) (messages : List Message) (stamps : List ℕ)
     (p q r : Past) → HasLooked p q → HasLooked q r
     → files ≡ in_order_by comes_before (files_in true cur ++ files_in false new)
-    → NamesSeen path cur new p q → WalkSeen path files messages q r → MessagesSeen path messages p r
-seen_messages path cur new files messages p q r first next order names walk = record {
-  in_order = walk.in_order;
-  stood = stood_earlier path (length p.journal) (length q.journal) (length r.journal) r messages low
-      walk.stood;
-  listed = curs.0.mark;
-  from = curs.0.from;
-  to = curs.0.to;
-  answer = curs.0.answer;
-  call = curs.0.own;
-  stayed = λ file shown stays. kept_by file.in_cur file.name shown stays;
-  moved = λ name new_name mark from below shown new_shown same before after.
-      let late : mark + 1 ≤ length q.journal = omega (arith, below, curs.1) in
-      subst (λ (b : List ℕ). has_key b messages ≡ true) same
-      (walk.kept (record { in_cur = true; name = new_name }) (in_cur new_name new_shown
-      (after curs.0.mark (omega (arith, below)) curs.0.to))
-      (λ m high to. after m (omega (arith, late, high)) to));
-  alone = λ alone.
-      let none : NoForeign p r = alone_foreign p r alone in
-      still_reads (tree_at r (length r.journal)) path cur new files messages order
-      (subst (λ (t : List TreeNode). is_folder_at t path ≡ true) (now none folder.mark folder.from)
-      folder.tells)
-      (subst (λ (t : List TreeNode). (new ≡ names_in t (directory false path))
-      × (file_at t (directory false path) ≡ None)) (now none news.mark news.from) news.tells)
-      (subst (λ (t : List TreeNode). (cur ≡ names_in t (directory true path))
-      × (is_folder_at t (directory true path) ≡ true)) (now none curs.0.mark curs.0.from)
-      curs.0.tells)
-      (walk.still (tree_at r (length r.journal))
-      (λ mark from to. now none mark (omega (arith, from, low))));
-}
+    → are_in_order messages ≡ true → NamesSeen path cur new p q
+    → WalkSeen path files keeps messages q r → MessagesSeen path keeps messages stamps p r
+seen_messages path cur new files keeps messages stamps p q r first next order ordered names walk =
+    record {
+      in_order = ordered;
+      stood = stood_earlier path (length p.journal) (length q.journal) (length r.journal) r keeps
+          messages low walk.stood;
+      listed = curs.0.mark;
+      from = curs.0.from;
+      to = curs.0.to;
+      answer = curs.0.answer;
+      call = curs.0.own;
+      stayed = λ file shown stays. kept_by file.in_cur file.name shown stays;
+      moved = λ name new_name mark from below shown new_shown same before after.
+          let late : mark + 1 ≤ length q.journal = omega (arith, below, curs.1) in
+          subst (λ (b : List ℕ). has_key b messages ≡ true) same
+          (walk.kept (record { in_cur = true; name = new_name }) (in_cur new_name new_shown
+          (after curs.0.mark (omega (arith, below)) curs.0.to))
+          (λ m high to. after m (omega (arith, late, high)) to));
+      alone = λ alone.
+          let none : NoForeign p r = alone_foreign p r alone in
+          still_reads (tree_at r (length r.journal)) path cur new files keeps messages order
+          (subst (λ (t : List TreeNode). is_folder_at t path ≡ true) (now none folder.mark folder.from)
+          folder.tells)
+          (subst (λ (t : List TreeNode). (new ≡ names_in t (directory false path))
+          × (file_at t (directory false path) ≡ None)) (now none news.mark news.from) news.tells)
+          (subst (λ (t : List TreeNode). (cur ≡ names_in t (directory true path))
+          × (is_folder_at t (directory true path) ≡ true)) (now none curs.0.mark curs.0.from)
+          curs.0.tells)
+          (walk.still (tree_at r (length r.journal))
+          (λ mark from to. now none mark (omega (arith, from, low))));
+    }
   where
     low : length p.journal ≤ length q.journal
     low = longer_later p q first
@@ -237,15 +257,45 @@ seen_messages path cur new files messages p q r first next order names walk = re
         (λ m from to. stays m (omega (arith, from, low)) to)
 
 -- the messages that were found, from the first look to the last
-pub folder_walked : (path : List ℕ) (files listed : List Candidate) (first store : Store)
-    (a b c : Option Past)
-    → listed ≡ files → LooksOnly a b → LooksOnly b c → ListsFiles path files a b
-    → IsWalked path (map plain_file listed) first store b c
-    → FolderWalked maildir_format (MessagesSeen path) first store a c
-folder_walked path files listed first store a b c same before next lists walked = record {
+pub folder_walked : (known : KnownFolder) (files listed : List Candidate) (first store : Store)
+    (a b c : Seen)
+    → listed ≡ files → OnlyLooks a b → OnlyLooks b c
+    → ListsFiles known.path files a.told b.told
+    → IsWalked first.archive known (map plain_file listed) first store b c
+    → FolderWalked maildir_format order_of known (MessagesSeen known.path) [] first store a.told
+    c.told
+folder_walked known files listed first store a b c same before next lists walked = record {
   messages = walked.messages;
-  holds = walked.holds;
-  saw = goes_then a b c (λ p q r x y names walk.
-      seen_messages path lists.cur lists.new_names (map plain_file listed) walked.messages p q r x y
-      (ap (map plain_file) same ∙ lists.order.sorted) names walk) before next lists.saw walked.saw;
+  keeps = walked.keeps;
+  kept = walked.walked.kept;
+  cores = walked.walked.cores;
+  in_order = walked.walked.in_order;
+  placed = walked.walked.placed;
+  holds = walked.walked.holds;
+  saw = goes_then a.told b.told c.told (λ p q r x y names walk.
+      seen_messages known.path lists.cur lists.new_names (map plain_file listed) walked.keeps
+      walked.messages [] p q r x y (ap (map plain_file) same ∙ lists.order.sorted)
+      walked.walked.in_order names walk) before.looks next.looks lists.saw walked.saw;
 }
+
+-- What was known can be searched.
+pub search_right : (mails : List Mail) (known : KnownFolder) (told : Option Past)
+    → Right Maildir mails known told → CanSearch mails known.listing
+search_right mails known told right =
+    record { within = right.within; ordered = right.ordered; placed = right.read.placed }
+
+-- What is known of a Maildir that was listed so.
+pub maildir_tells : (archive new_archive : List Mail) (known : KnownFolder) (listing : List Listed)
+    (old new : Option Past)
+    → TellsKind Maildir order_of archive new_archive known listing [] (MessagesSeen known.path) old
+    new
+maildir_tells archive new_archive known listing old new = record {
+  sees = λ keeps messages p q taken saw.
+      record { saw = saw; taken = taken; bytes = refl; stamps = refl };
+  read = λ is lists. record { placed = lists.placed; bytes = refl; stamps = refl };
+}
+
+-- what is said of one path is so of the same path
+pub at_path : (Said : List ℕ → Option Past → Option Past → Type 0) (at path : List ℕ)
+    (a b : Option Past) → at ≡ path → Said at a b → Said path a b
+at_path Said at path a b same said = subst (λ (p : List ℕ). Said p a b) same said

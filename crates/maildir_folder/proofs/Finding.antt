@@ -88,10 +88,10 @@ refused_from path (NotMailbox place) old mid new low was = (
     other = was.1.other;
   },
 )
-refused_from path (TooMany count) old mid new low was = absurd was.saw
-refused_from path (TooLarge bytes) old mid new low was = absurd was.saw
+refused_from path (TooMany count) old mid new low was = absurd was.sees
+refused_from path (TooLarge bytes) old mid new low was = absurd was.sees
 refused_from path Unfinished old mid new low was = was
-refused_from path ArchiveFull old mid new low was = absurd was.saw
+refused_from path ArchiveFull old mid new low was = absurd was.sees
 refused_from path Fault old mid new low was = tt
 refused_from path NoMemory old mid new low was = tt
 

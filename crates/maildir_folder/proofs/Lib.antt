@@ -1,6 +1,7 @@
 pub mod OrderLemmas
 pub mod NameLemmas
 pub mod Sorting
+pub mod Searching
 pub mod Storing
 pub mod Reading
 pub mod Walking

@@ -55,8 +55,8 @@ pub record ListsFiles (path : List ℕ) (files : List Candidate) (old new : Opti
 -- the folder was refused before its files were looked for
 abbrev pub WasRefused : List ℕ → ScanError → Past → Past → Type 0
 WasRefused path why old new =
-    DirectoryRefused is_maildir (λ messages. ⊥) 0 path why (length old.journal) (length new.journal)
-    new
+    DirectoryRefused is_maildir (λ keeps messages stamps. ⊥) 0 path why (length old.journal)
+    (length new.journal) new
 
 -- why the files of a folder were not listed
 abbrev pub IsListError : ScanError → Type 0

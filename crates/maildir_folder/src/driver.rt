@@ -1,19 +1,22 @@
 //! The driver of folders of a file a message.
 
-ghost use Rattle.std.specs.Prelude.{◌≡◌, IfOk, length, map, take};
+ghost use Rattle.std.specs.Prelude.{◌≡◌, [], IfOk, length, map, take};
 ghost use Rattle.mail_base.specs.declared.kind.Kind.TheVariants.{Maildir};
 ghost use Rattle.folder_core.specs.Costs.{RaisesAtMost, cores_together, letters_behind};
-ghost use Rattle.folder_core.specs.FirstScan.{ListsFolder, ScansFolder};
+ghost use Rattle.folder_core.specs.DirectoryScan.{ListsFolder, ScansFolder};
 ghost use Rattle.folder_letters.specs.Letters.{plain_letter};
 ghost use Rattle.folder_core.specs.Maildir.{maildir_format};
+ghost use Rattle.folder_core.specs.MaildirNames.{order_of};
+ghost use Rattle.folder_core.specs.Right.{Right};
 ghost use Rattle.folder_core.specs.Scanned.{Scans};
+ghost use Rattle.maildir_folder.specs.KnownBase.{CanSearch};
 ghost use Rattle.maildir_folder.specs.Scan as spec;
 
 use crate::files::list_files;
 use crate::walk::take_all;
 use disk_model::{Device, Disk};
-use folder_core::{Archive, Driver, Found, Known, ListedSoFar, Listing, ScanError, first_found};
-use mail_base::{Kind, Stamps};
+use folder_core::{Archive, Driver, Found, Known, ListedSoFar, Listing, ScanError, put_listing};
+use mail_base::{Bytes, Kind, NoMemory, Stamps};
 use std::alloc::Global;
 
 /// Reads folders of a file a message (maildir(5)).
@@ -44,13 +47,14 @@ impl Driver for MaildirDriver {
     }
 }
 
-/// Reads a Maildir of which nothing is listed yet, as the driver's `scan`.
+/// Reads a Maildir of which this is known, as the driver's `scan`.
 fn scan_folder(
     alloc: Global,
     disk: &mut dyn Disk,
     known: &mut Known,
     archive: &mut Archive,
 ) -> Result<Found, ScanError>
+    requires { Right Maildir (map plain_letter archive.old.items) known.old (seen disk.old).told }
     ensures { Scans Maildir archive.old.items archive.new.items known.old known.new result
         (seen disk.old) (seen disk.new) }
 {
@@ -72,39 +76,56 @@ fn list_known(
     known: &mut Known,
     archive: &mut Archive,
 ) -> Result<Found, ScanError>
+    requires { Right Maildir (map plain_letter archive.old.items) known.old (seen disk.old).told }
     ensures scans { ScansFolder Maildir (map plain_letter archive.old.items)
         (map plain_letter archive.new.items) known.old known.new result
         (seen disk.old) (seen disk.new) }
     ensures front { take (length archive.old.items) archive.new.items ≡ archive.old.items }
 {
-    let came = list_folder(alloc, disk, known.path(), archive)?;
-    Ok(first_found(alloc, known, came, Stamps::new(alloc))?)
+    let letters = archive.len();
+    let listing = match list_folder(alloc, disk, known, archive) {
+        Ok(listing) => listing,
+        Err(why) => return Err(why),
+    };
+    match put_listing(
+        alloc,
+        known,
+        letters,
+        listing,
+        Bytes::new(alloc),
+        Stamps::new(alloc),
+    ) {
+        Ok(found) => Ok(found),
+        Err(NoMemory) => Err(ScanError::NoMemory),
+    }
 }
 
-/// Adds the letters of a Maildir to an archive, and answers their listing. After a refusal letters
-/// may stand behind those that were there.
+/// Adds the letters of the new messages of a Maildir to an archive, and answers the listing of all.
+/// After a refusal letters may stand behind those that were there.
 fn list_folder(
     alloc: Global,
     disk: &mut dyn Disk,
-    path: &str,
+    known: &Known,
     archive: &mut Archive,
 ) -> Result<Listing, ScanError>
-    ensures lists { ListsFolder maildir_format path.now (map plain_letter archive.old.items)
-        (map plain_letter archive.new.items) result (λ came. came.items)
-        (λ came. spec.MessagesSeen path.now) (seen disk.old) (seen disk.new) }
-    ensures reads { IfOk result (λ came. RaisesAtMost (seen disk.old).bytes_read
+    requires { CanSearch (map plain_letter archive.old.items) known.now.listing }
+    ensures lists { ListsFolder maildir_format order_of known.now
+        (map plain_letter archive.old.items) (map plain_letter archive.new.items) result
+        (λ listing. listing.items) (λ listing. []) (spec.MessagesSeen known.now.path)
+        (seen disk.old) (seen disk.new) }
+    ensures reads { IfOk result (λ listing. RaisesAtMost (seen disk.old).bytes_read
         (seen disk.new).bytes_read (cores_together (letters_behind
         (map plain_letter archive.old.items) (map plain_letter archive.new.items)))) }
     ensures front { take (length archive.old.items) archive.new.items ≡ archive.old.items }
 {
-    let files = list_files(alloc, disk, path)?;
+    let files = list_files(alloc, disk, known.path())?;
     let mut so_far = ListedSoFar::new(alloc, archive.len());
-    match take_all(alloc, disk, path, files.as_slice(), &mut so_far, archive) {
+    match take_all(alloc, disk, known, files.as_slice(), &mut so_far, archive) {
         Ok(()) => {}
         Err(why) => return Err(why),
     }
     match so_far.refusal() {
         Some(why) => Err(why),
-        None => Ok(so_far.came),
+        None => Ok(so_far.listing),
     }
 }

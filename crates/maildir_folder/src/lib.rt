@@ -7,6 +7,7 @@ mod base_order;
 mod candidates;
 mod driver;
 mod files;
+mod known_base;
 mod laws;
 mod maildir_name;
 mod walk;

@@ -1,7 +1,13 @@
-mod Driving
+pub mod Changing
+pub mod Driving
+pub mod FileStamps
+pub mod LaterStates
 pub mod MessageLemmas
 pub mod PostmarkLemmas
 pub mod Reading
 pub mod RegionsLemmas
+pub mod Rising
 pub mod StampLemmas
 pub mod StatusLemmas
+pub mod Staying
+pub mod Unchanged

@@ -1,13 +1,13 @@
 -- What one whole read of a mailbox has seen.
-use Rattle.std.proofs.Common.{◌≡◌, ℕ, Bool, true, false, List, [], ◌∷◌, Option, Some, None, Result}
-use Rattle.std.proofs.Common.{Ok, Err, length, nat_lt, if◌then◌else◌, refl, sym, ◌∙◌, ap, subst}
-use Rattle.std.proofs.Common.{arith}
+use Rattle.std.proofs.Common.{◌≡◌, ◌≤◌, ◌<◌, ℕ, Bool, true, List, [], ◌∷◌, Option, Some, None}
+use Rattle.std.proofs.Common.{Result, Ok, Err, inr, length, is_some, if◌then◌else◌, refl, sym, ◌∙◌}
+use Rattle.std.proofs.Common.{ap, subst, arith, le-ltb, lt-ltb}
+use Rattle.std.specs.Prelude.{option_and_then}
 use Rattle.disk_model.specs.Tree.{TreeNode, node_at}
-use Rattle.disk_model.specs.Journal.{Past, ReadAll}
-use Rattle.disk_model.specs.Judge.{Called, GoesOn, IsJudged, OneStep, read_at, read_node, read_of}
-use Rattle.disk_model.specs.Judge.{stat_node}
-use Rattle.disk_model.specs.Looking.{LooksOnly}
-use Rattle.disk_model.specs.State.{tree_at}
+use Rattle.disk_model.specs.Journal.{NoForeign, Past, ReadAll}
+use Rattle.disk_model.specs.Judge.{Called, GoesOn, IsJudged, OneStep, read_of}
+use Rattle.disk_model.specs.Looking.{HasLooked, LooksOnly}
+use Rattle.disk_model.specs.State.{tree_after, tree_at}
 use Rattle.disk_model.specs.declared.answers.Stat.{Stat}
 use Rattle.disk_model.specs.declared.answers.FileRead.{FileRead}
 use Rattle.disk_model.specs.declared.answers.DiskError.{DiskError}
@@ -16,141 +16,57 @@ use Rattle.disk_model.specs.declared.answers.DiskError.TheVariants.{NoMemory}
 use Rattle.disk_model.proofs.Looking.{looked_longer}
 use Rattle.disk_model.proofs.Marks.{length_longer, met_at, tree_at-length, tree_at-looked}
 use Rattle.disk_model.proofs.Marks.{tree_after-looked}
+use Rattle.folder_core.specs.Directory.{node_file, stamp_there}
+use Rattle.folder_core.specs.Keeping.{ListedMail}
 use Rattle.folder_core.specs.Limits.{most_bytes}
-use Rattle.folder_core.specs.Mbox.{bytes_refusal, file_refusal, messages_of}
+use Rattle.folder_core.specs.Mbox.{bytes_refusal, file_refusal, mbox_refusal}
 use Rattle.folder_core.specs.declared.error.ScanError.{ScanError}
 use Rattle.folder_core.specs.declared.error.ScanError.TheVariants.{Missing as NoFolder, NotMailbox}
 use Rattle.folder_core.specs.declared.error.ScanError.TheVariants.{TooLarge, Fault as FolderFault}
 use Rattle.folder_core.specs.declared.error.ScanError.TheVariants.{NoMemory as WantOfMemory}
-use Rattle.mbox_folder.specs.FileSeen.{FileSeen, IsRead}
+use Rattle.folder_core.proofs.LookedLemmas.{read_long, read_missing, read_nothing, read_tells}
+use Rattle.folder_core.proofs.LookedLemmas.{read_wrong}
+use Rattle.mbox_folder.specs.FileSeen.{FileSeen, IsFile, IsRead}
 
 -- What stands at the path, by the answer of the read.
 
 abbrev ReadPair : Type 0
 ReadPair = Stat × List ℕ
 
-ok_pair : (a b : ReadPair) → ◌≡◌ {A = Result ReadPair DiskError} (Ok a) (Ok b)
-    → ◌≡◌ {A = ReadPair} a b
-ok_pair a b same = cc
+-- a file by its bytes and its stamp
+pub file_of : (there : Option TreeNode) (bytes : List ℕ) (stamp : ℕ)
+    → option_and_then node_file there ≡ Some bytes → stamp_there there ≡ stamp
+    → length bytes ≤ most_bytes → IsFile bytes (stamp ∷ []) there
+file_of None bytes stamp is at few = absurd (cc)
+file_of (Some node) bytes stamp is at few = record {
+  content = is;
+  stamp = ap (λ (n : ℕ). n ∷ []) at;
+  few = le-ltb most_bytes (length bytes) few;
+}
 
-pair_bytes : (a b : ReadPair) → ◌≡◌ {A = ReadPair} a b → a.1 ≡ b.1
-pair_bytes a b same = ap (λ (q : ReadPair). q.1) same
+long_refused : (there : Option TreeNode) (size : ℕ) (all : List ℕ)
+    → option_and_then node_file there ≡ Some all → size ≡ length all → most_bytes < size
+    → (letters : ℕ) (old : List ListedMail) → mbox_refusal letters old there ≡ Some (TooLarge size)
+long_refused None size all is same long letters old = absurd (cc)
+long_refused (Some node) size all is same long letters old =
+    ap (file_refusal letters old) is
+    ∙ ap (λ (b : Bool). if b then Some (TooLarge (length all)) else bytes_refusal letters old all)
+    (lt-ltb most_bytes (length all) (omega (arith, same, long)))
+    ∙ ap (λ (n : ℕ). Some (TooLarge n)) (sym same)
 
-pair_stat : (a b : ReadPair) → ◌≡◌ {A = ReadPair} a b → a.0 ≡ b.0
-pair_stat a b same = ap (λ (q : ReadPair). q.0) same
+wrong_refused : (there : Option TreeNode) → is_some there ≡ true
+    → option_and_then node_file there ≡ None
+    → (letters : ℕ) (old : List ListedMail) → mbox_refusal letters old there ≡ Some (NotMailbox 0)
+wrong_refused None stands is letters old = absurd (cc)
+wrong_refused (Some node) stands is letters old = ap (file_refusal letters old) is
 
-abbrev plain_node : List ℕ → List ℕ → ℕ → TreeNode
-plain_node path bytes stamp = record { path = path; bytes = Some bytes; stamp = stamp }
-
-file_ok : (file : FileRead) (path bytes : List ℕ) (stamp : ℕ)
-    → ◌≡◌ {A = Result ReadPair DiskError} (Ok (file.stat, file.bytes.items))
-    (read_node (Some bytes) stamp most_bytes)
-    → IsRead (Ok file) (Some (plain_node path bytes stamp))
-file_ok file path bytes stamp is = by_length (nat_lt most_bytes (length bytes)) refl is
-  where
-    by_length : (t : Bool) → nat_lt most_bytes (length bytes) ≡ t
-        → ◌≡◌ {A = Result ReadPair DiskError} (Ok (file.stat, file.bytes.items))
-        (if t then Err (Long (length bytes)) else Ok (stat_node (Some bytes) stamp, bytes))
-        → IsRead (Ok file) (Some (plain_node path bytes stamp))
-    by_length true long is = absurd (cc)
-    by_length false long is =
-        let same : ◌≡◌ {A = ReadPair} (file.stat, file.bytes.items)
-        (stat_node (Some bytes) stamp, bytes) = ok_pair _ _
-        is in
-        let content : file.bytes.items ≡ bytes = pair_bytes _ _ same in record {
-          bytes = sym content;
-          stamps = ap (λ (s : Stat). s.stamp ∷ []) (sym (pair_stat _ _ same));
-          messages = ap messages_of (sym content);
-          refused = λ letters.
-              ap (λ (b : Bool). if b then Some (TooLarge (length bytes))
-              else bytes_refusal letters bytes) long
-              ∙ ap (bytes_refusal letters) (sym content);
-        }
-
--- a fact of a node by its bytes
-by_bytes : (P : TreeNode → Type 0) (node : TreeNode)
-    → (node.bytes ≡ None → P node)
-    → ((bytes : List ℕ) → node.bytes ≡ Some bytes → P (plain_node node.path bytes node.stamp))
-    → P node
-by_bytes P node folder file = pick node.bytes refl
-  where
-    pick : (b : Option (List ℕ)) → node.bytes ≡ b → P node
-    pick None is = folder is
-    pick (Some bytes) is = subst (λ (b : Option (List ℕ)). P (record {
-      path = node.path;
-      bytes = b;
-      stamp = node.stamp;
-    })) (sym is) (file bytes is)
-
-read_same : (node : TreeNode) (b : Option (List ℕ)) → node.bytes ≡ b
-    → read_at (Some node) most_bytes ≡ read_node b node.stamp most_bytes
-read_same node b is = ap (λ (c : Option (List ℕ)). read_node c node.stamp most_bytes) is
-
-node_ok : (file : FileRead) (there : Option TreeNode)
-    → ◌≡◌ {A = Result ReadPair DiskError} (Ok (file.stat, file.bytes.items))
-    (read_at there most_bytes)
-    → IsRead (Ok file) there
-node_ok file None is = absurd (cc)
-node_ok file (Some node) is = by_bytes (λ (n : TreeNode). IsRead (Ok file) (Some n)) node
-    (λ folder. let no : ◌≡◌ {A = Result ReadPair DiskError} (Ok (file.stat, file.bytes.items))
-    (Err WrongNode) = is
-    ∙ read_same node None folder in absurd (cc))
-    (λ bytes some. file_ok file node.path bytes node.stamp (is ∙ read_same node (Some bytes) some))
-
-node_missing : (there : Option TreeNode)
-    → ◌≡◌ {A = Result ReadPair DiskError} (Err Missing) (read_at there most_bytes)
-    → IsRead (Err NoFolder) there
-node_missing None is = λ letters. refl
-node_missing (Some node) is = by_bytes (λ (n : TreeNode). IsRead (Err NoFolder) (Some n)) node
-    (λ folder. let no : ◌≡◌ {A = Result ReadPair DiskError} (Err Missing) (Err WrongNode) = is
-    ∙ read_same node None folder in absurd (cc))
-    (λ bytes some. by_length bytes (nat_lt most_bytes (length bytes))
-    (is ∙ read_same node (Some bytes) some))
-  where
-    by_length : (bytes : List ℕ) (t : Bool)
-        → ◌≡◌ {A = Result ReadPair DiskError} (Err Missing)
-        (if t then Err (Long (length bytes)) else Ok (stat_node (Some bytes) node.stamp, bytes))
-        → IsRead (Err NoFolder) (Some (plain_node node.path bytes node.stamp))
-    by_length bytes true is = absurd (cc)
-    by_length bytes false is = absurd (cc)
-
-node_wrong : (there : Option TreeNode)
-    → ◌≡◌ {A = Result ReadPair DiskError} (Err WrongNode) (read_at there most_bytes)
-    → IsRead (Err (NotMailbox 0)) there
-node_wrong None is = absurd (cc)
-node_wrong (Some node) is = by_bytes (λ (n : TreeNode). IsRead (Err (NotMailbox 0)) (Some n)) node
-    (λ folder letters. ap (file_refusal letters) folder)
-    (λ bytes some. by_length bytes (nat_lt most_bytes (length bytes))
-    (is ∙ read_same node (Some bytes) some))
-  where
-    by_length : (bytes : List ℕ) (t : Bool)
-        → ◌≡◌ {A = Result ReadPair DiskError} (Err WrongNode)
-        (if t then Err (Long (length bytes)) else Ok (stat_node (Some bytes) node.stamp, bytes))
-        → IsRead (Err (NotMailbox 0)) (Some (plain_node node.path bytes node.stamp))
-    by_length bytes true is = absurd (cc)
-    by_length bytes false is = absurd (cc)
-
-node_long : (size : ℕ) (there : Option TreeNode)
-    → ◌≡◌ {A = Result ReadPair DiskError} (Err (Long size)) (read_at there most_bytes)
-    → IsRead (Err (TooLarge size)) there
-node_long size None is = absurd (cc)
-node_long size (Some node) is =
-    by_bytes (λ (n : TreeNode). IsRead (Err (TooLarge size)) (Some n)) node
-    (λ folder. let no : ◌≡◌ {A = Result ReadPair DiskError} (Err (Long size)) (Err WrongNode) = is
-    ∙ read_same node None folder in absurd (cc))
-    (λ bytes some. by_length bytes (nat_lt most_bytes (length bytes)) refl
-    (is ∙ read_same node (Some bytes) some))
-  where
-    by_length : (bytes : List ℕ) (t : Bool) → nat_lt most_bytes (length bytes) ≡ t
-        → ◌≡◌ {A = Result ReadPair DiskError} (Err (Long size))
-        (if t then Err (Long (length bytes)) else Ok (stat_node (Some bytes) node.stamp, bytes))
-        → IsRead (Err (TooLarge size)) (Some (plain_node node.path bytes node.stamp))
-    by_length bytes true long is = let same : size ≡ length bytes = cc in
-        λ letters. ap
-        (λ (b : Bool). if b then Some (TooLarge (length bytes))
-        else bytes_refusal letters bytes) long
-        ∙ ap (λ (n : ℕ). Some (TooLarge n)) (sym same)
-    by_length bytes false long is = absurd (cc)
+-- the tree of each mark is the one of now while we only look and nobody else acts
+pub alone_at : (mark : ℕ) (old new : Past) → HasLooked old new → length old.journal ≤ mark
+    → NoForeign old new → tree_at new mark ≡ tree_after new
+alone_at mark old new looked from nobody =
+    tree_at-looked old new mark looked nobody from
+    ∙ sym (tree_after-looked old new looked nobody
+    (length_longer old new (looked_longer old new looked)))
 
 -- What the whole read has seen.
 
@@ -161,7 +77,8 @@ file_told : (answer : Result ReadPair DiskError) (result : Result FileRead ScanE
     → GoesOn (OneStep answer (ReadAll path most_bytes) (λ tree. read_of tree path most_bytes)) old
     new
     → LooksOnly old new
-    → ((there : Option TreeNode) → IsJudged answer (read_at there most_bytes) → IsRead result there)
+    → ((tree : List TreeNode) → IsJudged answer (read_of tree path most_bytes)
+    → IsRead result (node_at tree path))
     → GoesOn (FileSeen result path) old new
 file_told answer result path None new step looks tells = step
 file_told answer result path (Some past) None step looks tells = absurd step
@@ -173,10 +90,8 @@ file_told answer result path (Some past) (Some next) step looks tells =
       mark = met.mark;
       from = met.from;
       to = met.to;
-      is = tells (node_at (tree_at next met.mark) path) met.judged;
-      alone = λ nobody. tree_at-looked past next met.mark looks nobody met.from
-          ∙ sym (tree_after-looked past next looks nobody
-          (length_longer past next (looked_longer past next looks)));
+      is = tells (tree_at next met.mark) met.judged;
+      alone = alone_at met.mark past next looks met.from;
     }
 
 -- the call of the read
@@ -189,7 +104,8 @@ pub ok_seen : (file : FileRead) (path : List ℕ) (old new : Option Past)
     → LooksOnly old new → GoesOn (FileSeen (Ok file) path) old new
 ok_seen file path old new step looks =
     file_told (Ok (file.stat, file.bytes.items)) (Ok file) path old new step.goes looks
-    (λ there judged. node_ok file there judged)
+    (λ tree judged. let told = read_tells tree path most_bytes file judged in
+    file_of (node_at tree path) file.bytes.items file.stat.stamp told.0 told.1 told.2)
 
 called_as : (e f : DiskError) (path : List ℕ) (old new : Option Past) → e ≡ f
     → ReadCalled (Err e) path old new
@@ -203,7 +119,7 @@ pub missing_seen : (e : DiskError) (path : List ℕ) (old new : Option Past) →
 missing_seen e path old new is step looks =
     file_told (Err Missing) (Err NoFolder) path old new
     (called_as e Missing path old new is step).goes looks
-    (λ there judged. node_missing there judged)
+    (λ tree judged. read_missing tree path most_bytes judged)
 
 pub wrong_seen : (e : DiskError) (path : List ℕ) (old new : Option Past) → e ≡ WrongNode
     → ReadCalled (Err e) path old new
@@ -211,7 +127,8 @@ pub wrong_seen : (e : DiskError) (path : List ℕ) (old new : Option Past) → e
 wrong_seen e path old new is step looks =
     file_told (Err WrongNode) (Err (NotMailbox 0)) path old new
     (called_as e WrongNode path old new is step).goes looks
-    (λ there judged. node_wrong there judged)
+    (λ tree judged. wrong_refused (node_at tree path) (read_wrong tree path most_bytes judged)
+    (read_nothing tree path most_bytes WrongNode (inr refl) judged))
 
 pub long_seen : (e : DiskError) (size : ℕ) (path : List ℕ) (old new : Option Past) → e ≡ Long size
     → ReadCalled (Err e) path old new
@@ -219,7 +136,8 @@ pub long_seen : (e : DiskError) (size : ℕ) (path : List ℕ) (old new : Option
 long_seen e size path old new is step looks =
     file_told (Err (Long size)) (Err (TooLarge size)) path old new
     (called_as e (Long size) path old new is step).goes looks
-    (λ there judged. node_long size there judged)
+    (λ tree judged. let told = read_long tree path most_bytes size judged in
+    long_refused (node_at tree path) size told.1.0 told.1.1 told.1.2 told.0)
 
 pub fault_seen : (e : DiskError) (path : List ℕ) (old new : Option Past) → e ≡ Fault
     → ReadCalled (Err e) path old new
@@ -227,7 +145,7 @@ pub fault_seen : (e : DiskError) (path : List ℕ) (old new : Option Past) → e
 fault_seen e path old new is step looks =
     file_told (Err Fault) (Err FolderFault) path old new
     (called_as e Fault path old new is step).goes looks
-    (λ there judged. tt)
+    (λ tree judged. tt)
 
 -- for want of memory nothing was called
 pub memory_seen : (e : DiskError) (path : List ℕ) (old new : Option Past) → e ≡ NoMemory
@@ -244,10 +162,3 @@ memory_seen e path (Some past) (Some next) is step looks =
       is = tt;
       alone = λ nobody. tree_at-length next;
     }
-
--- what was seen at a path was seen at an equal one
-pub seen_at : (result : Result FileRead ScanError) (name path : List ℕ) (old new : Option Past)
-    → name ≡ path
-    → GoesOn (FileSeen result name) old new → GoesOn (FileSeen result path) old new
-seen_at result name path old new same told =
-    subst (λ (p : List ℕ). GoesOn (FileSeen result p) old new) same told

@@ -1,16 +1,21 @@
 //! The driver of mailboxes in one file.
 
-ghost use Rattle.std.specs.Prelude.{◌≡◌, length, map, take, IfOk, IfErr, OnErr};
+ghost use Rattle.std.specs.Prelude.{◌≡◌, ◌∷◌, [], ℕ, Some, None, length, map, take};
+ghost use Rattle.std.specs.Prelude.{IfOk, IfErr, IfNone, OnErr};
 ghost use Rattle.mail_base.specs.declared.kind.Kind.TheVariants.{Mbox};
 ghost use Rattle.folder_letters.specs.Letters.{plain_letter};
+ghost use Rattle.folder_core.specs.Keeping.{IsDifference, mails_of};
+ghost use Rattle.folder_core.specs.Limits.{count_refusal as spec_refusal};
+ghost use Rattle.folder_core.specs.Right.{Right};
 ghost use Rattle.folder_core.specs.Scanned.{Scans};
-ghost use Rattle.mbox_folder.specs.ListedFile.{IsUnlisted, ListsFile};
+ghost use Rattle.mbox_folder.specs.FileSeen.{bytes_now};
+ghost use Rattle.mbox_folder.specs.ListedFile.{FindsFile, IsNothing, IsUnlisted};
 
-use crate::listing::list_file;
-use crate::read::read_file;
+use crate::listing::{count_refusal, list_file};
+use crate::read::read_changed;
 use disk_model::{Device, Disk, FileRead};
-use folder_core::{Archive, Driver, Found, Known, Listing, ScanError};
-use mail_base::{Ids, Kind, Stamps};
+use folder_core::{Archive, Driver, Found, Known, Listing, ScanError, put_listing};
+use mail_base::{Ids, Kind, NoMemory, Stamps};
 use std::alloc::Global;
 
 /// Reads mailboxes in one file (mbox(5)).
@@ -41,17 +46,21 @@ impl Driver for MboxDriver {
     }
 }
 
-/// Reads a mailbox of which nothing is listed yet, as the driver's `scan`.
+// Reads a mailbox of which this is known, as the driver's `scan`.
 fn scan_file(
     alloc: Global,
     disk: &mut dyn Disk,
     known: &mut Known,
     archive: &mut Archive,
 ) -> Result<Found, ScanError>
+    requires { Right Mbox (map plain_letter archive.old.items) known.old (seen disk.old).told }
     ensures { Scans Mbox archive.old.items archive.new.items known.old known.new result
         (seen disk.old) (seen disk.new) }
 {
-    let file = read_file(alloc, disk, known.path())?;
+    let file = match read_changed(alloc, disk, known) {
+        Ok(file) => file,
+        Err(why) => return Err(why),
+    };
     let letters = archive.len();
     match list_known(alloc, file, known, archive) {
         Ok(found) => Ok(found),
@@ -62,34 +71,75 @@ fn scan_file(
     }
 }
 
-/// Lists a file that was read. After a refusal letters may stand behind those that were there.
+// Lists a file that was read, or that is as it is known. After a refusal letters may stand behind
+// those that were there.
 fn list_known(
+    alloc: Global,
+    file: Option<FileRead>,
+    known: &mut Known,
+    archive: &mut Archive,
+) -> Result<Found, ScanError>
+    requires right { Right Mbox (map plain_letter archive.old.items) known.old None }
+    requires kept { IfNone file ((stamp : ℕ) × (known.old.stamps ≡ stamp ∷ [])) }
+    ensures ok { IfOk result (FindsFile file (map plain_letter archive.old.items)
+        (map plain_letter archive.new.items) known.old known.new) }
+    ensures unknown { OnErr result (known.new ≡ known.old) }
+    ensures unlisted { IfErr result (IsUnlisted (bytes_now known.old file)
+        (mails_of (map plain_letter archive.old.items) known.old.listing)
+        (length archive.old.items)) }
+    ensures front { take (length archive.old.items) archive.new.items ≡ archive.old.items }
+{
+    match file {
+        Some(file) => list_read(alloc, file, known, archive),
+        None => find_nothing(alloc, archive.len(), known),
+    }
+}
+
+// Finds that nothing changed, where the messages may be listed beside so many letters.
+fn find_nothing(alloc: Global, letters: usize, known: &Known) -> Result<Found, ScanError>
+    ensures ok { IfOk result (λ found. spec_refusal letters 0 (length known.now.listing) ≡ None) }
+    ensures nothing { IfOk result IsNothing }
+    ensures refused { IfErr result (λ why. spec_refusal letters 0 (length known.now.listing)
+        ≡ Some why) }
+{
+    match count_refusal(letters, 0, known.listing().len()) {
+        Some(why) => Err(why),
+        None => Ok(Found {
+            gone: Ids::new(alloc),
+            came: Listing::new(alloc),
+            reflagged: Listing::new(alloc),
+        }),
+    }
+}
+
+// Lists a file that was read.
+fn list_read(
     alloc: Global,
     file: FileRead,
     known: &mut Known,
     archive: &mut Archive,
 ) -> Result<Found, ScanError>
-    ensures ok { IfOk result (λ found. ListsFile file (map plain_letter archive.old.items)
-        (map plain_letter archive.new.items) known.old known.new found) }
+    requires { Right Mbox (map plain_letter archive.old.items) known.old None }
+    ensures ok { IfOk result (FindsFile (Some file) (map plain_letter archive.old.items)
+        (map plain_letter archive.new.items) known.old known.new) }
     ensures unknown { OnErr result (known.new ≡ known.old) }
     ensures unlisted { IfErr result (IsUnlisted file.bytes.items
-        (length (map plain_letter archive.old.items))) }
+        (mails_of (map plain_letter archive.old.items) known.old.listing)
+        (length archive.old.items)) }
     ensures front { take (length archive.old.items) archive.new.items ≡ archive.old.items }
 {
-    let came = list_file(alloc, file.bytes.as_slice(), archive)?;
+    let letters = archive.len();
+    let old = known.listing().as_slice();
+    let listing = match list_file(alloc, file.bytes.as_slice(), old, archive) {
+        Ok(listing) => listing,
+        Err(why) => return Err(why),
+    };
     let mut stamps = Stamps::new(alloc);
     if stamps.push(file.stat.stamp).is_err() {
         return Err(ScanError::NoMemory);
     }
-    match came.as_slice().to_vec(alloc) {
-        Ok(listing) => {
-            known.put(Listing::from_vec(listing), file.bytes, stamps);
-            Ok(Found {
-                gone: Ids::new(alloc),
-                came,
-                reflagged: Listing::new(alloc),
-            })
-        }
-        Err(_) => Err(ScanError::NoMemory),
+    match put_listing(alloc, known, letters, listing, file.bytes, stamps) {
+        Ok(found) => Ok(found),
+        Err(NoMemory) => Err(ScanError::NoMemory),
     }
 }

@@ -1,12 +1,15 @@
 //! The letters of a mailbox, and their listing.
 
-ghost use Rattle.std.specs.Prelude.{◌≡◌, ◌≤◌, ◌+◌, ◌++◌, ◌^◌, ◌<◌, length, map, take, IfOk, IfErr};
+ghost use Rattle.std.specs.Prelude.{◌≡◌, ◌≤◌, ◌+◌, ◌++◌, ◌<◌, ℕ, length, map, take, IfOk, IfErr};
+ghost use Rattle.std.specs.List.{All};
 ghost use Rattle.folder_letters.specs.Letters.{plain_letter};
+ghost use Rattle.folder_core.specs.Keeping.{mails_of, same_flags as spec_same_flags, with_mail};
 ghost use Rattle.folder_core.specs.Limits.{count_refusal as count_refusal_lem, most_letters};
-ghost use Rattle.folder_core.specs.Mbox.{mbox_letter, raw_messages, received as received_lem};
-ghost use Rattle.folder_core.specs.Mbox.{core as spec_core, regions as regions_lem};
+ghost use Rattle.folder_core.specs.Mbox.{Cover, mbox_letter, received as received_lem};
+ghost use Rattle.folder_core.specs.Mbox.{core as spec_core};
 ghost use Rattle.folder_letters.specs.Moments.{IsClockMoment};
-ghost use Rattle.mbox_folder.specs.ListedFile.{IsListedFile, IsUnlisted, letters_from, listed_from};
+ghost use Rattle.mbox_folder.specs.ListedFile.{IsUnlisted, ListsFile, letters_from, listed_from};
+ghost use Rattle.mbox_folder.specs.ListedFile.{raws_in, stay_count, stays as spec_stays};
 
 use crate::message_core::read_message;
 use crate::postmark::read_postmark;
@@ -14,16 +17,24 @@ use crate::regions::{CutError, cut_regions};
 use folder_core::{
     Archive, Letter, Listed, Listing, MOST_LETTERS, MOST_MESSAGES, Region, ScanError,
 };
-use mail_base::{Bytes, Id, NoMemory, first_line};
+use mail_base::{Bytes, Flags, Id, NoMemory, first_line};
 use std::alloc::Global;
 
-/// Adds the letters of a file to an archive, and answers their listing. After a refusal letters may
-/// stand behind those that were there.
-pub fn list_file(alloc: Global, bytes: &[u8], archive: &mut Archive) -> Result<Listing, ScanError>
-    ensures listed { IfOk result (λ came. IsListedFile bytes.now
-        (map plain_letter archive.old.items)
-        (map plain_letter archive.new.items) came.items) }
-    ensures unlisted { IfErr result (IsUnlisted bytes.now (length archive.old.items)) }
+/// Lists the messages of a file: those at the front that stand as they are listed stay, the letters
+/// of the others are added to the archive. After a refusal letters may stand behind those that were
+/// there.
+pub fn list_file(
+    alloc: Global,
+    bytes: &[u8],
+    old: &[Listed],
+    archive: &mut Archive,
+) -> Result<Listing, ScanError>
+    requires within { All (λ listed. listed.id.0 < length archive.old.items) old.now }
+    ensures listed { IfOk result (λ listing. ListsFile bytes.now
+        (map plain_letter archive.old.items) (map plain_letter archive.new.items) old.now
+        listing.items) }
+    ensures unlisted { IfErr result (IsUnlisted bytes.now
+        (mails_of (map plain_letter archive.old.items) old.now) (length archive.old.items)) }
     ensures front { take (length archive.old.items) archive.new.items ≡ archive.old.items }
 {
     let regions = match cut_regions(alloc, bytes) {
@@ -31,60 +42,125 @@ pub fn list_file(alloc: Global, bytes: &[u8], archive: &mut Archive) -> Result<L
         Err(CutError::NotMailbox) => return Err(ScanError::NotMailbox(0)),
         Err(CutError::NoMemory) => return Err(ScanError::NoMemory),
     };
-    match count_refusal(archive.len(), regions.len()) {
+    let staying = match count_staying(alloc, bytes, regions.as_slice(), old, archive.as_slice()) {
+        Ok(staying) => staying,
+        Err(NoMemory) => return Err(ScanError::NoMemory),
+    };
+    match count_refusal(archive.len(), regions.len() - staying, regions.len()) {
         Some(why) => return Err(why),
         None => {}
     }
-    match list_messages(alloc, bytes, regions.as_slice(), archive) {
-        Ok(came) => Ok(came),
+    let (listed, fresh) = (&old[..staying], &regions.as_slice()[staying..]);
+    match list_messages(alloc, bytes, fresh, listed, archive) {
+        Ok(listing) => Ok(listing),
         Err(NoMemory) => Err(ScanError::NoMemory),
     }
 }
 
-/// Why so many messages are not listed beside an archive.
-fn count_refusal(letters: usize, count: usize) -> Option<ScanError>
-    ensures { result ≡ count_refusal_lem letters count }
+/// Why so many messages, of which so many are new, are not listed beside an archive.
+pub fn count_refusal(letters: usize, fresh: usize, count: usize) -> Option<ScanError>
+    requires { fresh ≤ count }
+    ensures { result ≡ count_refusal_lem letters fresh count }
 {
     if count > MOST_MESSAGES {
         return Some(ScanError::TooMany(count as u64));
     }
-    if letters > MOST_LETTERS - count {
+    if letters > MOST_LETTERS - fresh {
         return Some(ScanError::ArchiveFull);
     }
     None
 }
 
-/// Adds the letters of the messages to an archive, and answers their listing.
+// How many messages at the front stand as they are listed.
+fn count_staying(
+    alloc: Global,
+    bytes: &[u8],
+    regions: &[Region],
+    old: &[Listed],
+    letters: &[Letter],
+) -> Result<usize, NoMemory>
+    requires cover { (from : ℕ) × Cover from (length bytes.now) regions.now }
+    requires within { All (λ listed. listed.id.0 < length letters.now) old.now }
+    ensures count { IfOk result (λ count. count
+        ≡ stay_count (mails_of (map plain_letter letters.now) old.now)
+        (raws_in bytes.now regions.now)) }
+    ensures listed { IfOk result (λ count. count ≤ length old.now) }
+    ensures there { IfOk result (λ count. count ≤ length regions.now) }
+{
+    let mut listed = old;
+    let mut left = regions;
+    let mut count = 0;
+    while let [first, more @ ..] = listed {
+        let [region, rest @ ..] = left else {
+            return Ok(count);
+        };
+        if !stays(alloc, &bytes[region.start..region.end], *first, letters)? {
+            return Ok(count);
+        }
+        count += 1;
+        listed = more;
+        left = rest;
+    }
+    Ok(count)
+}
+
+// Whether a message stands as it is listed.
+fn stays(alloc: Global, raw: &[u8], listed: Listed, letters: &[Letter]) -> Result<bool, NoMemory>
+    requires { listed.id.0 < length letters.now }
+    ensures { IfOk result (λ same. same
+        ≡ spec_stays (with_mail (map plain_letter letters.now) listed) raw.now) }
+{
+    let (core, flags) = read_message(alloc, raw)?;
+    let known = letters[listed.id.0 as usize].core.as_slice();
+    Ok(known == core.as_slice() && same_flags(listed.flags, flags))
+}
+
+fn same_flags(flags: Flags, others: Flags) -> bool
+    ensures { result ≡ spec_same_flags flags others }
+{
+    flags.seen == others.seen
+        && flags.aged == others.aged
+        && flags.replied == others.replied
+        && flags.flagged == others.flagged
+        && flags.passed == others.passed
+        && flags.draft == others.draft
+        && flags.trashed == others.trashed
+}
+
+// Adds the letters of the messages to an archive, and answers their listing behind those that
+// stay listed.
 fn list_messages(
     alloc: Global,
     bytes: &[u8],
     regions: &[Region],
+    staying: &[Listed],
     archive: &mut Archive,
 ) -> Result<Listing, NoMemory>
-    requires cut { regions.now ≡ regions_lem bytes.now }
+    requires cover { (from : ℕ) × Cover from (length bytes.now) regions.now }
     requires few { length archive.old.items + length regions.now ≤ most_letters }
-    ensures letters { IfOk result (λ came. map plain_letter archive.new.items
+    ensures letters { IfOk result (λ listing. map plain_letter archive.new.items
         ≡ map plain_letter archive.old.items ++ letters_from (length archive.old.items)
-        (raw_messages bytes.now)) }
-    ensures listed { IfOk result (λ came. came.items ≡ listed_from (length archive.old.items)
-        (raw_messages bytes.now)) }
+        (raws_in bytes.now regions.now)) }
+    ensures listed { IfOk result (λ listing. listing.items
+        ≡ staying.now ++ listed_from (length archive.old.items)
+        (raws_in bytes.now regions.now)) }
     ensures front { take (length archive.old.items) archive.new.items ≡ archive.old.items }
 {
-    let mut came = Listing::new(alloc);
-    came.reserve(regions.len())?;
+    let mut listing = Listing::from_vec(staying.to_vec(alloc)?);
+    listing.reserve(regions.len())?;
     let mut left = regions;
     while let [region, rest @ ..] = left {
         let raw = &bytes[region.start..region.end];
         let id = archive.len() as u32;
         let (core, flags) = read_message(alloc, raw)?;
-        came.push(Listed { id: Id(id), flags })?;
+        listing.push(Listed { id: Id(id), flags })?;
         archive.push(letter_of(alloc, core, raw, id))?;
         left = rest;
     }
-    Ok(came)
+    Ok(listing)
 }
 
-/// The letter of a message, of which that stays.
+// The letter of a message, of which that stays.
 fn letter_of(alloc: Global, core: Bytes, raw: &[u8], id: u32) -> Letter
     requires { core.items ≡ spec_core raw.now }
     ensures { plain_letter result ≡ mbox_letter id raw.now }
@@ -98,7 +174,7 @@ fn letter_of(alloc: Global, core: Bytes, raw: &[u8], id: u32) -> Letter
     }
 }
 
-/// The moment of a message's postmark, or 0 where it has none.
+// The moment of a message's postmark, or 0 where it has none.
 fn received(raw: &[u8]) -> i64
     ensures value { result ≡ received_lem raw.now }
     ensures range { IsClockMoment result }

@@ -1,4 +1,4 @@
-use Rattle.std.proofs.Common.{◌≡◌, ◌++◌, ◌≤◌, ◌∷◌, [], ℕ, Bool, true, false, not, List, length, map}
+use Rattle.std.proofs.Common.{◌≡◌, ◌++◌, ◌≤◌, ◌∷◌, [], ℕ, Bool, true, false, List, length, map}
 use Rattle.std.proofs.Common.{ap, sym, ◌∙◌, subst, refl, slice_index_or, append_assoc}
 use Rattle.std.proofs.Common.{if◌then◌else◌}
 use Rattle.std.specs.List.{filter}

@@ -3,35 +3,31 @@ use Rattle.std.proofs.Common.{ap, arith, append-nil, slice_index_or, take_all}
 use Rattle.folder_core.specs.declared.region.Region.{Region}
 use Rattle.folder_letters.specs.declared.listing.Listed.{Listed}
 use Rattle.folder_letters.specs.Letters.{Mail, plain_letter}
-use Rattle.folder_core.specs.Mbox.{Cover, raw_messages, regions}
-use Rattle.mbox_folder.specs.ListedFile.{letters_from, listed_from}
-use Rattle.folder_core.proofs.Messages.{in_region, map-regions, Cover-le, Cover-same}
+use Rattle.folder_core.specs.Mbox.{Cover}
+use Rattle.mbox_folder.specs.ListedFile.{letters_from, listed_from, raws_in}
+use Rattle.folder_core.proofs.Messages.{Cover-le}
 use Rattle.mbox_folder.proofs.listing.list_messages.Goals as goal
 
 pub loop-left-init : goal.loop-left-init
 loop-left-init c = record {
-  cover = (0, Cover-same c.args.bytes.now c.args.regions.now c.requires.cut);
+  cover = c.requires.cover;
   letters = refl;
-  listed = ap (λ (came : List Listed). came ++ listed_from (length c.args.archive.now.items)
-      (map (in_region c.args.bytes.now) c.args.regions.now))
-      (c.in_ok-reserve.ensures.items ∙ c.new-came.ensures);
+  listed = ap (λ (l : List Listed). l ++ listed_from (length c.args.archive.now.items)
+      (raws_in c.args.bytes.now c.args.regions.now))
+      (c.in_ok-reserve.ensures.items ∙ c.from_vec-listing.ensures
+      ∙ c.in_ok-to_vec.ensures.items_if_clones_equal (λ x y same. same));
   few = refl;
   front = take_all (length c.args.archive.now.items) c.args.archive.now.items (omega arith);
 }
 
--- the messages are those of the regions
-whole : (bytes : List ℕ) (items : List Region) → items ≡ regions bytes
-    → map (in_region bytes) items ≡ raw_messages bytes
-whole bytes items same = ap (map (in_region bytes)) same ∙ map-regions bytes
-
 no_letters : (items : List Mail) (id : ℕ) (bytes : List ℕ) (left : List Region) → length left < 1
-    → items ++ letters_from id (map (in_region bytes) left) ≡ items
+    → items ++ letters_from id (raws_in bytes left) ≡ items
 no_letters items id bytes [] none = append-nil items
 no_letters items id bytes (region ∷ left) none = absurd (omega arith)
 
 nothing_listed : (items : List Listed) (id : ℕ) (bytes : List ℕ) (left : List Region)
     → length left < 1
-    → items ++ listed_from id (map (in_region bytes) left) ≡ items
+    → items ++ listed_from id (raws_in bytes left) ≡ items
 nothing_listed items id bytes [] none = append-nil items
 nothing_listed items id bytes (region ∷ left) none = absurd (omega arith)
 
@@ -41,18 +37,14 @@ returns-clause-letters c =
     c.args.bytes.now
     c.loop-left.left.now c.in_default.len_below)
     ∙ c.loop-left.invariant.letters
-    ∙ ap (λ raws. map plain_letter c.args.archive.now.items
-    ++ letters_from (length c.args.archive.now.items) raws)
-    (whole c.args.bytes.now c.args.regions.now c.requires.cut)
 
 pub returns-clause-listed : goal.returns-clause-listed
 returns-clause-listed c =
-    sym (nothing_listed c.loop-left.came.items (length c.loop-left.archive.items) c.args.bytes.now
+    sym (nothing_listed c.loop-left.listing.items
+    (length c.loop-left.archive.items) c.args.bytes.now
     c.loop-left.left.now
     c.in_default.len_below)
     ∙ c.loop-left.invariant.listed
-    ∙ ap (λ raws. listed_from (length c.args.archive.now.items) raws)
-    (whole c.args.bytes.now c.args.regions.now c.requires.cut)
 
 -- the first region ends in the file
 first_ends : (end : ℕ) (left : List Region) → 1 ≤ length left → ((from : ℕ) × Cover from end left)

@@ -1,4 +1,5 @@
-use Rattle.std.proofs.Common.{Ok, Err, ap, false, inl, inr, is_some, refl, true}
+use Rattle.std.proofs.Common.{Ok, Err, ap, arith, false, inl, inr, is_some, le-ltb, length, refl}
+use Rattle.std.proofs.Common.{true}
 use Rattle.disk_model.specs.Tree.{node_at}
 use Rattle.disk_model.specs.declared.answers.DiskError.TheVariants.{Missing, WrongNode, Long}
 use Rattle.folder_core.specs.Limits.{most_bytes}
@@ -7,13 +8,13 @@ use Rattle.folder_core.specs.declared.error.ScanError.TheVariants.{NoMemory}
 use Rattle.folder_core.proofs.FirstLookLemmas.{bytes_stand, found_err, found_fault, found_no_room}
 use Rattle.folder_core.proofs.FirstLookLemmas.{found_ok, tells_failed, tells_missing, tells_there}
 use Rattle.folder_core.proofs.LookedLemmas.{read_long, read_missing, read_tells, read_wrong}
-use Rattle.mbox_folder.proofs.Reading.{ok_seen, missing_seen, wrong_seen, long_seen}
-use Rattle.mbox_folder.proofs.Reading.{fault_seen, memory_seen}
+use Rattle.mbox_folder.proofs.Reading.{ok_seen, missing_seen, wrong_seen, long_seen, fault_seen}
+use Rattle.mbox_folder.proofs.Reading.{memory_seen}
 use Rattle.mbox_folder.proofs.read.read_file.Goals as goal
 
 pub returns-in-Ok-clause-seen : goal.returns-in-Ok-clause-seen
 returns-in-Ok-clause-seen g c =
-    ok_seen _ c.args.path.now _ _ c.in-Ok.ensures.0.called c.read_all.ensures.1.0
+    ok_seen c.in-Ok.file c.args.path.now _ _ c.in-Ok.ensures.0.called c.read_all.ensures.1.0
 
 pub returns-in-Err-Missing-clause-seen : goal.returns-in-Err-Missing-clause-seen
 returns-in-Err-Missing-clause-seen g c =
@@ -84,3 +85,8 @@ returns-in-Err-NoMemory-clause-first g c =
     tells_failed _ NoMemory c.args.path.now _ _ (inr refl)
     (found_no_room c.args.path.now c.in-Err-NoMemory.field-0 c.in-Err-NoMemory.field-0-is
     c.in-Err-NoMemory.ensures.0)
+
+pub returns-in-Ok-clause-possible : goal.returns-in-Ok-clause-possible
+returns-in-Ok-clause-possible g c =
+    let whole = c.in-Ok.ensures.1.1 in
+    le-ltb most_bytes (length c.in-Ok.file.bytes.items) (omega (arith, whole.length, whole.within))
