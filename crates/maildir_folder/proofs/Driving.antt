@@ -174,7 +174,8 @@ seen_messages path cur new files keeps messages stamps p q r first next order or
       alone = λ alone.
           let none : NoForeign p r = alone_foreign p r alone in
           still_reads (tree_at r (length r.journal)) path cur new files keeps messages order
-          (subst (λ (t : List TreeNode). is_folder_at t path ≡ true) (now none folder.mark folder.from)
+          (subst (λ (t : List TreeNode). is_folder_at t path ≡ true)
+          (now none folder.mark folder.from)
           folder.tells)
           (subst (λ (t : List TreeNode). (new ≡ names_in t (directory false path))
           × (file_at t (directory false path) ≡ None)) (now none news.mark news.from) news.tells)

@@ -12,7 +12,8 @@ use Rattle.folder_letters.specs.declared.listing.Listed.{Listed}
 
 -- where a letter stands to a base with this number
 abbrev pub base_cmp : Mail → ℕ → List ℕ → Ordering
-base_cmp mail order base = ordering_then (nat_cmp mail.order order) (slice_cmp nat_cmp mail.key base)
+base_cmp mail order base =
+    ordering_then (nat_cmp mail.order order) (slice_cmp nat_cmp mail.key base)
 
 -- the letters of a listing are there, in the order of their bases
 pub record CanSearch (mails : List Mail) (listing : List Listed) : Type 0 where

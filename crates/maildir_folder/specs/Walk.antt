@@ -33,7 +33,8 @@ FileTold path file keep (Some raw) tree =
 
 -- a file was looked for
 abbrev pub SawFile : List ℕ → MaildirFile → Option ℕ → Option (List ℕ) → Past → Past → Type 0
-SawFile path file keep found old new = (call : Call) × SawAt call (FileTold path file keep found) old
+SawFile path file keep found old new =
+    (call : Call) × SawAt call (FileTold path file keep found) old
     new
 
 -- whether a file was there
@@ -65,7 +66,8 @@ pub record Takes (mails : List Mail) (path : List ℕ) (file : MaildirFile) (kee
   pub saw : GoesOn (SawFile path file keep found) old.told new.told
 
 -- a file is not looked for where a message with its base was taken already
-abbrev pub NextSeen : Bool → List ℕ → MaildirFile → Option ℕ → Option (List ℕ) → Past → Past → Type 0
+abbrev pub NextSeen : Bool → List ℕ → MaildirFile → Option ℕ → Option (List ℕ) → Past → Past
+    → Type 0
 NextSeen true path file keep found old new = found ≡ None
 NextSeen false path file keep found old new = SawFile path file keep found old new
 

@@ -34,7 +34,7 @@ use Rattle.folder_core.proofs.FirstLookLemmas.{first_as, stat_stands, stood_firs
 use Rattle.folder_core.proofs.FirstLookLemmas.{tells_failed, tells_missing, tells_there}
 use Rattle.folder_core.proofs.SeenLemmas.{goes_as, longer_later, only_then, rose_later, saw_later}
 use Rattle.folder_core.proofs.RightLemmas.{bore_later}
-use Rattle.mbox_folder.proofs.FileStamps.{same_stamp}
+use Rattle.folder_core.proofs.FileStamps.{same_stamp}
 use Rattle.folder_letters.specs.Letters.{Mail}
 use Rattle.mbox_folder.specs.FileSeen.{ChangeSeen, FileSeen, IsFile, IsFileAnswer, IsRead}
 use Rattle.mbox_folder.specs.FileSeen.{IsFileError, MeetsFile, SeenThere, TellsChange, WasSo}

@@ -1,7 +1,5 @@
 pub mod Changing
 pub mod Driving
-pub mod FileStamps
-pub mod LaterStates
 pub mod MessageLemmas
 pub mod PostmarkLemmas
 pub mod Reading

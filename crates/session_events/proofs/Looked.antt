@@ -52,13 +52,15 @@ found_past empty kind path archive known new_known found came old mid new none a
       scan = length mid.journal;
       from = longer_later old mid first;
       to = longer_later mid new next;
-      kind_is = kind_later (Ok kind) empty path (length old.journal) (length mid.journal) mid new next
+      kind_is = kind_later (Ok kind) empty path (length old.journal) (length mid.journal) mid new
+          next
           (omega arith)
           seen;
       known = new_known;
       at = at;
       listed = listed;
-      found = subst (λ (k : KnownFolder). Saw kind [] archive k new_known (Ok found) mid new) none saw;
+      found = subst (λ (k : KnownFolder). Saw kind [] archive k new_known (Ok found) mid new)
+          none saw;
     }
 
 pub found_told : (empty : Kind) (kind : Kind) (path : List ℕ) {before : List Mail}

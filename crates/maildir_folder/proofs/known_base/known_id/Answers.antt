@@ -1,4 +1,5 @@
-use Rattle.std.proofs.Common.{◌≡◌, ◌≤◌, ◌-◌, ◌++◌, ◌∷◌, ◌∙◌, ℕ, false, List, ap, drop, length, map, refl, sym, take}
+use Rattle.std.proofs.Common.{◌≡◌, ◌≤◌, ◌-◌, ◌++◌, ◌∷◌, ◌∙◌, ℕ, false, List, ap, drop, length, map}
+use Rattle.std.proofs.Common.{refl, sym, take}
 use Rattle.std.proofs.Common.{slice_index_or}
 use Rattle.std.proofs.lemmas.List.{take-append-drop}
 use Rattle.folder_core.proofs.SeenLemmas.{first_and_rest}

@@ -18,7 +18,8 @@ core_size-size-requires g c =
 
 pub returns-in-Ok-clause-taken : goal.returns-in-Ok-clause-taken
 returns-in-Ok-clause-taken g c =
-    took_known c.path.result.now c.args.known.now.path (plain_file c.args.file.now) c.args.archive.now.items _
+    took_known c.path.result.now c.args.known.now.path (plain_file c.args.file.now)
+    c.args.archive.now.items _
     c.in-Some.id.0 c.core_size-size.result c.in-Ok.kept c.args.so_far.now c.keep.new.so_far _ _
     c.path.ensures
     (found_id c.args.archive.now.items c.as_slice.result.now c.args.known.now

@@ -13,7 +13,7 @@ use Rattle.disk_model.proofs.Trees.{node_at-tree_of, node_by}
 use Rattle.folder_core.specs.Bore.{Bore}
 use Rattle.folder_core.specs.Directory.{node_file, stamp_there}
 use Rattle.std.specs.Prelude.{option_and_then}
-use Rattle.mbox_folder.proofs.LaterStates.{Later, later_entries, stamps_tell}
+use Rattle.folder_core.proofs.LaterStates.{Later, later_entries, stamps_tell}
 
 -- The files of one state.
 
