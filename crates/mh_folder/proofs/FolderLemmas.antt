@@ -117,7 +117,7 @@ pub no_memory : {A : Type 0} {Sees : A → Option Past → Option Past → Type 
     → RaisesAtMost a.bytes_read b.bytes_read 0 → Finds path (Err NoMemory) Sees a b
 no_memory {A} path a b before there reads = record {
   saw = tt;
-  refused = λ letters. goes_as a.told b.told (λ p q x. tt) before.looks;
+  refused = λ archive known. goes_as a.told b.told (λ p q x. tt) before.looks;
   never_full = λ is. absurd (cc);
   first = tells_there {A = A} (Err NoMemory) path a.told b.told (λ e. (cc)) there;
   only = before;

@@ -7,6 +7,11 @@ pub mod MembersLemmas
 pub mod WrittenLemmas
 pub mod MarksLemmas
 pub mod NumberedNameLemmas
+pub mod KnownFileLemmas
+pub mod StoreLemmas
+pub mod TakeLemmas
+pub mod LookLemmas
 pub mod WalkLemmas
 pub mod FolderLemmas
 pub mod DriverLemmas
+pub mod StampsLemmas

@@ -1,49 +1,47 @@
 -- What a walk over names in order has seen.
-use Rattle.std.proofs.Common.{◌≡◌, ◌≤◌, ◌<◌, ◌-◌, ◌+◌, ◌++◌, ◌⊎◌, inl, inr, ℕ, Bool, true, false}
+use Rattle.std.proofs.Common.{◌≡◌, ◌≤◌, ◌++◌, ◌⊎◌, inl, inr, ℕ, Bool, true}
+use Rattle.std.proofs.Common.{false}
 use Rattle.std.proofs.Common.{List, [], ◌∷◌, Option}
-use Rattle.std.proofs.Common.{Some, None, length, is_none, is_some, refl, sym, ◌∙◌, ap, subst}
+use Rattle.std.proofs.Common.{Some, None, length, is_some, refl, sym, ◌∙◌, ap, subst}
 use Rattle.std.proofs.Common.{arith}
-use Rattle.std.proofs.Common.{append_assoc, append-nil}
-use Rattle.std.specs.Prelude.{option_and_then, unwrap_or}
+use Rattle.std.proofs.Common.{append_assoc, append-nil, length-append}
+use Rattle.std.specs.Prelude.{IfSome, option_and_then}
 use Rattle.std.specs.Cmp.Lexicographic.{slice_cmp}
 use Rattle.std.specs.List.{cons_option, filter_map}
 use Rattle.std.specs.Ordering.{is_lt, nat_cmp, ordering_then}
 use Rattle.std.specs.List.{All}
 use Rattle.std.proofs.lemmas.List.Elements.{All-head, All-same}
-use Rattle.mail_base.specs.declared.flags.Flags.{Flags}
-use Rattle.disk_model.specs.Journal.{Past, ReadAll}
+use Rattle.disk_model.specs.Journal.{Past}
 use Rattle.disk_model.specs.Judge.{GoesOn}
 use Rattle.disk_model.specs.Looking.{HasLooked, LooksOnly}
 use Rattle.disk_model.specs.State.{tree_at}
 use Rattle.disk_model.specs.Tree.{TreeNode, node_at}
-use Rattle.disk_model.specs.declared.answers.FileRead.{FileRead}
 use Rattle.disk_model.proofs.Looking.{looked_longer}
 use Rattle.disk_model.proofs.Marks.{tree_at-longer}
-use Rattle.folder_core.specs.Directory.{file_at, path_in}
+use Rattle.folder_core.specs.Directory.{file_at, path_in, stamp_there}
+use Rattle.folder_core.specs.Keeping.{AreThere, IsThere, KeepCores, kept_by_stamp, mail_of}
+use Rattle.folder_core.specs.Keeping.{ListedMail, stamped}
 use Rattle.folder_letters.specs.Letters.{Mail}
-use Rattle.folder_core.specs.Limits.{list_refusal, most_bytes, sum_refusal, told_sum}
-use Rattle.folder_core.specs.ListedSoFar.{Holds, store_with}
-use Rattle.folder_core.specs.Looked.{FileSeen, IsContent, FitsLimit, IsTreeOfAll, SawAt}
-use Rattle.folder_core.specs.Message.{Message, are_in_order, has_key, stands_before}
+use Rattle.folder_core.specs.Limits.{list_refusal}
+use Rattle.folder_core.specs.ListedSoFar.{Holds, Store, store_found}
+use Rattle.folder_core.specs.Looked.{IsTreeOfAll}
+use Rattle.folder_core.specs.Message.{ArePlaced, Message, are_in_order, has_key, stands_before}
 use Rattle.folder_core.specs.Mh.{AllStood, StaysThere, Stood, is_number, message_at, message_of}
 use Rattle.folder_core.specs.Mh.{mh_format}
-use Rattle.folder_core.specs.Mh.{number_at, stamp_there}
+use Rattle.folder_core.specs.Mh.{number_at}
 use Rattle.folder_core.specs.MhNumbers.{number_of}
-use Rattle.folder_core.specs.MhSequences.{mh_flags}
 use Rattle.mail_base.specs.Ordered.{IsIn}
-use Rattle.folder_core.specs.declared.looks.Content.{Content}
-use Rattle.folder_core.specs.declared.looks.Content.TheVariants.{NoFile, TooLong, Whole}
 use Rattle.folder_core.proofs.ListedSoFarLemmas.{fewer_none, held_refusal, holds_first, holds_found}
-use Rattle.folder_core.proofs.ListedSoFarLemmas.{long_past, long_seen}
-use Rattle.folder_core.proofs.ListedSoFarLemmas.{long_stored, messages_with, none_seen, too_large}
-use Rattle.folder_core.proofs.ListedSoFarLemmas.{whole_seen}
+use Rattle.folder_core.proofs.ListedSoFarLemmas.{keeps_with, messages_with}
 use Rattle.folder_core.proofs.MessageLemmas.{key_last, key_more, order_more}
 use Rattle.folder_core.proofs.SeenLemmas.{goes_as, goes_then, longer_later, tree_before}
 use Rattle.mh_folder.specs.NumberedName.{IsNumbered, Rises, plain_names}
-use Rattle.mh_folder.specs.Walk.{Adds, IsNothing, IsWalked, Keeps, Kept, MessageMet, Takes, mail_of}
-use Rattle.mh_folder.specs.Walk.{stamps_with}
+use Rattle.mh_folder.specs.Visit.{Course, old_mails}
+use Rattle.mh_folder.specs.Walk.{AreKept, Finding, IsFile, IsNothing, IsStored, IsWalked}
+use Rattle.mh_folder.specs.Walk.{Keeps, Kept, MessageMet, Nearly, Takes, stamps_with}
 use Rattle.mh_folder.specs.declared.numbered_name.NumberedName.{NumberedName}
 use Rattle.mh_folder.proofs.NumberedNameLemmas.{Stands, rises_first, rises_skipped}
+use Rattle.mh_folder.proofs.StoreLemmas.{nearly_found, nearly_refusal, nearly_same, nearly_then}
 
 true_false : ◌≡◌ {A = Bool} true false → ⊥
 true_false e = cc
@@ -55,30 +53,25 @@ pub record Named (name : List ℕ) (message : Message) : Type 0 where
   pub key : message.key ≡ name
   pub order : message.order ≡ number_at name
 
-made_named : (sequences name : List ℕ) (bytes : Option (List ℕ)) (message : Message)
-    → option_and_then (message_of sequences name) bytes ≡ Some message → Named name message
-made_named sequences name None message is = absurd (cc)
-made_named sequences name (Some []) message is = absurd (cc)
-made_named sequences name (Some (b ∷ raw)) message is =
-    let e : record {
-      order = number_at name;
-      key = name;
-      flags = mh_flags sequences (number_at name);
-      raw = b ∷ raw;
-    } ≡ message = cc in
-    record {
-      key = sym (ap (λ (m : Message). m.key) e);
-      order = sym
-          (ap (λ (m : Message). m.order) e);
-    }
-
 -- whether there is a message hangs on the file alone
-same_there : (some other name : List ℕ) (bytes : Option (List ℕ))
+pub same_there : (some other name : List ℕ) (bytes : Option (List ℕ))
     → is_some (option_and_then (message_of some name) bytes) ≡ is_some
     (option_and_then (message_of other name) bytes)
 same_there some other name None = refl
 same_there some other name (Some []) = refl
 same_there some other name (Some (b ∷ raw)) = refl
+
+-- a message that stands there is one of these
+pub record SomeThere (keep : Option ℕ) (message : Message) (there : Option Message) : Type 0 where
+  pub other : Message
+  pub is : there ≡ Some other
+  pub alike : IsThere keep message (Some other)
+
+some_there : (keep : Option ℕ) (message : Message) (there : Option Message)
+    → IsThere keep message there → SomeThere keep message there
+some_there None message there is = record { other = message; is = is; alike = refl }
+some_there (Some id) message there is =
+    record { other = record message { raw = is.0 }; is = is.1; alike = (is.0, refl) }
 
 -- The messages so far.
 
@@ -108,51 +101,115 @@ next_in_order (Some last) name messages message is stands named ordered =
 
 -- one relation of messages and stamps for another
 pub stood_as : (path sequences other : List ℕ) (m n k l : ℕ) (past new : Past)
-    (messages : List Message)
-    (stamps : List ℕ)
-    → ((message : Message) (stamp : ℕ) → Stood path sequences m n past message stamp
-    → Stood path other k l new message stamp)
-    → AllStood path sequences m n past messages stamps → AllStood path other k l new messages stamps
-stood_as path sequences other m n k l past new [] stamps by stood = stood
-stood_as path sequences other m n k l past new (message ∷ messages) [] by stood = absurd stood
-stood_as path sequences other m n k l past new (message ∷ messages) (stamp ∷ stamps) by stood = (
-  by message stamp stood.0,
-  stood_as path sequences other m n k l past new messages stamps by
-      stood.1,
-)
+    (keeps : List (Option ℕ)) (messages : List Message) (stamps : List ℕ)
+    → ((keep : Option ℕ) (message : Message) (stamp : ℕ)
+    → Stood path sequences m n past keep message stamp
+    → Stood path other k l new keep message stamp)
+    → AllStood path sequences m n past keeps messages stamps
+    → AllStood path other k l new keeps messages stamps
+stood_as path sequences other m n k l past new [] [] stamps by stood = stood
+stood_as path sequences other m n k l past new [] (message ∷ messages) stamps by stood =
+    absurd stood
+stood_as path sequences other m n k l past new (keep ∷ keeps) [] stamps by stood = absurd stood
+stood_as path sequences other m n k l past new (keep ∷ keeps) (message ∷ messages) [] by stood =
+    absurd stood
+stood_as path sequences other m n k l past new (keep ∷ keeps) (message ∷ messages)
+    (stamp ∷ stamps) by stood = (
+      by keep message stamp stood.0,
+      stood_as path sequences other m n k l past new keeps messages stamps by stood.1,
+    )
 
-stood_more : (path sequences : List ℕ) (m n : ℕ) (past : Past) (messages : List Message)
-    (stamps : List ℕ)
-    (message : Message) (stamp : ℕ) → AllStood path sequences m n past messages stamps
-    → Stood path sequences m n past message stamp
-    → AllStood path sequences m n past (messages ++ message ∷ []) (stamps ++ stamp ∷ [])
-stood_more path sequences m n past [] [] message stamp all one = (one, refl)
-stood_more path sequences m n past [] (other ∷ stamps) message stamp all one = absurd (cc)
-stood_more path sequences m n past (first ∷ messages) [] message stamp all one = absurd all
-stood_more path sequences m n past (first ∷ messages) (other ∷ stamps) message stamp all one =
-    (all.0, stood_more path sequences m n past messages stamps message stamp all.1 one)
+stood_more : (path sequences : List ℕ) (m n : ℕ) (past : Past) (keeps : List (Option ℕ))
+    (messages : List Message) (stamps : List ℕ) (keep : Option ℕ) (message : Message) (stamp : ℕ)
+    → AllStood path sequences m n past keeps messages stamps
+    → Stood path sequences m n past keep message stamp
+    → AllStood path sequences m n past (keeps ++ keep ∷ []) (messages ++ message ∷ [])
+    (stamps ++ stamp ∷ [])
+stood_more path sequences m n past [] [] [] keep message stamp all one = (one, refl)
+stood_more path sequences m n past [] [] (other ∷ stamps) keep message stamp all one =
+    absurd (cc)
+stood_more path sequences m n past [] (first ∷ messages) stamps keep message stamp all one =
+    absurd all
+stood_more path sequences m n past (k ∷ keeps) [] stamps keep message stamp all one = absurd all
+stood_more path sequences m n past (k ∷ keeps) (first ∷ messages) [] keep message stamp all one =
+    absurd all
+stood_more path sequences m n past (k ∷ keeps) (first ∷ messages) (other ∷ stamps) keep message
+    stamp all one =
+    (all.0, stood_more path sequences m n past keeps messages stamps keep message stamp all.1 one)
 
--- the names of the walk, those that are left, and what was seen of the others
-pub record SoFar (path sequences : List ℕ) (names left : List (List ℕ)) (last : Option (List ℕ))
-    (messages : List Message) (stamps : List ℕ) (old new : Past) : Type 0 where
-  pub stood : AllStood path sequences (length old.journal) (length new.journal) new messages stamps
-  pub in_order : are_in_order messages ≡ true
-  pub at_last : IsLast last messages
+there_more : (keeps : List (Option ℕ)) (messages there : List Message) (keep : Option ℕ)
+    (message other : Message) → AreThere keeps messages there → IsThere keep message (Some other)
+    → AreThere (keeps ++ keep ∷ []) (messages ++ message ∷ []) (there ++ other ∷ [])
+there_more [] [] [] keep message other all one = (one, tt)
+there_more [] [] (t ∷ there) keep message other all one = absurd all
+there_more [] (first ∷ messages) there keep message other all one = absurd all
+there_more (k ∷ keeps) [] there keep message other all one = absurd all
+there_more (k ∷ keeps) (first ∷ messages) [] keep message other all one = absurd all
+there_more (k ∷ keeps) (first ∷ messages) (t ∷ there) keep message other all one =
+    (all.0, there_more keeps messages there keep message other all.1 one)
+
+keeps_more : (old : List ListedMail) (known : List ℕ) (messages : List Message) (stamps : List ℕ)
+    (message : Message) (stamp : ℕ) → length stamps ≡ length messages
+    → kept_by_stamp old known (messages ++ message ∷ []) (stamps ++ stamp ∷ [])
+    ≡ kept_by_stamp old known messages stamps ++ stamped old known message.key stamp ∷ []
+keeps_more old known [] [] message stamp even = refl
+keeps_more old known [] (s ∷ stamps) message stamp even = absurd (omega (arith, even))
+keeps_more old known (first ∷ messages) [] message stamp even = absurd (omega (arith, even))
+keeps_more old known (first ∷ messages) (s ∷ stamps) message stamp even =
+    ap (λ (l : List (Option ℕ)). stamped old known first.key s ∷ l)
+    (keeps_more old known messages stamps message stamp (omega (arith, even)))
+
+-- what stays of one message is what its letter holds, where it is known
+abbrev pub KeepsCore : List Mail → Option ℕ → Message → Type 0
+KeepsCore mails keep message = IfSome keep (λ id. (mail_of mails id).core ≡ message.raw)
+
+cores_last : (mails : List Mail) (keep : Option ℕ) (message : Message)
+    → KeepsCore mails keep message → KeepCores (λ raw. raw) mails (keep ∷ []) (message ∷ [])
+cores_last mails None message one = tt
+cores_last mails (Some id) message one = (one, tt)
+
+cores_more : (mails : List Mail) (keeps : List (Option ℕ)) (messages : List Message)
+    (keep : Option ℕ) (message : Message) → KeepCores (λ raw. raw) mails keeps messages
+    → KeepsCore mails keep message
+    → KeepCores (λ raw. raw) mails (keeps ++ keep ∷ []) (messages ++ message ∷ [])
+cores_more mails [] [] keep message all one = cores_last mails keep message one
+cores_more mails [] (first ∷ messages) keep message all one = absurd all
+cores_more mails (k ∷ keeps) [] keep message all one = absurd all
+cores_more mails (None ∷ keeps) (first ∷ messages) keep message all one =
+    cores_more mails keeps messages keep message all one
+cores_more mails (Some id ∷ keeps) (first ∷ messages) keep message all one =
+    (all.0, cores_more mails keeps messages keep message all.1 one)
+
+placed_more : (messages : List Message) (message : Message) → ArePlaced number_at messages
+    → message.order ≡ number_at message.key → ArePlaced number_at (messages ++ message ∷ [])
+placed_more [] message all one = (one, tt)
+placed_more (first ∷ messages) message all one =
+    (all.0, placed_more messages message all.1 one)
+
+-- The names of the walk, those that are left, and what was seen of the others: the messages that
+-- were found, and those of a tree that does not change.
+pub record SoFar (course : Course) (names left : List (List ℕ)) (found : Finding)
+    (old new : Past) : Type 0 where
+  pub stood : AllStood course.path course.sequences (length old.journal) (length new.journal) new
+      found.keeps found.messages found.stamps
   pub kept : (name : List ℕ) → IsIn name names
-      → StaysThere path name (length old.journal) (length new.journal) new
-      → (has_key name messages ≡ true) ⊎ IsIn name left
+      → StaysThere course.path name (length old.journal) (length new.journal) new
+      → (has_key name found.messages ≡ true) ⊎ IsIn name left
   pub still : (tree : List TreeNode) → IsTreeOfAll tree old new
-      → messages ++ filter_map (message_at tree path sequences) left ≡ filter_map
-      (message_at tree path sequences) names
+      → (there : List Message) × (AreThere found.keeps found.messages there
+      × (there ++ filter_map (message_at tree course.path course.sequences) left
+      ≡ filter_map (message_at tree course.path course.sequences) names))
 
-so_far_first : (path sequences : List ℕ) (names : List (List ℕ)) (past : Past)
-    → SoFar path sequences names names None [] [] past past
-so_far_first path sequences names past = record {
+-- nothing is found yet
+abbrev pub no_finding : Finding
+no_finding = record { messages = []; keeps = []; stamps = [] }
+
+so_far_first : (course : Course) (names : List (List ℕ)) (past : Past)
+    → SoFar course names names no_finding past past
+so_far_first course names past = record {
   stood = refl;
-  in_order = refl;
-  at_last = refl;
   kept = λ name held stays. inr held;
-  still = λ tree all. refl;
+  still = λ tree all. ([], (tt, refl));
 }
 
 -- What was seen stays seen while others go on.
@@ -165,14 +222,13 @@ stays_before path name from mid new looked stays mark low high =
     (sym (tree_at-longer mid new mark (looked_longer mid new looked) high))
     ∙ stays mark low (omega (arith, high, longer_later mid new looked))
 
-so_far_later : (path sequences : List ℕ) (names left : List (List ℕ)) (last : Option (List ℕ))
-    (messages : List Message) (stamps : List ℕ) (old mid new : Past) → HasLooked mid new
-    → SoFar path sequences names left last messages stamps old mid
-    → SoFar path sequences names left last messages stamps old new
-so_far_later path sequences names left last messages stamps old mid new looked s = record {
-  stood = stood_as path sequences sequences (length old.journal) (length mid.journal)
-      (length old.journal)
-      (length new.journal) mid new messages stamps (λ message stamp one.
+so_far_later : (course : Course) (names left : List (List ℕ)) (found : Finding)
+    (old mid new : Past) → HasLooked mid new → SoFar course names left found old mid
+    → SoFar course names left found old new
+so_far_later course names left found old mid new looked s = record {
+  stood = stood_as course.path course.sequences course.sequences (length old.journal)
+      (length mid.journal) (length old.journal) (length new.journal) mid new found.keeps
+      found.messages found.stamps (λ keep message stamp one.
       let same : tree_at new one.mark ≡ tree_at mid one.mark =
       tree_at-longer mid new one.mark (looked_longer mid new looked) one.to in
       record {
@@ -180,16 +236,14 @@ so_far_later path sequences names left last messages stamps old mid new looked s
         from = one.from;
         to = omega (arith, one.to, longer_later mid new looked);
         named = one.named;
-        there = ap (λ (tree : List TreeNode). message_at tree path sequences message.key) same
-            ∙ one.there;
+        there = subst (λ (tree : List TreeNode). IsThere keep message
+            (message_at tree course.path course.sequences message.key)) (sym same) one.there;
         stamp_is = ap (λ (tree : List TreeNode). stamp_there
-            (node_at tree (path_in path message.key))) same
+            (node_at tree (path_in course.path message.key))) same
             ∙ one.stamp_is;
       }) s.stood;
-  in_order = s.in_order;
-  at_last = s.at_last;
   kept = λ name held stays. s.kept name held
-      (stays_before path name (length old.journal) mid new looked stays);
+      (stays_before course.path name (length old.journal) mid new looked stays);
   still = λ tree all. s.still tree (tree_before tree old mid new looked all);
 }
 
@@ -200,127 +254,224 @@ abbrev pub last_with : Option Message → List ℕ → Option (List ℕ) → Opt
 last_with None name last = last
 last_with (Some message) name last = Some name
 
-so_far_next : (path sequences : List ℕ) (names left : List (List ℕ)) (name : List ℕ)
-    (last : Option (List ℕ))
-    (messages : List Message) (stamps : List ℕ) (found : Option Message) (stamp : ℕ)
-    (old mid new : Past)
-    → HasLooked old mid → HasLooked mid new → Stands last name → is_number name ≡ true
-    → SoFar path sequences names (name ∷ left) last messages stamps old mid
-    → MessageMet path sequences name found stamp mid new
-    → SoFar path sequences names left (last_with found name last) (messages_with found messages)
-    (stamps_with found stamp stamps) old new
-so_far_next path sequences names left name last messages stamps found stamp old mid new first next
-    stands is s met =
-    by_found found met
-  where
-    later : SoFar path sequences names (name ∷ left) last messages stamps old new
-    later = so_far_later path sequences names (name ∷ left) last messages stamps old mid new next s
+-- what was found with one more message, where there is one
+abbrev pub finding_with : Option Message → Option ℕ → ℕ → Finding → Finding
+finding_with found keep stamp before = record {
+  messages = messages_with found before.messages;
+  keeps = keeps_with found keep before.keeps;
+  stamps = stamps_with found stamp before.stamps;
+}
 
-    by_found : (found : Option Message) → MessageMet path sequences name found stamp mid new
-        → SoFar path sequences names left (last_with found name last) (messages_with found messages)
-        (stamps_with found stamp stamps) old new
-    by_found None met = record {
+so_far_next : (course : Course) (names left : List (List ℕ)) (name : List ℕ) (before : Finding)
+    (keep : Option ℕ) (found : Option Message) (stamp : ℕ) (old mid new : Past)
+    → HasLooked old mid → HasLooked mid new → is_number name ≡ true
+    → IfSome found (λ message. message.key ≡ name)
+    → SoFar course names (name ∷ left) before old mid
+    → MessageMet course name keep found stamp mid new
+    → SoFar course names left (finding_with found keep stamp before) old new
+so_far_next course names left name before keep found stamp old mid new first next is key s met =
+    by_found found key met
+  where
+    path : List ℕ
+    path = course.path
+
+    sequences : List ℕ
+    sequences = course.sequences
+
+    later : SoFar course names (name ∷ left) before old new
+    later = so_far_later course names (name ∷ left) before old mid new next s
+
+    low : (mark : ℕ) → length mid.journal ≤ mark → length old.journal ≤ mark
+    low mark from = omega (arith, from, longer_later old mid first)
+
+    by_found : (found : Option Message) → IfSome found (λ message. message.key ≡ name)
+        → MessageMet course name keep found stamp mid new
+        → SoFar course names left (finding_with found keep stamp before) old new
+    by_found None key met = record {
       stood = later.stood;
-      in_order = later.in_order;
-      at_last = later.at_last;
       kept = λ other held stays. by_place other stays (later.kept other held stays);
       still = λ tree all.
-          ap (λ (m : Option Message). messages ++ cons_option m
-          (filter_map (message_at tree path sequences) left))
-          (sym (ap (λ (t : List TreeNode). message_at t path sequences name)
-          (sym (all met.mark low met.to)) ∙ met.there))
-          ∙ later.still tree all;
+          let before_it = later.still tree all in
+          let none : message_at tree path sequences name ≡ None =
+          ap (λ (t : List TreeNode). message_at t path sequences name)
+          (sym (all met.mark (low met.mark met.from) met.to)) ∙ met.there in (
+            before_it.0,
+            (
+              before_it.1.0,
+              ap (λ (m : Option Message). before_it.0 ++ cons_option m
+                  (filter_map (message_at tree path sequences) left)) (sym none) ∙ before_it.1.1,
+            ),
+          );
     }
       where
-        low : length old.journal ≤ met.mark
-        low = omega (arith, met.from, longer_later old mid first)
-
         by_place : (other : List ℕ) → StaysThere path other (length old.journal)
             (length new.journal) new
-            → (has_key other messages ≡ true) ⊎ IsIn other (name ∷ left)
-            → (has_key other messages ≡ true) ⊎ IsIn other left
+            → (has_key other before.messages ≡ true) ⊎ IsIn other (name ∷ left)
+            → (has_key other before.messages ≡ true) ⊎ IsIn other left
         by_place other stays (inl key) = inl key
         by_place other stays (inr (inl same)) =
             absurd (true_false (sym (subst
             (λ (n : List ℕ). is_some (message_at (tree_at new met.mark) path [] n) ≡ true)
-            (sym same) (stays met.mark low met.to))
+            (sym same) (stays met.mark (low met.mark met.from) met.to))
             ∙ same_there [] sequences name (file_at (tree_at new met.mark) (path_in path name))
             ∙ ap is_some met.there))
         by_place other stays (inr (inr held)) = inr held
-    by_found (Some message) met =
-        let named : Named name message = made_named sequences name
-        (file_at (tree_at new met.mark) (path_in path name)) message met.there in
-        record {
-          stood = stood_more path sequences (length old.journal)
-              (length new.journal) new messages stamps message stamp
-              later.stood (record {
-                mark = met.mark;
-                from = low;
-                to = met.to;
-                named = ap is_number named.key ∙ is;
-                there = ap (message_at (tree_at new met.mark) path sequences) named.key ∙ met.there;
-                stamp_is = ap (λ (n : List ℕ). stamp_there
-                    (node_at (tree_at new met.mark) (path_in path n))) named.key
-                    ∙ met.stamp_is message refl;
-              });
-          in_order = next_in_order last name messages message later.at_last stands named
-              later.in_order;
-          at_last = (messages, (message, refl, named));
-          kept = λ other held stays. by_place named other (later.kept other held stays);
-          still = λ tree all.
-              append_assoc messages (message ∷ [])
-              (filter_map (message_at tree path sequences) left)
-              ∙ ap (λ (m : Option Message). messages ++ cons_option m
-              (filter_map (message_at tree path sequences) left))
-              (sym (ap (λ (t : List TreeNode). message_at t path sequences name)
-              (sym (all met.mark low met.to))
-              ∙ met.there))
-              ∙ later.still tree all;
-        }
+    by_found (Some message) key met = record {
+      stood = stood_more path sequences (length old.journal) (length new.journal) new
+          before.keeps before.messages before.stamps keep message stamp later.stood (record {
+            mark = met.mark;
+            from = low met.mark met.from;
+            to = met.to;
+            named = ap is_number key ∙ is;
+            there = subst (λ (n : List ℕ). IsThere keep message
+                (message_at (tree_at new met.mark) path sequences n)) (sym key) met.there;
+            stamp_is = ap (λ (n : List ℕ). stamp_there
+                (node_at (tree_at new met.mark) (path_in path n))) key
+                ∙ met.stamp_is message refl;
+          });
+      kept = λ other held stays. by_place other (later.kept other held stays);
+      still = λ tree all.
+          let before_it = later.still tree all in
+          let here = some_there keep message (message_at tree path sequences name)
+          (subst (λ (t : List TreeNode). IsThere keep message (message_at t path sequences name))
+          (all met.mark (low met.mark met.from) met.to) met.there) in (
+            before_it.0 ++ here.other ∷ [],
+            (
+              there_more before.keeps before.messages before_it.0 keep message here.other
+                  before_it.1.0 here.alike,
+              append_assoc before_it.0 (here.other ∷ [])
+                  (filter_map (message_at tree path sequences) left)
+                  ∙ ap (λ (m : Option Message). before_it.0 ++ cons_option m
+                  (filter_map (message_at tree path sequences) left)) (sym here.is)
+                  ∙ before_it.1.1,
+            ),
+          );
+    }
       where
-        low : length old.journal ≤ met.mark
-        low = omega (arith, met.from, longer_later old mid first)
-
-        by_place : Named name message → (other : List ℕ) → (has_key other messages ≡ true)
+        by_place : (other : List ℕ) → (has_key other before.messages ≡ true)
             ⊎ IsIn other (name ∷ left)
-            → (has_key other (messages ++ message ∷ []) ≡ true) ⊎ IsIn other left
-        by_place named other (inl key) = inl (key_more other messages (message ∷ []) key)
-        by_place named other (inr (inl same)) =
-            inl (subst (λ (n : List ℕ). has_key n (messages ++ message ∷ []) ≡ true)
-            (named.key ∙ same)
-            (key_last messages message))
-        by_place named other (inr (inr held)) = inr held
+            → (has_key other (before.messages ++ message ∷ []) ≡ true) ⊎ IsIn other left
+        by_place other (inl there) = inl (key_more other before.messages (message ∷ []) there)
+        by_place other (inr (inl same)) =
+            inl (subst (λ (n : List ℕ). has_key n (before.messages ++ message ∷ []) ≡ true)
+            (key ∙ same)
+            (key_last before.messages message))
+        by_place other (inr (inr held)) = inr held
+
+-- What is stored.
+
+stored_first : (first : Kept) → IsNothing first → IsStored no_finding first first
+stored_first first nothing = record {
+  store = first.store;
+  nearly = nearly_same first.store;
+  holds = holds_first mh_format first.store nothing.store;
+  stamps_are = λ none. nothing.stamps;
+}
+
+fewer_with : (letters : ℕ) (keeps : List (Option ℕ)) (messages : List Message) (keep : Option ℕ)
+    (found : Option Message)
+    → list_refusal letters (keeps_with found keep keeps) (messages_with found messages) ≡ None
+    → list_refusal letters keeps messages ≡ None
+fewer_with letters keeps messages keep None none = none
+fewer_with letters keeps messages keep (Some message) none =
+    fewer_none letters keeps messages keep message none
+
+stored_next : (before : Finding) (keep : Option ℕ) (found : Option Message) (stamp : ℕ)
+    (first kept new_kept : Kept) → IsStored before first kept
+    → Keeps keep found stamp kept new_kept
+    → IsStored (finding_with found keep stamp before) first new_kept
+stored_next before keep found stamp first kept new_kept s k =
+    let store : Store = store_found mh_format keep found s.store in
+    let nearly : Nearly new_kept.store store =
+    nearly_then new_kept.store (store_found mh_format keep found kept.store) store k.store
+    (nearly_found keep found kept.store s.store s.nearly) in
+    let holds : Holds mh_format first.store (keeps_with found keep before.keeps)
+    (messages_with found before.messages) store =
+    holds_found mh_format first.store s.store before.keeps before.messages keep found
+    (λ id m. refl) s.holds in
+    record {
+      store = store;
+      nearly = nearly;
+      holds = holds;
+      stamps_are = λ none.
+          k.stamps (nearly_refusal new_kept.store store nearly
+          ∙ held_refusal mh_format first.store store (keeps_with found keep before.keeps)
+          (messages_with found before.messages) holds
+          ∙ none)
+          ∙ ap (stamps_with found stamp) (s.stamps_are
+          (fewer_with first.store.letters before.keeps before.messages keep found none));
+    }
+
+-- What each message keeps.
+
+-- the messages are in order, and the last has this name
+pub record InLine (course : Course) (last : Option (List ℕ)) (found : Finding) : Type 0 where
+  pub at_last : IsLast last found.messages
+  pub are : AreKept course found
+
+in_line_first : (course : Course) → InLine course None no_finding
+in_line_first course = record {
+  at_last = refl;
+  are = record { even = refl; keeps_are = refl; cores = tt; in_order = refl; placed = tt };
+}
+
+in_line_next : (course : Course) (last : Option (List ℕ)) (name : List ℕ) (before : Finding)
+    (keep : Option ℕ) (found : Option Message) (stamp : ℕ) → Stands last name
+    → InLine course last before → IfSome found (IsFile course name keep stamp)
+    → InLine course (last_with found name last) (finding_with found keep stamp before)
+in_line_next course last name before keep None stamp stands line is = line
+in_line_next course last name before keep (Some message) stamp stands line is =
+    let named : Named name message = record { key = is.key; order = is.order } in
+    let old = old_mails course in
+    let known = course.known.stamps in
+    record {
+      at_last = (before.messages, (message, refl, named));
+      are = record {
+        even = omega (
+          arith,
+          line.are.even,
+          length-append before.stamps (stamp ∷ []),
+          length-append before.messages (message ∷ []),
+        );
+        keeps_are = ap (λ (l : List (Option ℕ)). l ++ keep ∷ []) line.are.keeps_are
+            ∙ ap (λ (k : Option ℕ). kept_by_stamp old known before.messages before.stamps ++ k ∷ [])
+            (is.keep_is ∙ ap (λ (n : List ℕ). stamped old known n stamp) (sym is.key))
+            ∙ sym (keeps_more old known before.messages before.stamps message stamp line.are.even);
+        cores = cores_more course.mails before.keeps before.messages keep message line.are.cores
+            is.core;
+        in_order = next_in_order last name before.messages message line.at_last stands named
+            line.are.in_order;
+        placed = placed_more before.messages message line.are.placed
+            (is.order ∙ ap number_at (sym is.key));
+      };
+    }
 
 -- The whole walk.
 
--- what is kept and what was seen so far, by messages and stamps that exist
-pub record Walking (path sequences : List ℕ) (names left : List (List ℕ)) (first kept : Kept)
-    (old new : Option Past)
-    : Type 0 where
+-- what is kept and what was seen so far
+pub record Walking (course : Course) (names left : List (List ℕ)) (first kept : Kept)
+    (old new : Option Past) : Type 0 where
   pub last : Option (List ℕ)
-  pub messages : List Message
-  pub stamps : List ℕ
+  pub found : Finding
   pub rises : Rises last left
-  pub holds : Holds mh_format first.store messages kept.store
-  pub stamps_are : list_refusal first.store.letters messages ≡ None → kept.stamps ≡ stamps
-  pub saw : GoesOn (SoFar path sequences names left last messages stamps) old new
+  pub line : InLine course last found
+  pub stored : IsStored found first kept
+  pub saw : GoesOn (SoFar course names left found) old new
 
-pub walking_first : (path sequences : List ℕ) (names : List (List ℕ)) (first : Kept)
-    (told : Option Past)
-    → IsNothing first → Rises None names → Walking path sequences names names first first told told
-walking_first path sequences names first told nothing rises = record {
+pub walking_first : (course : Course) (names : List (List ℕ)) (first : Kept) (told : Option Past)
+    → IsNothing first → Rises None names → Walking course names names first first told told
+walking_first course names first told nothing rises = record {
   last = None;
-  messages = [];
-  stamps = [];
+  found = no_finding;
   rises = rises;
-  holds = holds_first mh_format first.store nothing.store;
-  stamps_are = λ none. nothing.stamps;
+  line = in_line_first course;
+  stored = stored_first first nothing;
   saw = by_told told;
 }
   where
-    by_told : (told : Option Past) → GoesOn (SoFar path sequences names names None [] []) told told
+    by_told : (told : Option Past) → GoesOn (SoFar course names names no_finding) told told
     by_told None = refl
-    by_told (Some past) = so_far_first path sequences names past
+    by_told (Some past) = so_far_first course names past
 
 rises_with : (last : Option (List ℕ)) (name : List ℕ) (found : Option Message)
     (names : List (List ℕ))
@@ -328,171 +479,53 @@ rises_with : (last : Option (List ℕ)) (name : List ℕ) (found : Option Messag
 rises_with last name None names rises = rises_skipped last name names rises
 rises_with last name (Some message) names rises = (rises_first last name names rises).1
 
-fewer_with : (letters : ℕ) (messages : List Message) (found : Option Message)
-    → list_refusal letters (messages_with found messages) ≡ None
-    → list_refusal letters messages ≡ None
-fewer_with letters messages None none = none
-fewer_with letters messages (Some message) none = fewer_none letters messages message none
+keyed_file : (course : Course) (name : List ℕ) (keep : Option ℕ) (stamp : ℕ)
+    (found : Option Message) → IfSome found (IsFile course name keep stamp)
+    → IfSome found (λ message. message.key ≡ name)
+keyed_file course name keep stamp None is = tt
+keyed_file course name keep stamp (Some message) is = is.key
 
-pub walking_next : (path sequences : List ℕ) (names all left : List (List ℕ)) (name : List ℕ)
+pub walking_next : (course : Course) (names all left : List (List ℕ)) (name : List ℕ)
     (first kept new_kept : Kept) (a b c : Option Past) → all ≡ name ∷ left → is_number name ≡ true
-    → LooksOnly a b → LooksOnly b c → Walking path sequences names all first kept a b
-    → Takes path sequences name kept new_kept b c
-    → Walking path sequences names left first new_kept a c
-walking_next path sequences names all left name first kept new_kept a b c whole is before next w t =
+    → LooksOnly a b → LooksOnly b c → Walking course names all first kept a b
+    → Takes course name kept new_kept b c
+    → Walking course names left first new_kept a c
+walking_next course names all left name first kept new_kept a b c whole is before next w t =
     let rises : Rises w.last (name ∷ left) = subst (Rises w.last) whole w.rises in
-    let so_far : GoesOn (SoFar path sequences names (name ∷ left) w.last w.messages w.stamps) a b =
-    subst (λ (l : List (List ℕ)). GoesOn (SoFar path sequences names l w.last w.messages w.stamps) a
-    b) whole w.saw in
-    let holds : Holds mh_format first.store (messages_with t.found w.messages) new_kept.store =
-    subst (Holds mh_format first.store (messages_with t.found w.messages)) (sym t.keeps.store)
-    (holds_found mh_format first.store kept.store w.messages t.found (λ id m. refl) w.holds) in
+    let so_far : GoesOn (SoFar course names (name ∷ left) w.found) a b =
+    subst (λ (l : List (List ℕ)). GoesOn (SoFar course names l w.found) a b) whole w.saw in
     record {
       last = last_with t.found name w.last;
-      messages = messages_with t.found w.messages;
-      stamps = stamps_with t.found t.stamp w.stamps;
+      found = finding_with t.found t.keep t.stamp w.found;
       rises = rises_with w.last name t.found left rises;
-      holds = holds;
-      stamps_are = λ none.
-          t.keeps.stamps (held_refusal mh_format first.store new_kept.store
-          (messages_with t.found w.messages) holds
-          ∙ none)
-          ∙ ap (stamps_with t.found t.stamp)
-          (w.stamps_are (fewer_with first.store.letters w.messages t.found none));
+      line = in_line_next course w.last name w.found t.keep t.found t.stamp
+          (rises_first w.last name left rises).0 w.line t.is;
+      stored = stored_next w.found t.keep t.found t.stamp first kept new_kept w.stored t.keeps;
       saw = goes_then a b c (λ p q r x y s met.
-          so_far_next path sequences names left name w.last w.messages w.stamps t.found t.stamp p q
-          r x y
-          (rises_first w.last name left rises).0 is s met) before next so_far t.saw;
+          so_far_next course names left name w.found t.keep t.found t.stamp p q r x y is
+          (keyed_file course name t.keep t.stamp t.found t.is) s met) before next so_far t.saw;
     }
 
-pub walking_done : (path sequences : List ℕ) (names left : List (List ℕ)) (first kept : Kept)
-    (a b : Option Past)
-    → left ≡ [] → Walking path sequences names left first kept a b
-    → IsWalked path sequences names first kept a b
-walking_done path sequences names left first kept a b none w = record {
-  messages = w.messages;
-  stamps = w.stamps;
-  holds = w.holds;
-  stamps_are = w.stamps_are;
+pub walking_done : (course : Course) (names left : List (List ℕ)) (first kept : Kept)
+    (a b : Option Past) → left ≡ [] → Walking course names left first kept a b
+    → IsWalked course names first kept a b
+walking_done course names left first kept a b none w = record {
+  found = w.found;
+  stored = w.stored;
+  are = w.line.are;
   saw = goes_as a b (λ p q s. record {
     stood = s.stood;
-    in_order = s.in_order;
     kept = λ name held stays. by_place name (s.kept name held stays);
-    still = λ tree all. sym (append-nil w.messages) ∙ s.still tree all;
-  }) (subst (λ (l : List (List ℕ)). GoesOn (SoFar path sequences names l w.last w.messages w.stamps)
-      a b) none w.saw);
+    still = λ tree all.
+        let it = s.still tree all in
+        subst (AreThere w.found.keeps w.found.messages) (sym (append-nil it.0) ∙ it.1.1) it.1.0;
+  }) (subst (λ (l : List (List ℕ)). GoesOn (SoFar course names l w.found) a b) none w.saw);
 }
   where
-    by_place : (name : List ℕ) → (has_key name w.messages ≡ true) ⊎ IsIn name []
-        → has_key name w.messages ≡ true
+    by_place : (name : List ℕ) → (has_key name w.found.messages ≡ true) ⊎ IsIn name []
+        → has_key name w.found.messages ≡ true
     by_place name (inl key) = key
     by_place name (inr held) = absurd held
-
--- One file.
-
--- a message that was stored
-pub message_added : (sequences name raw : List ℕ) (number stamp : ℕ) (flags : Flags) (mail : Mail)
-    (kept new_kept : Kept) → (raw ≡ [] → ⊥) → number_of name ≡ Some number
-    → flags ≡ mh_flags sequences number
-    → mail ≡ mail_of number name raw → new_kept.store ≡ store_with flags mail kept.store
-    → new_kept.stamps ≡ kept.stamps ++ stamp ∷ [] → Adds sequences name raw stamp kept new_kept
-message_added sequences name [] number stamp flags mail kept new_kept some is flagged made stored
-    stamped =
-    absurd (some refl)
-message_added sequences name (b ∷ raw) number stamp flags mail kept new_kept some is flagged made
-    stored stamped =
-    let at : number ≡ number_at name = sym (ap (λ (n : Option ℕ). unwrap_or n 0) is) in
-    record {
-      store = stored ∙ (λ i. store_with (flagged i) (made i) kept.store)
-          ∙ ap (λ (n : ℕ). store_with (mh_flags sequences n) (mail_of n name (b ∷ raw)) kept.store)
-          at;
-      stamps = λ none. stamped;
-    }
-
--- an empty file is no message
-pub nothing_added : (sequences name raw : List ℕ) (stamp : ℕ) (kept : Kept) → raw ≡ []
-    → Adds sequences name raw stamp kept kept
-nothing_added sequences name [] stamp kept none = record { store = refl; stamps = λ none. refl }
-nothing_added sequences name (b ∷ raw) stamp kept none = absurd (cc)
-
-met_file : (path sequences name bytes : List ℕ) (stamp : ℕ) (a b : Option Past)
-    → GoesOn (FileSeen (path_in path name) bytes stamp) a b
-    → GoesOn (MessageMet path sequences name (message_of sequences name bytes) stamp) a b
-met_file path sequences name bytes stamp a b saw = goes_as a b (λ p q s. record {
-  mark = s.1.mark;
-  from = s.1.from;
-  to = s.1.to;
-  there = ap (option_and_then (message_of sequences name)) s.1.tells.0;
-  stamp_is = λ message is. s.1.tells.1;
-}) saw
-
-pub took_none : (path sequences name at : List ℕ) (limit : ℕ) (content : Content) (kept : Kept)
-    (a b : Option Past)
-    → at ≡ path_in path name → content ≡ NoFile
-    → GoesOn (SawAt (ReadAll at limit) (λ tree. IsContent limit content tree at)) a b
-    → Takes path sequences name kept kept a b
-took_none path sequences name at limit content kept a b is told saw = record {
-  found = None;
-  stamp = 0;
-  keeps = record { store = refl; stamps = λ none. refl };
-  saw = goes_as a b (λ p q s. record {
-    mark = s.1.mark;
-    from = s.1.from;
-    to = s.1.to;
-    there = ap (option_and_then (message_of sequences name)) s.1.tells;
-    stamp_is = λ message none. absurd (cc);
-  }) (none_seen at (path_in path name) limit content a b is told saw);
-}
-
-pub took_whole : (path sequences name at : List ℕ) (limit : ℕ) (content : Content) (read : FileRead)
-    (kept new_kept : Kept) (a b : Option Past) → at ≡ path_in path name → content ≡ Whole read
-    → Adds sequences name read.bytes.items read.stat.stamp kept new_kept
-    → GoesOn (SawAt (ReadAll at limit) (λ tree. IsContent limit content tree at)) a b
-    → Takes path sequences name kept new_kept a b
-took_whole path sequences name at limit content read kept new_kept a b is told adds saw = record {
-  found = message_of sequences name read.bytes.items;
-  stamp = read.stat.stamp;
-  keeps = adds;
-  saw = met_file path sequences name read.bytes.items read.stat.stamp a b
-      (whole_seen at (path_in path name) limit content read a b is told saw);
-}
-
-long_kept : (sequences name bytes : List ℕ) (stamp size limit : ℕ) (kept new_kept : Kept)
-    → limit ≡ most_bytes - kept.store.bytes → limit < size → size ≡ length bytes
-    → new_kept.store ≡ record kept.store
-    { count = kept.store.count + 1; bytes = told_sum (kept.store.bytes + size) }
-    → Keeps (message_of sequences name bytes) stamp kept new_kept
-long_kept sequences name [] stamp size limit kept new_kept left past same stored = absurd
-    (omega (arith, past, same))
-long_kept sequences name (b ∷ raw) stamp size limit kept new_kept left past same stored =
-    let flags : Flags = mh_flags sequences (number_at name) in
-    let mail : Mail = mail_of (number_at name) name (b ∷ raw) in
-    record {
-      store = stored ∙ long_stored kept.store flags mail size limit left past same;
-      stamps = λ none. absurd (true_false
-          (sym (ap is_none (sym (λ i. sum_refusal (stored i).letters (stored i).count
-          (stored i).bytes) ∙ none))
-          ∙ too_large kept.store.letters (kept.store.count + 1) kept.store.bytes size
-          (omega (arith, left, past))));
-    }
-
-pub took_long : (path sequences name at : List ℕ) (limit : ℕ) (content : Content) (size : ℕ)
-    (kept new_kept : Kept) (a b : Option Past)
-    → at ≡ path_in path name → limit ≡ most_bytes - kept.store.bytes → content ≡ TooLong size
-    → FitsLimit limit content
-    → new_kept.store ≡ record kept.store
-    { count = kept.store.count + 1; bytes = told_sum (kept.store.bytes + size) }
-    → GoesOn (SawAt (ReadAll at limit) (λ tree. IsContent limit content tree at)) a b
-    → Takes path sequences name kept new_kept a b
-took_long path sequences name at limit content size kept new_kept a b is left told past stored saw =
-    let met = long_seen at (path_in path name) limit content size a b is told saw in
-    record {
-      found = message_of sequences name met.bytes;
-      stamp = met.stamp;
-      keeps = long_kept sequences name met.bytes met.stamp size limit kept new_kept left
-          (long_past limit content size told past) met.length_is stored;
-      saw = met_file path sequences name met.bytes met.stamp a b met.saw;
-    }
 
 -- A step of the walk over files.
 
@@ -502,15 +535,15 @@ pub file_head : (all rest : List NumberedName) (item : NumberedName) → all ≡
 file_head all rest item whole each =
     All-head IsNumbered item rest (All-same IsNumbered (item ∷ rest) all (sym whole) each)
 
-pub stepped : (path sequences : List ℕ) (names : List (List ℕ)) (all rest : List NumberedName)
-    (item : NumberedName)
-    (first kept new_kept : Kept) (a b c : Option Past) → all ≡ item ∷ rest → All IsNumbered all
-    → LooksOnly a b → LooksOnly b c → Walking path sequences names (plain_names all) first kept a b
-    → Takes path sequences item.name.items kept new_kept b c
-    → Walking path sequences names (plain_names rest) first new_kept a c
-stepped path sequences names all rest item first kept new_kept a b c whole each before next w t =
+pub stepped : (course : Course) (names : List (List ℕ)) (all rest : List NumberedName)
+    (item : NumberedName) (first kept new_kept : Kept) (a b c : Option Past) → all ≡ item ∷ rest
+    → All IsNumbered all → LooksOnly a b → LooksOnly b c
+    → Walking course names (plain_names all) first kept a b
+    → Takes course item.name.items kept new_kept b c
+    → Walking course names (plain_names rest) first new_kept a c
+stepped course names all rest item first kept new_kept a b c whole each before next w t =
     let named : number_of item.name.items ≡ Some
     item.number = (file_head all rest item whole each).number_is in
-    walking_next path sequences names (plain_names all)
+    walking_next course names (plain_names all)
     (plain_names rest) item.name.items first kept new_kept a b c
     (ap plain_names whole) (ap (λ (n : Option ℕ). is_some n) named) before next w t

@@ -9,7 +9,9 @@ use Rattle.disk_model.specs.Seen.{Seen}
 use Rattle.folder_core.specs.Costs.{RaisesAtMost}
 use Rattle.folder_core.specs.Directory.{is_folder_at}
 use Rattle.folder_core.specs.FirstLook.{TellsMissing}
-use Rattle.folder_core.specs.FirstScan.{FolderRefused}
+use Rattle.folder_core.specs.DirectoryScan.{FolderRefused}
+use Rattle.folder_core.specs.Known.{KnownFolder}
+use Rattle.folder_letters.specs.Letters.{Mail}
 use Rattle.folder_core.specs.Looked.{SawAt}
 use Rattle.folder_core.specs.Mh.{mh_format, sequences_at, sequences_path}
 use Rattle.folder_core.specs.declared.error.ScanError.{ScanError}
@@ -45,12 +47,13 @@ pub record ReadsMarks (path : List ℕ) (marks : Marks) (old new : Option Past) 
   pub saw : GoesOn (SequencesSeen path bytes) old new
 
 -- What was found was seen, and no byte was read; a refusal has its cause, whatever is in the
--- archive, Missing that of the first look.
+-- archive and known of the folder, Missing that of the first look.
 pub record Finds {A : Type 0} (path : List ℕ) (result : Result A ScanError)
     (Sees : A → Option Past → Option Past → Type 0) (old new : Seen) : Type 0 where
   pub saw : IfOk result (λ given. Sees given old.told new.told)
   pub refused : IfErr result
-      (λ why. (letters : ℕ) → GoesOn (FolderRefused mh_format letters path why) old.told new.told)
+      (λ why. (archive : List Mail) (known : KnownFolder) → GoesOn (FolderRefused mh_format archive
+      (record known { path = path }) why) old.told new.told)
   pub never_full : IsErrOf result ArchiveFull → ⊥
   pub first : GoesOn (TellsMissing result path) old.told new.told
   pub only : OnlyLooks old new

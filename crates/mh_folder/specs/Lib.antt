@@ -4,6 +4,8 @@ pub mod Sequences
 pub mod Laws
 pub mod Marks
 pub mod NumberedName
+pub mod KnownFile
+pub mod Visit
 pub mod Folder
 pub mod Walk
 pub mod Scan

@@ -2,17 +2,19 @@
 
 ghost use Rattle.std.specs.Prelude.{◌≡◌, length, map, take};
 ghost use Rattle.mail_base.specs.declared.kind.Kind.TheVariants.{Mh};
-ghost use Rattle.folder_core.specs.FirstScan.{ListsFolder, ScansFolder};
+ghost use Rattle.folder_core.specs.DirectoryScan.{ListsFolder, ScansFolder};
 ghost use Rattle.folder_letters.specs.Letters.{plain_letter};
-ghost use Rattle.folder_core.specs.Mh.{mh_format};
+ghost use Rattle.folder_core.specs.Mh.{mh_format, number_at};
+ghost use Rattle.folder_core.specs.Right.{Right};
 ghost use Rattle.folder_core.specs.Scanned.{Scans};
 ghost use Rattle.mh_folder.specs.Scan as spec;
 
-use crate::folder::{list_numbers, read_marks};
+use crate::folder::list_numbers;
+use crate::visit::begin_visit;
 use crate::walk::Walk;
 use disk_model::{Device, Disk};
-use folder_core::{Archive, Driver, Found, Known, Listing, ScanError, first_found};
-use mail_base::{Kind, Stamps};
+use folder_core::{Archive, Driver, Found, Known, Listing, ScanError, put_listing};
+use mail_base::{Bytes, Kind, Stamps};
 use std::alloc::Global;
 
 /// Reads folders of a numbered file a message (mh-mail(5)).
@@ -43,13 +45,14 @@ impl Driver for MhDriver {
     }
 }
 
-/// Reads an MH folder of which nothing is listed yet, as the driver's `scan`.
+/// Reads a known MH folder, as the driver's `scan`.
 fn scan_folder(
     alloc: Global,
     disk: &mut dyn Disk,
     known: &mut Known,
     archive: &mut Archive,
 ) -> Result<Found, ScanError>
+    requires right { Right Mh (map plain_letter archive.old.items) known.old (seen disk.old).told }
     ensures { Scans Mh archive.old.items archive.new.items known.old known.new result
         (seen disk.old) (seen disk.new) }
 {
@@ -71,40 +74,47 @@ fn list_known(
     known: &mut Known,
     archive: &mut Archive,
 ) -> Result<Found, ScanError>
+    requires right { Right Mh (map plain_letter archive.old.items) known.old (seen disk.old).told }
     ensures scans { ScansFolder Mh (map plain_letter archive.old.items)
         (map plain_letter archive.new.items) known.old known.new result
         (seen disk.old) (seen disk.new) }
     ensures front { take (length archive.old.items) archive.new.items ≡ archive.old.items }
 {
-    let (came, stamps) = list_folder(alloc, disk, known.path(), archive)?;
-    Ok(first_found(alloc, known, came, stamps)?)
+    let letters = archive.len();
+    let (listing, stamps) = list_folder(alloc, disk, known, archive)?;
+    Ok(put_listing(alloc, known, letters, listing, Bytes::new(alloc), stamps)?)
 }
 
-/// Adds the letters of an MH folder to an archive, and answers their listing and the stamps of
-/// their files. After a refusal letters may stand behind those that were there.
+/// Adds the letters of the new messages of a known MH folder to an archive, and answers the listing
+/// and the stamps of the files. After a refusal letters may stand behind those that were there.
 fn list_folder(
     alloc: Global,
     disk: &mut dyn Disk,
-    path: &str,
+    known: &Known,
     archive: &mut Archive,
 ) -> Result<(Listing, Stamps), ScanError>
-    ensures lists { ListsFolder mh_format path.now (map plain_letter archive.old.items)
+    requires right { Right Mh (map plain_letter archive.old.items) known.now (seen disk.old).told }
+    ensures lists { ListsFolder mh_format number_at known.now (map plain_letter archive.old.items)
         (map plain_letter archive.new.items) result (λ listed. listed.0.items)
-        (λ listed. spec.StampedSeen path.now listed.1.items) (seen disk.old) (seen disk.new) }
+        (λ listed. listed.1.items) (spec.MessagesSeen known.now.path) (seen disk.old)
+        (seen disk.new) }
     ensures front { take (length archive.old.items) archive.new.items ≡ archive.old.items }
 {
-    let files = list_numbers(alloc, disk, path)?;
-    let marks = match read_marks(alloc, disk, path) {
-        Ok(marks) => marks,
+    let files = match list_numbers(alloc, disk, known.path()) {
+        Ok(files) => files,
+        Err(why) => return Err(why),
+    };
+    let visit = match begin_visit(alloc, disk, known, archive) {
+        Ok(visit) => visit,
         Err(why) => return Err(why),
     };
     let mut walk = Walk::new(alloc, archive.len());
-    match walk.take_all(alloc, disk, path, &marks, files.as_slice(), archive) {
+    match walk.take_all(alloc, disk, known.path(), &visit, files.as_slice(), archive) {
         Ok(()) => {}
         Err(why) => return Err(why),
     }
     match walk.so_far.refusal() {
         Some(why) => Err(why),
-        None => Ok((walk.so_far.came, walk.stamps)),
+        None => Ok((walk.so_far.listing, walk.stamps)),
     }
 }

@@ -5,13 +5,17 @@
 
 mod driver;
 mod folder;
+mod known_file;
+mod known_files;
 mod laws;
+mod look;
 mod marks;
 mod members;
 mod numbered_name;
 mod range;
 mod sequence_line;
 mod sequences;
+mod visit;
 mod walk;
 
 pub use driver::MhDriver;

@@ -1,85 +1,21 @@
-use Rattle.std.proofs.Common.{ap, inr, refl}
-use Rattle.folder_core.specs.Directory.{path_in}
-use Rattle.folder_core.specs.ListedSoFar.{store_of}
-use Rattle.folder_core.specs.declared.listed_so_far.ListedSoFar.{ListedSoFar}
-use Rattle.folder_core.proofs.ReadsLemmas.{left_no_file, left_read, left_too_long, left_unread}
-use Rattle.mh_folder.specs.Walk.{kept_of}
-use Rattle.mh_folder.proofs.WalkLemmas.{took_long, took_none, took_whole}
+use Rattle.std.proofs.Common.{Some, None, ap, sym, ◌∙◌}
+use Rattle.std.proofs.lemmas.Result.{on_ok_weaker}
+use Rattle.mh_folder.specs.KnownFile.{file_in}
+use Rattle.mh_folder.proofs.TakeLemmas.{file_course}
 use Rattle.mh_folder.proofs.walk.Walk.take.Goals as goal
 
-pub returns-in-NoFile-clause-taken : goal.returns-in-NoFile-clause-taken
-returns-in-NoFile-clause-taken g c =
-    λ bytes is.
-    took_none c.args.path.now bytes c.args.file.now.name.items (path_in c.args.path.now c.args.file.now.name.items) c.limit.result
-    c.in_ok-content_at.field-0 (kept_of c.args.self.now c.args.archive.now.items) _ _
-    refl
-    c.in-NoFile.is c.in_ok-content_at.ensures.looked.saw
+pub returns-in-Some-clause-taken : goal.returns-in-Some-clause-taken
+returns-in-Some-clause-taken g c =
+    on_ok_weaker c.take_known.result (λ taken. λ course goes.
+    taken course (file_course c.args.path.now c.args.visit.now c.args.file.now.name.items
+    c.args.file.now.number (Some c.in-Some.known) _ course c.requires.file.number_is
+    (ap (file_in c.args.visit.now.files.files.items) (sym c.from.ensures) ∙ sym c.find.ensures
+    ∙ c.in-Some.is) goes)) c.take_known.ensures.taken
 
-pub returns-in-TooLong-clause-taken : goal.returns-in-TooLong-clause-taken
-returns-in-TooLong-clause-taken g c =
-    λ bytes is.
-    took_long c.args.path.now bytes c.args.file.now.name.items (path_in c.args.path.now c.args.file.now.name.items) c.limit.result
-    c.in_ok-content_at.field-0 c.in-TooLong.size (kept_of c.args.self.now c.args.archive.now.items)
-    (kept_of record { so_far = c.count_one.new.self; stamps = c.args.self.now.stamps }
-    c.args.archive.now.items) _ _
-    refl
-    c.limit.ensures c.in-TooLong.is c.in_ok-content_at.ensures.fits
-    (ap (λ (w : ListedSoFar). store_of w c.args.archive.now.items) c.count_one.ensures)
-    c.in_ok-content_at.ensures.looked.saw
-
-pub returns-in-Ok-clause-taken : goal.returns-in-Ok-clause-taken
-returns-in-Ok-clause-taken g c =
-    λ bytes is.
-    took_whole c.args.path.now bytes c.args.file.now.name.items (path_in c.args.path.now c.args.file.now.name.items) c.limit.result
-    c.in_ok-content_at.field-0 c.in-Whole.read (kept_of c.args.self.now c.args.archive.now.items)
-    (kept_of c.add.new.self c.add.new.archive.items) _ _
-    refl
-    c.in-Whole.is (c.in-Ok.ensures.ok bytes is) c.in_ok-content_at.ensures.looked.saw
-
-pub returns-in-NoFile-clause-walks : goal.returns-in-NoFile-clause-walks
-returns-in-NoFile-clause-walks g c = record {
-  meets = record {
-    only = c.content_at.ensures.looked.only;
-    cause = λ is. absurd (cc);
-    errors = tt;
-  };
-  reads = left_no_file (tt {0}) c.args.self.now.so_far.bytes c.in_ok-content_at.field-0 _ _
-      c.in-NoFile.is c.in_ok-content_at.ensures.reads;
-}
-
-pub returns-in-TooLong-clause-walks : goal.returns-in-TooLong-clause-walks
-returns-in-TooLong-clause-walks g c = record {
-  meets = record {
-    only = c.content_at.ensures.looked.only;
-    cause = λ is. absurd (cc);
-    errors = tt;
-  };
-  reads = left_too_long (tt {0}) c.args.self.now.so_far.bytes _ c.in-TooLong.size
-      c.in_ok-content_at.field-0 _ _ (ap (λ (w : ListedSoFar). w.bytes) c.count_one.ensures)
-      c.in-TooLong.is c.in_ok-content_at.ensures.reads;
-}
-
-pub returns-in-Ok-clause-walks : goal.returns-in-Ok-clause-walks
-returns-in-Ok-clause-walks g c = record {
-  meets = record {
-    only = c.content_at.ensures.looked.only;
-    cause = λ is. absurd (cc);
-    errors = tt;
-  };
-  reads = left_read (tt {0}) c.args.self.now.so_far.bytes _ c.limit.result c.in-Whole.read
-      c.in_ok-content_at.field-0 _ _ c.limit.ensures c.in-Whole.is
-      c.in_ok-content_at.ensures.fits c.in-Ok.ensures.counts.bytes
-      c.in_ok-content_at.ensures.reads;
-}
-
-pub returns-in-Err-clause-walks : goal.returns-in-Err-clause-walks
-returns-in-Err-clause-walks g c = record {
-  meets = record {
-    only = c.content_at.ensures.looked.only;
-    cause = λ is. absurd (cc);
-    errors = inr refl;
-  };
-  reads = left_unread c.args.self.now.so_far.bytes c.limit.result c.in-Whole.read
-      c.in_ok-content_at.field-0 _ _ c.limit.ensures c.in-Whole.is
-      c.in_ok-content_at.ensures.fits c.in_ok-content_at.ensures.reads;
-}
+pub returns-in-None-clause-taken : goal.returns-in-None-clause-taken
+returns-in-None-clause-taken g c =
+    on_ok_weaker c.read.result (λ taken. λ course goes.
+    taken course (file_course c.args.path.now c.args.visit.now c.args.file.now.name.items
+    c.args.file.now.number None _ course c.requires.file.number_is
+    (ap (file_in c.args.visit.now.files.files.items) (sym c.from.ensures) ∙ sym c.find.ensures
+    ∙ c.in-None.is) goes)) c.read.ensures.taken
