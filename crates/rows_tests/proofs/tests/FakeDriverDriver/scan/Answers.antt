@@ -1,4 +1,5 @@
 use Rattle.std.proofs.Common.{rules}
+use Rattle.rows_tests.proofs.FakeLemmas.{tells_nothing_at_once}
 use Rattle.rows_tests.proofs.tests.FakeDriverDriver.scan.Goals as goal
 
 pub returns : goal.returns
@@ -6,7 +7,7 @@ returns g c = record {
   saw = search rules;
   lists = search rules;
   reads = search rules;
-  first = search rules;
+  first = tells_nothing_at_once _ _ _;
   within = search rules;
   err_archive = search rules;
   err_known = search rules;
