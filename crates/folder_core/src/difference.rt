@@ -2,7 +2,8 @@
 
 ghost use Rattle.std.specs.Prelude.{◌≡◌, ◌<◌, true, None, IfOk, OnErr, is_none, map, replicate};
 ghost use Rattle.std.specs.List.{All, filter};
-ghost use Rattle.folder_core.specs.Keeping.{IsDifference, ids_differ, same_flags};
+ghost use Rattle.folder_core.specs.Keeping.{IsDifference, ids_differ};
+ghost use Rattle.folder_core.specs.Keeping.{same_flags as spec_same_flags};
 ghost use Rattle.folder_core.specs.Difference as spec;
 
 use crate::Known;
@@ -33,7 +34,7 @@ pub fn put_listing(
     }) }
     ensures err { OnErr result (known.new ≡ known.old) }
 {
-    let found = match difference(
+    let found = match difference_of(
         alloc,
         letters,
         known.listing().as_slice(),
@@ -46,8 +47,9 @@ pub fn put_listing(
     Ok(found)
 }
 
-// What went, what came, and which flags changed.
-fn difference(
+/// What went, what came, and which flags changed from one listing to another. The old messages are
+/// among so many letters, each once.
+pub fn difference_of(
     alloc: Global,
     letters: usize,
     old: &[Listed],
@@ -183,13 +185,14 @@ fn has_others(table: &[Option<Flags>], listed: Listed) -> bool
     ensures { result ≡ spec.has_others table.now listed }
 {
     match flags_at(table, listed.id) {
-        Some(flags) => !are_same(flags, listed.flags),
+        Some(flags) => !same_flags(flags, listed.flags),
         None => false,
     }
 }
 
-fn are_same(flags: Flags, others: Flags) -> bool
-    ensures { result ≡ same_flags flags others }
+/// The flags are the same.
+pub fn same_flags(flags: Flags, others: Flags) -> bool
+    ensures { result ≡ spec_same_flags flags others }
 {
     flags.seen == others.seen
         && flags.aged == others.aged

@@ -1,5 +1,5 @@
 -- The bindings of all menus, and which a function has without muttrc.
-use Rattle.std.specs.Prelude.{◌≤◌, ℕ, List, [], Some, None, false, fold, length}
+use Rattle.std.specs.Prelude.{◌≤◌, ◌∷◌, ℕ, Bool, true, false, List, [], Some, None, fold, length}
 use Rattle.mail_base.specs.Words.{first_word}
 use Rattle.keymap.specs.Bindings.{Binding, Found, PlainAction, Run, Unbound, bound, found}
 use Rattle.keymap.specs.Functions.{MenuKeys, TableRow, rows}
@@ -17,6 +17,11 @@ pub record PlainKeymap : Type 0 where
   pub attach : List Binding
   pub generic : List Binding
   pub begun : List Key
+
+-- keys of a sequence wait for its rest
+abbrev pub has_begun : List Key → Bool
+has_begun [] = false
+has_begun (key ∷ keys) = true
 
 -- a sequence that can be bound
 pub record IsSequence (keys : List Key) : Type 0 where

@@ -83,6 +83,16 @@ impl Keymap {
         bind_keys(self.alloc, &mut self.attach, row.1, row.4)
     }
 
+    /// Whether keys of a bound sequence were pressed that wait for its rest.
+    pub fn has_begun(&self) -> bool
+        ensures { result ≡ spec.has_begun self.now.begun }
+    {
+        match self.begun.as_slice() {
+            [] => false,
+            _ => true,
+        }
+    }
+
     /// Binds keys to a function.
     pub fn bind(&mut self, menu: Menu, keys: &Keys, function: Function) -> Result<(), NoMemory>
         requires { spec.IsSequence keys.now.items }

@@ -3,7 +3,7 @@
 ghost use Rattle.std.specs.Prelude.{◌≡◌, ◌≤◌, ◌+◌, ◌++◌, ◌<◌, ℕ, length, map, take, IfOk, IfErr};
 ghost use Rattle.std.specs.List.{All};
 ghost use Rattle.folder_letters.specs.Letters.{plain_letter};
-ghost use Rattle.folder_core.specs.Keeping.{mails_of, same_flags as spec_same_flags, with_mail};
+ghost use Rattle.folder_core.specs.Keeping.{mails_of, with_mail};
 ghost use Rattle.folder_core.specs.Limits.{count_refusal as count_refusal_lem, most_letters};
 ghost use Rattle.folder_core.specs.Mbox.{Cover, mbox_letter, received as received_lem};
 ghost use Rattle.folder_core.specs.Mbox.{core as spec_core};
@@ -15,9 +15,9 @@ use crate::message_core::read_message;
 use crate::postmark::read_postmark;
 use crate::regions::{CutError, cut_regions};
 use folder_core::{
-    Archive, Letter, Listed, Listing, MOST_LETTERS, MOST_MESSAGES, Region, ScanError,
+    Archive, Letter, Listed, Listing, MOST_LETTERS, MOST_MESSAGES, Region, ScanError, same_flags,
 };
-use mail_base::{Bytes, Flags, Id, NoMemory, first_line};
+use mail_base::{Bytes, Id, NoMemory, first_line};
 use std::alloc::Global;
 
 /// Lists the messages of a file: those at the front that stand as they are listed stay, the letters
@@ -113,18 +113,6 @@ fn stays(alloc: Global, raw: &[u8], listed: Listed, letters: &[Letter]) -> Resul
     let (core, flags) = read_message(alloc, raw)?;
     let known = letters[listed.id.0 as usize].core.as_slice();
     Ok(known == core.as_slice() && same_flags(listed.flags, flags))
-}
-
-fn same_flags(flags: Flags, others: Flags) -> bool
-    ensures { result ≡ spec_same_flags flags others }
-{
-    flags.seen == others.seen
-        && flags.aged == others.aged
-        && flags.replied == others.replied
-        && flags.flagged == others.flagged
-        && flags.passed == others.passed
-        && flags.draft == others.draft
-        && flags.trashed == others.trashed
 }
 
 // Adds the letters of the messages to an archive, and answers their listing behind those that

@@ -1,11 +1,12 @@
--- What the message line says of the index.
+-- What the message line says of the index and of the folder.
 use Rattle.std.specs.Prelude.{ℕ, List, codes}
 use Rattle.session_index.specs.declared.notice.Notice.{Notice}
 use Rattle.session_index.specs.declared.notice.Notice.TheVariants.{NoMessages, NoUndeleted, OnLast}
 use Rattle.session_index.specs.declared.notice.Notice.TheVariants.{OnFirst, NoUnread, NoThread}
 use Rattle.session_index.specs.declared.notice.Notice.TheVariants.{NoParent, ParentHidden, NoTagged}
 use Rattle.session_index.specs.declared.notice.Notice.TheVariants.{NotFound, NotThreaded, ReadOnly}
-use Rattle.session_index.specs.declared.notice.Notice.TheVariants.{NotBound, MacroLoop}
+use Rattle.session_index.specs.declared.notice.Notice.TheVariants.{NotBound, MacroLoop, NewMail}
+use Rattle.session_index.specs.declared.notice.Notice.TheVariants.{Modified, CheckStarved}
 
 -- what the last line says (Mutt's manual, "Functions")
 abbrev pub notice_text : Notice → List ℕ
@@ -23,3 +24,6 @@ notice_text NotThreaded = codes "Threading is not enabled."
 notice_text ReadOnly = codes "Mailbox is read-only."
 notice_text NotBound = codes "Key is not bound."
 notice_text MacroLoop = codes "Macro loop."
+notice_text NewMail = codes "New mail in this mailbox."
+notice_text Modified = codes "Mailbox was externally modified. Flags may be wrong."
+notice_text CheckStarved = codes "Check failed: no memory"

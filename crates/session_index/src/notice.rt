@@ -1,6 +1,6 @@
-//! What the message line says of the index.
+//! What the message line says of the index and of the folder.
 
-/// What the message line says of the index.
+/// What the message line says of the index and of the folder.
 #[derive(Clone, Copy, Debug, PartialEq, Eq)]
 pub enum Notice {
     NoMessages,
@@ -17,6 +17,9 @@ pub enum Notice {
     ReadOnly,
     NotBound,
     MacroLoop,
+    NewMail,
+    Modified,
+    CheckStarved,
 }
 
 impl Notice {
@@ -42,6 +45,9 @@ impl Notice {
             Notice::ReadOnly => "Mailbox is read-only.",
             Notice::NotBound => "Key is not bound.",
             Notice::MacroLoop => "Macro loop.",
+            Notice::NewMail => "New mail in this mailbox.",
+            Notice::Modified => "Mailbox was externally modified. Flags may be wrong.",
+            Notice::CheckStarved => "Check failed: no memory",
         }
     }
 }

@@ -5,6 +5,7 @@ ghost use Rattle.session_index.specs.Opening as spec;
 ghost use Rattle.session_index.specs.Shown.{seen};
 
 use crate::desk::Desk;
+use crate::notice::Notice;
 use crate::sought::{Sought, first_shown};
 use folder_letters::{Archive, Found, Listing};
 use index_view::{View, ViewOptions};
@@ -24,6 +25,17 @@ pub fn first_found(alloc: Global, came: &Listing) -> Result<Found, NoMemory>
     })
 }
 
+// What is told of what a check found.
+fn found_notice(found: &Found) -> Option<Notice>
+    ensures { result ≡ spec.found_notice found.now.gone.items found.now.came.items }
+{
+    match (found.gone.as_slice(), found.came.as_slice()) {
+        ([], []) => None,
+        ([], _) => Some(Notice::NewMail),
+        (_, _) => Some(Notice::Modified),
+    }
+}
+
 // The first new message, else the first unread one, else the last.
 fn first_of(view: &View) -> Option<Id>
     ensures { result ≡ spec.first_of view.now.answers (seen view.now.answers) }
@@ -39,7 +51,7 @@ fn first_of(view: &View) -> Option<Id>
 }
 
 impl Desk {
-    ghost use Rattle.std.specs.Prelude.{map, List, OnOk};
+    ghost use Rattle.std.specs.Prelude.{map, List, OnErr, OnOk};
     ghost use Rattle.folder_letters.specs.Letters.{Mail, plain_letter};
     ghost use Rattle.index_view.specs.View.{IsOf, MayTake};
     ghost use Rattle.session_index.specs.Desk.{Holds, plain_desk};
@@ -60,11 +72,47 @@ impl Desk {
         requires is_of { IsOf (map plain_letter archive.now.items) self.old.view }
         requires found { MayTake (map plain_letter archive.now.items)
             (plain_desk self.old).index.facts.items found.now }
-        ensures { OnOk result (Holds (map plain_letter archive.now.items)
+        ensures ok { OnOk result (Holds (map plain_letter archive.now.items)
             (spec.taken_in (map plain_letter archive.now.items) found.now (plain_desk self.old))
             self.new) }
+        ensures err { OnErr result (self.new ≡ self.old) }
     {
         self.view.take_delta(archive, found)
+    }
+
+    // Takes in what a check found, unless that is nothing.
+    fn take_if(&mut self, archive: &Archive, found: &Found) -> Result<(), NoMemory>
+        requires is_of { IsOf (map plain_letter archive.now.items) self.old.view }
+        requires found { MayTake (map plain_letter archive.now.items)
+            (plain_desk self.old).index.facts.items found.now }
+        ensures ok { OnOk result (Holds (map plain_letter archive.now.items)
+            (spec.taken_if (map plain_letter archive.now.items) found.now found.now.gone.items
+            found.now.reflagged.items found.now.came.items (plain_desk self.old)) self.new) }
+        ensures err { OnErr result (self.new ≡ self.old) }
+    {
+        let gone = found.gone.as_slice();
+        let reflagged = found.reflagged.as_slice();
+        match (gone, reflagged, found.came.as_slice()) {
+            ([], [], []) => Ok(()),
+            (_, _, _) => self.take_in(archive, found),
+        }
+    }
+
+    /// Takes in what a check found, and tells of it.
+    pub fn check_in(&mut self, archive: &Archive, found: &Found) -> Result<(), NoMemory>
+        requires is_of { IsOf (map plain_letter archive.now.items) self.old.view }
+        requires found { MayTake (map plain_letter archive.now.items)
+            (plain_desk self.old).index.facts.items found.now }
+        ensures ok { OnOk result (Holds (map plain_letter archive.now.items)
+            (spec.checked (map plain_letter archive.now.items) found.now (plain_desk self.old))
+            self.new) }
+        ensures err { OnErr result (self.new ≡ self.old) }
+    {
+        self.take_if(archive, found)?;
+        if let Some(notice) = found_notice(found) {
+            self.say(notice);
+        }
+        Ok(())
     }
 
     /// A folder was opened: the cursor goes to the first new message, else to the first unread

@@ -7,3 +7,4 @@ pub mod Formats
 pub mod Status
 pub mod Screen
 pub mod PagerStatus
+pub mod Checks

@@ -2,6 +2,7 @@
 //! `page_lines`, `status_line`, and `pager_line` of a message.
 #![tactic(auto)]
 
+mod checks;
 mod formats;
 mod page;
 mod pager_status;
@@ -12,6 +13,7 @@ mod toggling;
 mod tuning;
 mod window;
 
+pub use checks::is_over;
 pub use page::page_lines;
 pub use pager_status::pager_line;
 pub use places::{folder_path, new_kind};

@@ -65,6 +65,7 @@ impl Drop for Rules {
 impl Rules {
     ghost use Rattle.std.specs.Prelude.{◌≡◌, ◌≢◌, ◌∷◌, ◌++◌, [], length, map};
     ghost use Rattle.std.specs.Prelude.{IfOk, OnOk, MatchOption};
+    ghost use Rattle.keymap.specs.Keymap.{has_begun};
     ghost use Rattle.keymap.specs.declared.menu.Menu.TheVariants.{Generic};
     ghost use Rattle.mail_base.specs.Series.{plain_texts};
     ghost use Rattle.session_state.specs.Commands.{IsPressed};
@@ -125,11 +126,11 @@ impl Rules {
         self.hooks.message_hooks()
     }
 
-    /// The hooks for messages that are saved.
-    pub fn save_hooks(&self) -> &PatternHooks
-        ensures { map plain_pattern_hook result.now.items ≡ self.now.hooks.saves }
+    /// Whether keys of a bound sequence were pressed that wait for its rest.
+    pub fn has_begun(&self) -> bool
+        ensures { result ≡ has_begun self.now.keymap.begun }
     {
-        self.hooks.save_hooks()
+        self.keymap.has_begun()
     }
 
     /// How many commands have put keys that were not taken.

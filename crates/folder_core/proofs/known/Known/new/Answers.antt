@@ -1,5 +1,5 @@
-use Rattle.std.proofs.Common.{◌≡◌, false, rules, subst, sym}
-use Rattle.folder_core.specs.Known.{KnownFolder, nothing_known}
+use Rattle.std.proofs.Common.{false, rules, subst, sym}
+use Rattle.folder_core.specs.Known.{KnownFolder}
 use Rattle.folder_core.specs.Right.{Right}
 use Rattle.folder_core.proofs.RightLemmas.{right_new}
 use Rattle.folder_core.proofs.known.Known.new.Goals as goal

@@ -6,8 +6,8 @@ use Rattle.session_index.proofs.IndexLemmas.{turned_shows}
 use Rattle.session_index.proofs.JoinedLemmas.{took_turned}
 use Rattle.session_index.proofs.desk.Desk.take_in.Goals as goal
 
-pub returns : goal.returns
-returns c =
+pub returns-clause-ok : goal.returns-clause-ok
+returns-clause-ok c =
     let mails = map plain_letter c.args.archive.now.items in
     let d = c.args.self.now in
     let v = c.take_delta.new.self in

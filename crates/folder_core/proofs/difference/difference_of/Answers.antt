@@ -3,7 +3,7 @@ use Rattle.std.specs.List.{filter}
 use Rattle.mail_base.specs.declared.flags.Flags.{Flags}
 use Rattle.folder_core.specs.Difference.{filled, has_others, is_new}
 use Rattle.folder_core.proofs.DifferenceLemmas.{differ_so}
-use Rattle.folder_core.proofs.difference.difference.Goals as goal
+use Rattle.folder_core.proofs.difference.difference_of.Goals as goal
 
 pub returns : goal.returns
 returns c =
