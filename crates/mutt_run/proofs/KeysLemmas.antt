@@ -10,12 +10,20 @@ use Rattle.keymap.specs.Stream.{first_key, is_open, keys_of}
 use Rattle.keymap.specs.declared.key.Key.{Key}
 use Rattle.keymap.specs.declared.key_reader.KeyFault.{KeyFault}
 use Rattle.session_events.specs.Events.{AreFiles, Happening, FileRead, FileRefused, KeyPressed}
-use Rattle.session_events.specs.Events.{FolderOpened, FolderRefused}
+use Rattle.session_events.specs.Events.{FolderOpened, FolderRefused, FolderChecked, CheckRefused}
 use Rattle.session_state.specs.declared.stage.Stage.{Stage}
 use Rattle.session_state.specs.declared.stage.Stage.TheVariants.{Idle, Over}
 use Rattle.mail_base.specs.Faults.{Rose}
-use Rattle.session.specs.Steps.{AddsFiles, PressesKey}
-use Rattle.mutt_run.specs.Going.{AreActs, CountsStreams, GoesToEnd, Presses}
+use Rattle.folder_letters.specs.Letters.{Mail}
+use Rattle.patterns.specs.Causes.{Keeps}
+use Rattle.people.specs.Judged.{PlainJudged}
+use Rattle.session_events.specs.Happened.{AllMet}
+use Rattle.session_events.specs.declared.event.Trace.{Trace}
+use Rattle.session.specs.Calls.{KeepsGiven}
+use Rattle.session.proofs.GivenLemmas.{keeps_on, keeps_same, keeps_still}
+use Rattle.session_events.proofs.MetLemmas.{met_append, met_files, met_key}
+use Rattle.session.specs.Steps.{AddsCheck, AddsFiles, AreChecks, PressesKey, StaysMet}
+use Rattle.mutt_run.specs.Going.{AreActs, CountsStreams, GoesToEnd, Presses, TurnsKey}
 use Rattle.mutt_run.specs.declared.status.Status.{Status}
 use Rattle.mutt_run.specs.declared.status.Status.TheVariants.{Done, KeysFault, OutFault}
 use Rattle.mutt_run.specs.declared.status.Status.TheVariants.{NoMemory}
@@ -60,6 +68,37 @@ files_keyless [] are = (refl, refl)
 files_keyless (FileRead path text marks ∷ files) are = files_keyless files are.1
 files_keyless (FileRefused path why marks ∷ files) are = files_keyless files are.1
 files_keyless (_ ∷ files) are = absurd are.0
+
+-- Checks are acts without keys.
+
+checks_acts : (checks : List Happening) → AreChecks checks → AreActs checks
+checks_acts [] are = tt
+checks_acts (FolderChecked moment found marks ∷ checks) are = checks_acts checks are.1
+checks_acts (CheckRefused moment why marks ∷ checks) are = checks_acts checks are.1
+checks_acts (_ ∷ checks) are = absurd are.0
+
+checks_keyless : (checks : List Happening) → AreChecks checks
+    → (pressed_keys checks ≡ []) × (pressed_moments checks ≡ [])
+checks_keyless [] are = (refl, refl)
+checks_keyless (FolderChecked moment found marks ∷ checks) are = checks_keyless checks are.1
+checks_keyless (CheckRefused moment why marks ∷ checks) are = checks_keyless checks are.1
+checks_keyless (_ ∷ checks) are = absurd are.0
+
+-- a turn has one key
+turned_keys : (key : Key) (moment : ℤ) (checks files : List Happening) → AreChecks checks
+    → AreFiles files
+    → (pressed_keys (checks ++ KeyPressed key moment ∷ files) ≡ key ∷ [])
+    × (pressed_moments (checks ++ KeyPressed key moment ∷ files) ≡ moment ∷ [])
+turned_keys key moment checks files are more =
+    let none = checks_keyless checks are in
+    let last = files_keyless files more in (
+      keys-append checks (KeyPressed key moment ∷ files)
+          ∙ ap (λ (l : List Key). l ++ key ∷ pressed_keys files) none.0
+          ∙ ap (λ (l : List Key). key ∷ l) last.0,
+      moments-append checks (KeyPressed key moment ∷ files)
+          ∙ ap (λ (l : List ℤ). l ++ moment ∷ pressed_moments files) none.1
+          ∙ ap (λ (l : List ℤ). moment ∷ l) last.1,
+    )
 
 -- Streams that go on.
 
@@ -148,14 +187,16 @@ module _ (first now : List Happening) (old : PlainReader) (keys0 keys1 keys2 : O
   -- a key was given and is pressed
   pub presses_key : (key : Key) (moment : ℤ) (clock2 : Option (List ℤ)) (later : List Happening)
       → GivesKey (Some key) old new keys1 keys2 → Gives clock1 clock2 (moment ∷ [])
-      → PressesKey key moment now later
+      → TurnsKey key moment now later
       → Presses first later new keys0 keys2 clock0 clock2
   presses_key key moment clock2 later gives tick is =
-      let more : List Happening = KeyPressed key moment ∷ is.files in
-      let none = files_keyless is.files is.are in
+      let more : List Happening = is.checks ++ KeyPressed key moment ∷ is.files in
+      let none = turned_keys key moment is.checks is.files is.are_checks is.are in
       record {
         more = presses.more ++ more;
-        are_acts = acts-append presses.more more presses.are_acts (files_acts is.files is.are);
+        are_acts = acts-append presses.more more presses.are_acts
+            (acts-append is.checks (KeyPressed key moment ∷ is.files)
+            (checks_acts is.checks is.are_checks) (files_acts is.files is.are));
         events_are = is.pressed ∙ ap (λ (l : List Happening). l ++ more) presses.events_are
             ∙ append_assoc first presses.more more;
         takes = record {
@@ -172,13 +213,13 @@ module _ (first now : List Happening) (old : PlainReader) (keys0 keys1 keys2 : O
           waiting = short;
           keys = subst (λ (l : List Key). AreFirst l new.pending keys0 keys2)
               (sym (keys-append presses.more more
-              ∙ ap (λ (l : List Key). pressed_keys presses.more ++ key ∷ l) none.0))
+              ∙ ap (λ (l : List Key). pressed_keys presses.more ++ l) none.0))
               (first_key_more (pressed_keys presses.more) key old.pending new.pending keys0 keys1
               keys2 presses.takes.keys gives.begins);
         };
         given = subst (λ (l : List ℤ). Gives clock0 clock2 l)
             (sym (moments-append presses.more more
-            ∙ ap (λ (l : List ℤ). pressed_moments presses.more ++ moment ∷ l) none.1))
+            ∙ ap (λ (l : List ℤ). pressed_moments presses.more ++ l) none.1))
             (gives_then clock0 clock1 clock2 (pressed_moments presses.more) (moment ∷ [])
             presses.given tick);
       }
@@ -324,10 +365,24 @@ full_reader reader many few =
     (ap is_open (nothing_in reader.pending (omega (arith, many, few))), omega (arith, many, few))
 
 pub pressed_on : (now mid later : List Happening) (key : Key) (moment given : ℤ) → mid ≡ now
-    → given ≡ moment → PressesKey key given mid later → PressesKey key moment now later
+    → given ≡ moment → TurnsKey key given mid later → TurnsKey key moment now later
 pressed_on now mid later key moment given same is press =
-    subst (λ (l : List Happening). PressesKey key moment l later) same
-    (subst (λ (m : ℤ). PressesKey key m mid later) is press)
+    subst (λ (l : List Happening). TurnsKey key moment l later) same
+    (subst (λ (m : ℤ). TurnsKey key m mid later) is press)
+
+-- a key behind a check
+pub turns_key : (key : Key) (moment given : ℤ) (now mid later : List Happening) → given ≡ moment
+    → AddsCheck now mid → PressesKey key given mid later → TurnsKey key moment now later
+turns_key key moment given now mid later same adds press = record {
+  checks = adds.checks;
+  are_checks = adds.are;
+  files = press.files;
+  are = press.are;
+  pressed = press.pressed
+      ∙ ap (λ (m : ℤ). mid ++ KeyPressed key m ∷ press.files) same
+      ∙ ap (λ (l : List Happening). l ++ KeyPressed key moment ∷ press.files) adds.added
+      ∙ append_assoc now adds.checks (KeyPressed key moment ∷ press.files);
+}
 
 -- files of commands that keys come to which commands have put
 pub presses_files : (now later : List Happening) (keys : Option (List ℕ))
@@ -414,3 +469,36 @@ counts_from {status} {keys} {keys'} {out} {mid} {next} {errs} {mid'} {next'} low
       ];
       later = omega (arith, low', counts.later);
     }
+
+-- Letters that were met.
+
+-- files of commands meet none
+pub stays_files : (mails mails' : List Mail) (now later : List Happening) → mails' ≡ mails
+    → AddsFiles now later → StaysMet mails now mails' later
+stays_files mails mails' now later same adds all =
+    subst (λ (l : List Mail). AllMet (length l) 0 later) (sym same)
+    (subst (AllMet (length mails) 0) (sym adds.added)
+    (met_append (length mails) (length mails) 0 now adds.files all
+    (met_files (length mails) adds.files adds.are)))
+
+-- nor does a key
+pub stays_key : (mails mails' : List Mail) (now later : List Happening) (key : Key) (moment : ℤ)
+    → mails' ≡ mails → PressesKey key moment now later → StaysMet mails now mails' later
+stays_key mails mails' now later key moment same press all =
+    subst (λ (l : List Mail). AllMet (length l) 0 later) (sym same)
+    (subst (AllMet (length mails) 0) (sym press.pressed)
+    (met_append (length mails) (length mails) 0 now (KeyPressed key moment ∷ press.files) all
+    (met_key (length mails) key moment press.files press.are)))
+
+pub stays_same : (mails : List Mail) (now later : List Happening) → later ≡ now
+    → StaysMet mails now mails later
+stays_same mails now later same all = subst (AllMet (length mails) 0) (sym same) all
+
+-- What was given behind a trace that grew by events alone was given before it.
+pub keeps_over : {X : Type 0} {Is : X → Type 0} {was then mid now : Trace X Is}
+    → KeepsGiven mid now → KeepsGiven was then → mid.archive ≡ then.archive
+    → mid.verdicts.kept ≡ then.verdicts.kept → KeepsGiven was now
+keeps_over {X} {Is} {was} {then} {mid} {now} next first archive verdicts =
+    keeps_on (keeps_on first (keeps_still then mid archive
+    (subst (λ (l : List PlainJudged). Keeps then.verdicts.kept l) (sym verdicts)
+    (keeps_same then.verdicts.kept)))) next

@@ -17,9 +17,9 @@ use Rattle.mutt_words.specs.Options.{PlainOptions}
 use Rattle.session.specs.Beginning.{BeginsRun, Fails, IsStated, Starts}
 use Rattle.session.specs.Beginning.{IsRefused as IsRefusedAs}
 use Rattle.session_events.specs.Events.{Happening, FolderOpened, FolderRefused}
-use Rattle.session.specs.Given.{Given}
+use Rattle.session.specs.Given.{Given, met_of}
 use Rattle.session.specs.Runs.{IsRunFrom, State, after_events}
-use Rattle.session.specs.Steps.{StaysTold}
+use Rattle.session.specs.Steps.{StaysToldFrom}
 use Rattle.session.specs.Telling.{Witnessed}
 use Rattle.session_events.specs.declared.event.OpenFault.{OpenFault}
 use Rattle.session_events.specs.declared.event.OpenFault.TheVariants.{Folder}
@@ -43,7 +43,7 @@ use Rattle.mutt_run.specs.declared.status.Status.TheVariants.{Empty}
 use Rattle.mutt_run.specs.declared.status.Status.TheVariants.{TooManyKeys}
 use Rattle.mutt_run.proofs.KeysLemmas.{consumes_none, first_none, gives_none}
 use Rattle.mutt_run.proofs.TurnLemmas.{text_cut, text_whole}
-use Rattle.mutt_run.proofs.RunLemmas.{after-append, all_keys, all_listed, all_moments}
+use Rattle.mutt_run.proofs.RunLemmas.{after-append, all_keys, all_moments}
 use Rattle.mutt_run.proofs.RunLemmas.{all_start, begun_breaks}
 
 -- A run of files of commands, an opening, and keys.
@@ -82,8 +82,6 @@ module _ (o : PlainOptions) (start : ℤ) (Has : Kind → Type 0) (given : Given
     whole = whole;
     noted = noted;
     told = told;
-    listed = all_listed Has given o start opening events old.disk mid begins more later
-        are_acts is;
     fault = fault;
     chosen = no_usage;
   }
@@ -355,24 +353,24 @@ module _ (o : PlainOptions) (start moment : ℤ) (Has : Kind → Type 0) (given 
       )
 
 pub starts_here : (o : PlainOptions) (start moment : ℤ) (Has : Kind → Type 0) (given : Given)
-    (setup : PlainSetup) (events : List Happening) (state : State) (before now : Seen)
-    → moment ≡ start → setup ≡ setup_of o
-    → Starts Has given (first_state setup moment) moment events state before now
-    → Starts Has given (first_of o start) start events state before now
-starts_here o start moment Has given setup events state before now at is begun =
-    subst (λ (m : ℤ). Starts Has given (first_of o m) m events state before now) at
-    (subst (λ (p : PlainSetup). Starts Has given (first_state p moment) moment events state before
-    now) is
-    begun)
+    (setup : PlainSetup) (events : List Happening) (state : State) (listing : List Listed)
+    (before now : Seen) → moment ≡ start → setup ≡ setup_of o
+    → Starts Has given (first_state setup moment) moment events state listing before now
+    → Starts Has given (first_of o start) start events state listing before now
+starts_here o start moment Has given setup events state listing before now at is begun =
+    subst (λ (m : ℤ). Starts Has given (first_of o m) m events state listing before now) at
+    (subst (λ (p : PlainSetup). Starts Has given (first_state p moment) moment events state listing
+    before now) is begun)
 
 -- A folder was opened.
 module _ (o : PlainOptions) (start : ℤ) (Has : Kind → Type 0) (given : Given)
     (events : List Happening) (old new : Outside) (task : task_of o ≡ ReadFolder) (state : State)
-    (mid : Seen) (starts : Starts Has given (first_of o start) start events state old.disk mid)
+    (listing : List Listed) (mid : Seen)
+    (starts : Starts Has given (first_of o start) start events state listing old.disk mid)
   where
     notes_are : (after_events given (first_of o start) events).notes ≡ state.notes
     notes_are = ap (λ (s : State). s.notes) starts.waits.state_is
-        ∙ (begin_keeps given state.turn.core.frames state).0
+        ∙ (begin_keeps (met_of state.met given) state.turn.core.frames state).0
 
     opened_at : (more later : List Happening) → AreActs more → later ≡ events ++ more
         → IsOpened starts.came more later
@@ -409,7 +407,7 @@ module _ (o : PlainOptions) (start : ℤ) (Has : Kind → Type 0) (given : Given
           (subst (λ (l : List (List ℕ)). TellsNotes status (printed_lines l) old new)
           (sym notes_are) (notes_cut status (printed_lines state.notes) old new which sent))
 
-      pub starts_empty : o.skip_empty ≡ true → state.listing ≡ []
+      pub starts_empty : o.skip_empty ≡ true → listing ≡ []
           → Appends old.told new.told (printed_lines state.notes)
           → Reads (Ok o) start Has given Empty events old new
       starts_empty skips none told =
@@ -419,7 +417,7 @@ module _ (o : PlainOptions) (start : ℤ) (Has : Kind → Type 0) (given : Given
             task,
             skips,
             subst (λ (l : List Listed). IsOpened l [] events)
-                (sym starts.listing ∙ none) (opened_at [] events tt (sym (append-nil events))),
+                (sym starts.listed ∙ none) (opened_at [] events tt (sym (append-nil events))),
           )
           (subst (λ (w : Option (List ℕ)). Appends old.written w []) (sym same_out)
           (appends_none old.written))
@@ -429,7 +427,7 @@ module _ (o : PlainOptions) (start : ℤ) (Has : Kind → Type 0) (given : Given
 
     -- and keys went on
     module _ (later : List Happening) (next : State)
-        (full : o.skip_empty ≡ true → state.listing ≡ [] → ⊥)
+        (full : o.skip_empty ≡ true → listing ≡ [] → ⊥)
         (witnessed : Witnessed Has given (first_of o start) later old.disk new.disk) where
       abbrev opening : List Happening
       opening = FolderOpened starts.path starts.kind start starts.came starts.marks ∷ []
@@ -442,7 +440,7 @@ module _ (o : PlainOptions) (start : ℤ) (Has : Kind → Type 0) (given : Given
           came = starts.came;
           keys = goes.presses.more;
           opened = opened_at goes.presses.more later goes.presses.are_acts goes.presses.events_are;
-          full = λ skips none. full skips (starts.listing ∙ none);
+          full = λ skips none. full skips (starts.listed ∙ none);
           reader = goes.reader;
           takes = subst (λ (l : List Key). TakesKeys l goes.reader old.left new.left)
               (sym (all_keys Has given o start opening events old.disk mid starts.begins
@@ -533,23 +531,25 @@ module _ (o : PlainOptions) (start : ℤ) (Has : Kind → Type 0) (given : Given
       starts_went Empty went goes = absurd goes.ends
 
     pub starts_go : (later : List Happening) (next : State) (status : Status) (now : Streams)
-        → (o.skip_empty ≡ true → state.listing ≡ [] → ⊥)
+        → (o.skip_empty ≡ true → listing ≡ [] → ⊥)
         → now.out ≡ old.written → Appends old.told now.errs (printed_lines state.notes)
         → old.faults ≤ now.faults
         → ((first : State) → (from : Streams) → BeginsOut given first events state from now
         → Ended given status first later next from (streams_of new))
-        → StaysTold Has events later mid new.disk
+        → ((first : State) → (from : Streams) → BeginsOut given first events state from now
+        → StaysToldFrom Has given first events later mid new.disk)
         → GoesToEnd status events later next.turn.stage old.left new.left old.moments new.moments
         → Reads (Ok o) start Has given status later old new
     starts_go later next status now full unprinted told low went witnessed goes =
-        starts_went later next full
-        (witnessed given (first_of o start) old.disk starts.begins.told) status
-        (went (first_of o start) (streams_of old) (record {
+        let begun : BeginsOut given (first_of o start) events state (streams_of old) now = record {
           waits = starts.waits;
           unprinted = unprinted;
           noted = told;
           later = low;
-        })) goes
+        } in
+        starts_went later next full
+        (witnessed (first_of o start) (streams_of old) begun old.disk starts.begins.told) status
+        (went (first_of o start) (streams_of old) begun) goes
 
 abbrev IsEmptyAlone : Status → Type 0
 IsEmptyAlone Empty = Unit {0}

@@ -5,7 +5,6 @@ use Rattle.std.proofs.lemmas.List.{append-nil}
 use Rattle.mail_base.specs.declared.kind.Kind.{Kind}
 use Rattle.mail_base.proofs.Sending.{appends_none}
 use Rattle.disk_model.specs.Seen.{Seen}
-use Rattle.folder_letters.specs.Letters.{Mail}
 use Rattle.mutt_words.specs.Options.{PlainOptions}
 use Rattle.session.specs.Beginning.{AreOpening, BeginsRun}
 use Rattle.session_events.specs.Events.{AreFiles, Happening, FileRead, FileRefused}
@@ -18,7 +17,6 @@ use Rattle.session.proofs.StepsLemmas.{after_unopened, files_unopened}
 use Rattle.session_state.specs.declared.stage.Stage.{Stage}
 use Rattle.session_state.specs.declared.stage.Stage.TheVariants.{Unopened}
 use Rattle.mutt_run.specs.Choice.{first_of}
-use Rattle.mutt_run.specs.Ending.{AllListed}
 use Rattle.mutt_run.specs.Going.{AreActs, Breaks}
 use Rattle.mutt_run.specs.Taken.{IsStart, pressed_keys, pressed_moments}
 use Rattle.mutt_run.proofs.ScreensLemmas.{breaks_unshown}
@@ -48,58 +46,36 @@ files_start start (FileRefused path why marks ∷ files) rest are h =
     files_start start files rest are.1 h
 files_start start (_ ∷ files) rest are h = absurd are.0
 
-files_listed : (letters : List Mail) (files rest : List Happening) → AreFiles files
-    → AllListed letters rest → AllListed letters (files ++ rest)
-files_listed letters [] rest are h = h
-files_listed letters (FileRead path text marks ∷ files) rest are h =
-    (tt, files_listed letters files rest are.1 h)
-files_listed letters (FileRefused path why marks ∷ files) rest are h =
-    (tt, files_listed letters files rest are.1 h)
-files_listed letters (_ ∷ files) rest are h = absurd are.0
-
 acts_start : (start : ℤ) (keys : List Happening) → AreActs keys → IsStart start keys
 acts_start start [] are = tt
 acts_start start (FolderOpened path kind moment came marks ∷ keys) are = absurd are
 acts_start start (FolderRefused path why marks ∷ keys) are = absurd are
 acts_start start (_ ∷ keys) are = acts_start start keys are
 
-acts_listed : (letters : List Mail) (keys : List Happening) → AreActs keys → AllListed letters keys
-acts_listed letters [] are = tt
-acts_listed letters (FolderOpened path kind moment came marks ∷ keys) are = absurd are
-acts_listed letters (FolderRefused path why marks ∷ keys) are = absurd are
-acts_listed letters (_ ∷ keys) are = (tt, acts_listed letters keys are)
+opening_keys : (start : ℤ) (opening rest : List Happening)
+    → AreOpening start opening → pressed_keys (opening ++ rest) ≡ pressed_keys rest
+opening_keys start [] rest opens = refl
+opening_keys start (FolderOpened path kind moment came marks ∷ []) rest opens = refl
+opening_keys start (FolderRefused path why marks ∷ []) rest opens = refl
+opening_keys start (_ ∷ []) rest opens = absurd opens
+opening_keys start (event ∷ next ∷ opening) rest opens = absurd opens
 
-opening_keys : (start : ℤ) (letters : List Mail) (opening rest : List Happening)
-    → AreOpening start letters opening → pressed_keys (opening ++ rest) ≡ pressed_keys rest
-opening_keys start letters [] rest opens = refl
-opening_keys start letters (FolderOpened path kind moment came marks ∷ []) rest opens = refl
-opening_keys start letters (FolderRefused path why marks ∷ []) rest opens = refl
-opening_keys start letters (_ ∷ []) rest opens = absurd opens.0
-opening_keys start letters (event ∷ next ∷ opening) rest opens = absurd opens
+opening_moments : (start : ℤ) (opening rest : List Happening)
+    → AreOpening start opening → pressed_moments (opening ++ rest) ≡ pressed_moments rest
+opening_moments start [] rest opens = refl
+opening_moments start (FolderOpened path kind moment came marks ∷ []) rest opens = refl
+opening_moments start (FolderRefused path why marks ∷ []) rest opens = refl
+opening_moments start (_ ∷ []) rest opens = absurd opens
+opening_moments start (event ∷ next ∷ opening) rest opens = absurd opens
 
-opening_moments : (start : ℤ) (letters : List Mail) (opening rest : List Happening)
-    → AreOpening start letters opening → pressed_moments (opening ++ rest) ≡ pressed_moments rest
-opening_moments start letters [] rest opens = refl
-opening_moments start letters (FolderOpened path kind moment came marks ∷ []) rest opens = refl
-opening_moments start letters (FolderRefused path why marks ∷ []) rest opens = refl
-opening_moments start letters (_ ∷ []) rest opens = absurd opens.0
-opening_moments start letters (event ∷ next ∷ opening) rest opens = absurd opens
-
-opening_start : (start : ℤ) (letters : List Mail) (opening rest : List Happening)
-    → AreOpening start letters opening → IsStart start rest → IsStart start (opening ++ rest)
-opening_start start letters [] rest opens h = h
-opening_start start letters (FolderOpened path kind moment came marks ∷ []) rest opens h =
-    (opens.0, h)
-opening_start start letters (FolderRefused path why marks ∷ []) rest opens h = h
-opening_start start letters (_ ∷ []) rest opens h = absurd opens.0
-opening_start start letters (event ∷ next ∷ opening) rest opens h = absurd opens
-
-opening_listed : (start : ℤ) (letters : List Mail) (opening rest : List Happening)
-    → AreOpening start letters opening → AllListed letters rest
-    → AllListed letters (opening ++ rest)
-opening_listed start letters [] rest opens h = h
-opening_listed start letters (event ∷ []) rest opens h = (opens.1, h)
-opening_listed start letters (event ∷ next ∷ opening) rest opens h = absurd opens
+opening_start : (start : ℤ) (opening rest : List Happening)
+    → AreOpening start opening → IsStart start rest → IsStart start (opening ++ rest)
+opening_start start [] rest opens h = h
+opening_start start (FolderOpened path kind moment came marks ∷ []) rest opens h =
+    (opens, h)
+opening_start start (FolderRefused path why marks ∷ []) rest opens h = h
+opening_start start (_ ∷ []) rest opens h = absurd opens
+opening_start start (event ∷ next ∷ opening) rest opens h = absurd opens
 
 pub after-append : (given : Given) (s : State) (xs ys : List Happening)
     → after_events given s (xs ++ ys) ≡ after_events given (after_events given s xs) ys
@@ -121,7 +97,7 @@ files_screens given s (event ∷ files) rest are stage =
     (unshown given next here) ∙ files_screens given next files rest are.1 here
 
 opening_screens : (given : Given) (s : State) (start : ℤ) (opening : List Happening)
-    → AreOpening start given.mails opening → s.turn.stage ≡ Unopened
+    → AreOpening start opening → s.turn.stage ≡ Unopened
     → screens_from given s opening ≡ shown given (after_events given s opening)
 opening_screens given s start [] opens stage = sym (unshown given s stage)
 opening_screens given s start (event ∷ []) opens stage =
@@ -161,21 +137,15 @@ module _ (Has : Kind → Type 0) (given : Given) (o : PlainOptions) (start : ℤ
 
       pub all_keys : pressed_keys later ≡ pressed_keys more
       all_keys = ap pressed_keys all_is ∙ files_keys begins.files (opening ++ more) begins.are_files
-          ∙ opening_keys start given.mails opening more begins.opens
+          ∙ opening_keys start opening more begins.opens
 
       pub all_moments : pressed_moments later ≡ pressed_moments more
       all_moments = ap pressed_moments all_is
           ∙ files_moments begins.files (opening ++ more) begins.are_files
-          ∙ opening_moments start given.mails opening more begins.opens
+          ∙ opening_moments start opening more begins.opens
 
       pub all_start : IsStart start later
       all_start = subst (IsStart start) (sym all_is)
           (files_start start begins.files (opening ++ more) begins.are_files
-          (opening_start start given.mails opening more begins.opens
+          (opening_start start opening more begins.opens
           (acts_start start more are_acts)))
-
-      pub all_listed : AllListed given.mails later
-      all_listed = subst (AllListed given.mails) (sym all_is)
-          (files_listed given.mails begins.files (opening ++ more) begins.are_files
-          (opening_listed start given.mails opening more begins.opens
-          (acts_listed given.mails more are_acts)))

@@ -10,7 +10,7 @@ use Rattle.mail_base.specs.Streams.{Sent}
 use Rattle.mail_base.proofs.Sending.{appends_then}
 use Rattle.folder_letters.specs.Letters.{Mail}
 use Rattle.session_events.specs.Events.{Happening}
-use Rattle.session.specs.Given.{Given}
+use Rattle.session.specs.Given.{Given, met_of}
 use Rattle.session.specs.Runs.{State, after_events, screen_in, screens_from, shown}
 use Rattle.session.specs.Runs.{stage_screens}
 use Rattle.session.specs.Steps.{Stands}
@@ -36,17 +36,17 @@ texts-append : (xs ys : List (List (List ℕ)))
 texts-append xs ys =
     ap concat (map-append screen_text xs ys) ∙ concat-append (texts xs) (texts ys)
 
--- The letters of a screen are those that are given.
+-- The letters of a screen are those that were met.
 module _ (given : Given) (mails : List Mail) (s : State) (old new : Option (List ℕ))
-    (same : given.mails ≡ mails) where
+    (same : (met_of s.met given).mails ≡ mails) where
   pub shown_given : Appends old new (screen_text (screen_in mails s))
-      → Appends old new (screen_text (screen_in given.mails s))
+      → Appends old new (screen_text (screen_in (met_of s.met given).mails s))
   shown_given more =
       subst (λ (a : List Mail). Appends old new (screen_text (screen_in a s)))
       (sym same) more
 
   pub cut_given : (rest : List ℕ) × Sent old new (screen_text (screen_in mails s)) rest
-      → (rest : List ℕ) × Sent old new (screen_text (screen_in given.mails s)) rest
+      → (rest : List ℕ) × Sent old new (screen_text (screen_in (met_of s.met given).mails s)) rest
   cut_given cut =
       subst (λ (a : List Mail). (rest : List ℕ)
       × Sent old new (screen_text (screen_in a s)) rest) (sym same) cut
@@ -87,7 +87,7 @@ module _ (given : Given) (first s : State) (events : List Happening)
         → length (concat (texts (stage_screens given stage s)))
         ≤ last_length (texts (screens_from given first events))
     short_by Idle is =
-        let here : List (List ℕ) = screen_in given.mails s in
+        let here : List (List ℕ) = screen_in (met_of s.met given).mails s in
         omega (
           arith,
           ap (λ (l : List (List (List ℕ))). last_length (texts l)) (all_are Idle is)
@@ -123,16 +123,16 @@ module _ (given : Given) (first s : State) (events : List Happening)
     -- the screen was printed, whole or not
     module _ (new : Option (List ℕ)) (idle : s.turn.stage ≡ Idle) where
       here : List ℕ
-      here = screen_text (screen_in given.mails s)
+      here = screen_text (screen_in (met_of s.met given).mails s)
 
       all_here : concat (texts (screens_from given first events)) ≡ concat (texts screens) ++ here
       unfolding here
       all_here =
           ap (λ (l : List (List (List ℕ))). concat (texts l)) (all_are Idle idle)
-          ∙ texts-append screens (screen_in given.mails s ∷ [])
+          ∙ texts-append screens (screen_in (met_of s.met given).mails s ∷ [])
           ∙ ap (λ (l : List ℕ). concat (texts screens) ++ l) (append-nil here)
 
-      pub goes_shown : Appends mid new (screen_text (screen_in given.mails s))
+      pub goes_shown : Appends mid new (screen_text (screen_in (met_of s.met given).mails s))
           → Goes given first events s old new
       unfolding here
       goes_shown more = record {
@@ -145,7 +145,7 @@ module _ (given : Given) (first s : State) (events : List Happening)
       }
 
       pub breaks_cut : (rest : List ℕ)
-          × Sent mid new (screen_text (screen_in given.mails s)) rest
+          × Sent mid new (screen_text (screen_in (met_of s.met given).mails s)) rest
           → Breaks given first events old new
       unfolding here
       breaks_cut cut = record {
@@ -163,7 +163,7 @@ module _ (given : Given) (first s : State) (events : List Happening)
             ap (λ (l : List (List (List ℕ))). last_length (texts l)) (all_are Idle idle)
                 ∙ ap last_length
                 (map-append screen_text screens
-                (screen_in given.mails s ∷ []))
+                (screen_in (met_of s.met given).mails s ∷ []))
                 ∙ last-append (texts screens) here,
             ap length cut.1.1,
             length-append cut.1.0 cut.0,

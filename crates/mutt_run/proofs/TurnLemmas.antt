@@ -1,14 +1,16 @@
 -- What is told and shown behind a key.
 use Rattle.std.proofs.Common.{◌≡◌, ◌≤◌, ◌⊎◌, ◌++◌, inl, inr, ℕ, List, [], ◌∷◌, Option, length}
 use Rattle.std.proofs.Common.{Result, Ok, Err, refl, sym, ◌∙◌, ap, subst, append_assoc, arith, drop}
+use Rattle.std.proofs.Common.{take}
 use Rattle.std.proofs.lemmas.List.{append-nil}
 use Rattle.std.specs.Io.KnownBytes.{Appends}
 use Rattle.mail_base.specs.Faults.{Rose}
+use Rattle.mail_base.specs.Series.{Held, plain_texts}
 use Rattle.mail_base.specs.Streams.{Sent}
 use Rattle.mail_base.proofs.Sending.{appends_none, appends_then}
 use Rattle.folder_letters.specs.Letters.{Mail}
 use Rattle.session_events.specs.Events.{Happening}
-use Rattle.session.specs.Given.{Given}
+use Rattle.session.specs.Given.{Given, met_of}
 use Rattle.session.specs.Runs.{State, after_events, screen_in, shown}
 use Rattle.session.specs.Steps.{GoesOn, Stands}
 use Rattle.session.proofs.StepsLemmas.{goes_stands}
@@ -151,7 +153,8 @@ module _ (given : Given) (first : State) (events : List Happening)
         later = no_less;
       }
 
-      module _ {mails : List Mail} (same : given.mails ≡ mails) (out : Option (List ℕ))
+      module _ {mails : List Mail} (same : (met_of s.met given).mails ≡ mails)
+          (out : Option (List ℕ))
           (idle : s.turn.stage ≡ Idle) where
         pub tells_shown : Appends now.out out (screen_text (screen_in mails s))
             → GoesOut given first events s start
@@ -176,11 +179,23 @@ module _ (given : Given) (first : State) (events : List Happening)
               noted);
         }
 
+-- the letters that were met are the first of those that are given
+pub met_letters : (given : Given) (mails : List Mail) (met : ℕ) → met ≡ length mails
+    → take (length mails) given.mails ≡ mails → (met_of met given).mails ≡ mails
+met_letters given mails met is first = ap (λ (n : ℕ). take n given.mails) is ∙ first
+
 -- What a run has come to so far.
 
 pub goes_so : {given : Given} {first s : State} {events : List Happening} {old new : Streams}
     (goes : GoesOut given first events s old new) → GoesSo old new goes.goes.screens s.notes
 goes_so goes = record { sent = goes.goes.sent; noted = goes.noted; later = goes.later }
+
+-- a check tells no line
+pub so_still : {old new : Streams} {screens : List (List (List ℕ))} {notes later : Held (Held ℕ)}
+    → later ≡ notes → GoesSo old new screens (plain_texts notes)
+    → GoesSo old new screens (plain_texts later)
+so_still {old} {new} {screens} same goes =
+    subst (λ (n : Held (Held ℕ)). GoesSo old new screens (plain_texts n)) (sym same) goes
 
 pub begins_so : {given : Given} {first s : State} {events : List Happening} {old new : Streams}
     → BeginsOut given first events s old new → GoesSo old new [] s.notes

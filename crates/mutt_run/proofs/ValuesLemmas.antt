@@ -59,7 +59,7 @@ names_at {given} {events} {names} {lines} {notes} setup a b same answers =
 
 module _ (o : PlainOptions) (start : ℤ) (given : Given) (setup : PlainSetup)
     (events : List Happening) (names : List (List ℕ)) (old new : Outside) (is : setup ≡ setup_of o)
-    (task : task_of o ≡ TellValues names) (none : given.mails ≡ [])
+    (task : task_of o ≡ TellValues names)
     (sources : SourcesOff given.verdicts (first_state setup start) events old.disk new.disk)
     (same_left : new.left ≡ old.left) (same_clock : new.moments ≡ old.moments) where
   abbrev read : SourcesOff given.verdicts (first_of o start) events old.disk new.disk
@@ -70,7 +70,7 @@ module _ (o : PlainOptions) (start : ℤ) (given : Given) (setup : PlainSetup)
   begins = record {
     files = events;
     are_files = read.are;
-    opens = none;
+    opens = tt;
     events_are = sym (append-nil events);
     run = read.run given (keeps_same given.verdicts);
     told = read.told given (keeps_same given.verdicts);

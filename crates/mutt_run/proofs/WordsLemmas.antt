@@ -150,7 +150,6 @@ module _ (choice : Result PlainOptions (List ℕ)) (start : ℤ) (Has : Kind →
     told = subst (λ (d : Seen). Witnessed Has given (first_by choice start) [] old.disk d)
         (sym same_disk)
         (witnessed_none Has given (first_by choice start) old.disk);
-    listed = tt;
     fault = λ is. absurd (fault is);
     chosen = chosen;
   }
@@ -296,7 +295,6 @@ reads_driven {choice} {start} {given} {status} {events} {old} {new} Has are read
   noted = reads.noted;
   told = witnessed_files Driverless Has given (first_by choice start) events old.disk new.disk are
       reads.told;
-  listed = reads.listed;
   fault = reads.fault;
   chosen = reads.chosen;
 }

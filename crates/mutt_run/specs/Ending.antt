@@ -2,7 +2,6 @@
 use Rattle.std.specs.Prelude.{◌≡◌, ◌++◌, ℕ, ℤ, true, List, [], ◌∷◌, Option}
 use Rattle.std.specs.Prelude.{Result, Ok, Err}
 use Rattle.mail_base.specs.declared.kind.Kind.{Kind}
-use Rattle.folder_letters.specs.Letters.{Mail}
 use Rattle.folder_core.specs.declared.error.ScanError.TheVariants.{Fault}
 use Rattle.folder_letters.specs.declared.listing.Listed.{Listed}
 use Rattle.keymap.specs.Reader.{PlainReader}
@@ -11,7 +10,6 @@ use Rattle.session.specs.Beginning.{IsStated}
 use Rattle.session_events.specs.Events.{AreFiles, Happening, FolderOpened}
 use Rattle.session_events.specs.Events.{FolderRefused}
 use Rattle.session.specs.Given.{Given}
-use Rattle.session_events.specs.Happened.{IsListed}
 use Rattle.session.specs.Runs.{after_events}
 use Rattle.session_events.specs.declared.event.Marks.{Marks}
 use Rattle.session_events.specs.declared.event.OpenFault.{OpenFault}
@@ -98,8 +96,3 @@ IsNoUsage status = Unit {0}
 abbrev pub IsChosen : Result PlainOptions (List ℕ) → Status → Type 0
 IsChosen (Ok o) status = IsNoUsage status
 IsChosen (Err word) status = IsUsage word status
-
--- what came at each opening was listed anew
-abbrev pub AllListed : List Mail → List Happening → Type 0
-AllListed archive [] = Unit {0}
-AllListed archive (event ∷ events) = IsListed archive event × AllListed archive events

@@ -7,11 +7,12 @@ use Rattle.mail_base.specs.Faults.{Rose}
 use Rattle.mail_base.specs.Streams.{Sent}
 use Rattle.keymap.specs.Reader.{PlainReader, most_bytes}
 use Rattle.keymap.specs.Stream.{is_open}
-use Rattle.session_events.specs.Events.{Happening, FolderOpened}
+use Rattle.keymap.specs.declared.key.Key.{Key}
+use Rattle.session_events.specs.Events.{AreFiles, Happening, KeyPressed, FolderOpened}
 use Rattle.session_events.specs.Events.{FolderRefused}
 use Rattle.session.specs.Given.{Given}
 use Rattle.session.specs.Runs.{IsRunFrom, State, after_events, screens_from}
-use Rattle.session.specs.Steps.{Stands, Waits}
+use Rattle.session.specs.Steps.{AreChecks, Stands, Waits}
 use Rattle.session_events.specs.declared.setup.Next.{Next}
 use Rattle.session_events.specs.declared.setup.Next.TheVariants.{Go, Quit}
 use Rattle.session_state.specs.declared.stage.Stage.{Stage}
@@ -122,12 +123,21 @@ IsTurnedTo (Ok Go) stage = stage ≡ Idle
 IsTurnedTo (Ok Quit) stage = stage ≡ Over
 IsTurnedTo (Err status) stage = (status ≡ OutFault) ⊎ (status ≡ NoMemory)
 
--- keys, and what they came to: no folder is opened
+-- keys, checks, and what keys came to: no folder is opened
 abbrev pub AreActs : List Happening → Type 0
 AreActs [] = Unit {0}
 AreActs (FolderOpened path kind moment came marks ∷ events) = ⊥
 AreActs (FolderRefused path why marks ∷ events) = ⊥
 AreActs (_ ∷ events) = AreActs events
+
+-- A key was pressed, behind a check where one was due, and files of commands were read that it came
+-- to.
+pub record TurnsKey (key : Key) (moment : ℤ) (events events' : List Happening) : Type 0 where
+  pub checks : List Happening
+  pub are_checks : AreChecks checks
+  pub files : List Happening
+  pub are : AreFiles files
+  pub pressed : events' ≡ events ++ (checks ++ KeyPressed key moment ∷ files)
 
 -- keys were pressed: their bytes were taken, and their moments
 pub record Presses (events events' : List Happening) (reader : PlainReader)

@@ -1,12 +1,8 @@
 -- What is told on the fault stream and by the exit status.
 use Rattle.std.specs.Prelude.{◌≡◌, ◌⊎◌, ℕ, List, [], ◌∷◌, ◌++◌, codes, Option}
-use Rattle.std.specs.Fmt.{decimal}
 use Rattle.std.specs.Io.KnownBytes.{Appends}
 use Rattle.mail_base.specs.Streams.{Sent}
-use Rattle.folder_core.specs.declared.error.ScanError.{ScanError}
-use Rattle.folder_core.specs.declared.error.ScanError.TheVariants.{Missing, NotMailbox, TooMany}
-use Rattle.folder_core.specs.declared.error.ScanError.TheVariants.{TooLarge, Unfinished}
-use Rattle.folder_core.specs.declared.error.ScanError.TheVariants.{ArchiveFull, Fault, NoMemory}
+use Rattle.session_events.specs.Causes.{scan_cause}
 use Rattle.session_events.specs.Events.{Happening, FolderOpened}
 use Rattle.session_events.specs.Events.{FolderRefused}
 use Rattle.session_events.specs.declared.event.OpenFault.{OpenFault}
@@ -17,21 +13,6 @@ use Rattle.mutt_run.specs.declared.status.Status.TheVariants.{Done, Usage, NotOp
 use Rattle.mutt_run.specs.declared.status.Status.TheVariants.{KeysFault, OutFault, Empty}
 use Rattle.mutt_run.specs.declared.status.Status.TheVariants.{NoMemory as WantOfMemory}
 use Rattle.mutt_run.specs.declared.status.Status.TheVariants.{TooManyKeys}
-
--- a text with a number in parentheses
-abbrev pub numbered : List ℕ → ℕ → List ℕ
-numbered text n = text ++ decimal n ++ codes ")"
-
--- why a folder was not read
-abbrev pub scan_cause : ScanError → List ℕ
-scan_cause Missing = codes "missing"
-scan_cause (NotMailbox n) = numbered (codes "not a mailbox (") n
-scan_cause (TooMany n) = numbered (codes "too many messages (") n
-scan_cause (TooLarge n) = numbered (codes "too large (") n
-scan_cause Unfinished = codes "unfinished"
-scan_cause ArchiveFull = codes "archive full"
-scan_cause Fault = codes "disk fault"
-scan_cause NoMemory = codes "no memory"
 
 -- why a folder was not opened
 abbrev pub cause : OpenFault → List ℕ

@@ -9,13 +9,13 @@ use Rattle.disk_model.specs.Seen.{Seen}
 use Rattle.keymap.specs.Reader.{PlainReader}
 use Rattle.mutt_words.specs.Options.{PlainOptions}
 use Rattle.session_events.specs.Events.{Happening}
-use Rattle.session.specs.Given.{Given, IsGiven}
+use Rattle.session.specs.Given.{Given, IsGivenOn}
 use Rattle.session.specs.Runs.{IsRunFrom}
 use Rattle.session.specs.Telling.{Witnessed}
 use Rattle.session_state.specs.Instants.{IsMoment}
 use Rattle.mutt_run.specs.Choice.{acted_on, first_by, state_by}
 use Rattle.mutt_run.specs.Complete.{IsPlainEnd, NamesReadable}
-use Rattle.mutt_run.specs.Ending.{AllListed, EndsAs, IsChosen}
+use Rattle.mutt_run.specs.Ending.{EndsAs, IsChosen}
 use Rattle.mutt_run.specs.Going.{IsUnshown, Streams, TellsText, streams}
 use Rattle.mutt_run.specs.Notes.{Tells, folder_in}
 use Rattle.mutt_run.specs.Printed.{Prints, PrintsBut, pieces_by}
@@ -73,15 +73,14 @@ pub record Reads (choice : Result PlainOptions (List ℕ)) (start : ℤ) (Has : 
       → Appends old.written new.written (concat (pieces_by given choice start events))
   pub noted : TellsNotes status (printed_lines (state_by given choice start events).notes) old new
   pub told : Witnessed Has given (first_by choice start) events old.disk new.disk
-  pub listed : AllListed given.mails events
   pub fault : status ≡ DiskFault → Rose old.disk.faults new.disk.faults
   pub chosen : IsChosen choice status
 
--- the same over letters, and over every list of verdicts that keeps these
+-- the same over every list of letters that begins with these, and of verdicts that keeps these
 abbrev pub ReadsOver : Result PlainOptions (List ℕ) → ℤ → (Kind → Type 0) → Given → Status
     → List Happening → Outside → Outside → Type 0
 ReadsOver choice start Has kept status events old new = (given : Given)
-    → IsGiven kept.mails kept.verdicts given
+    → IsGivenOn kept.mails kept.verdicts given
     → Reads choice start Has given status events old new
 
 -- What a run has come to whose start was at a moment. Where `Quiet` holds no fault was counted.
@@ -111,12 +110,13 @@ pub record RunsFrom (choice : Result PlainOptions (List ℕ)) (start : ℤ) (Has
   pub complete : NamesReadable Has given choice start events new.disk.told → Quiet
       → IsPlainEnd status
 
--- the same over letters, and over every list of verdicts that keeps these: what was refused for an
--- expression is refused whatever else is judged
+-- the same over every list of letters that begins with these, and of verdicts that keeps these:
+-- what
+-- was refused for an expression is refused whatever else is judged
 abbrev pub RunsOver : Result PlainOptions (List ℕ) → ℤ → (Kind → Type 0) → Given → Status
     → List Happening → Outside → Outside → Type 0 → Type 0
 RunsOver choice start Has kept status events old new Quiet = (given : Given)
-    → IsGiven kept.mails kept.verdicts given
+    → IsGivenOn kept.mails kept.verdicts given
     → RunsFrom choice start Has given status events old new Quiet
 
 -- For the code alone.

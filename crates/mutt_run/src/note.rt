@@ -1,12 +1,11 @@
 //! What the end of a run tells.
 
-ghost use Rattle.std.specs.Prelude.{◌≡◌, ◌++◌, codes, IfOk, OnOk};
+ghost use Rattle.std.specs.Prelude.{◌≡◌, ◌++◌, codes, IfOk};
 ghost use Rattle.mutt_run.specs.Notes as spec;
 
 use crate::status::Status;
-use folder_core::ScanError;
-use mail_base::{Bytes, NoMemory};
-use session_events::OpenFault;
+use mail_base::{Bytes, Line, NoMemory};
+use session_events::{OpenFault, append_cause};
 use std::alloc::Global;
 
 /// What the end of a run tells.
@@ -38,7 +37,7 @@ fn refusal_line(alloc: Global, path: &[u8], why: OpenFault) -> Result<Bytes, NoM
 {
     let mut text = Bytes::copy_of(alloc, path)?;
     text.append(b": ")?;
-    append_cause(alloc, &mut text, why)?;
+    text.append(cause_text(alloc, why)?.as_slice())?;
     line(alloc, text.as_slice())
 }
 
@@ -50,46 +49,17 @@ fn empty_line(alloc: Global, path: &[u8]) -> Result<Bytes, NoMemory>
     line(alloc, text.as_slice())
 }
 
-// Adds why a folder was not opened.
-fn append_cause(alloc: Global, text: &mut Bytes, why: OpenFault) -> Result<(), NoMemory>
-    ensures { OnOk result (text.new.items ≡ text.old.items ++ spec.cause why) }
+// Why a folder was not opened.
+fn cause_text(alloc: Global, why: OpenFault) -> Result<Line, NoMemory>
+    ensures { IfOk result (λ text. text.items ≡ spec.cause why) }
 {
+    let mut text = Line::new(alloc);
     match why {
-        OpenFault::Taken => text.append(b"already there"),
-        OpenFault::NoDriver(_) => text.append(b"no driver"),
-        OpenFault::Folder(why) => append_scan_cause(alloc, text, why),
+        OpenFault::Taken => text.append("already there")?,
+        OpenFault::NoDriver(_) => text.append("no driver")?,
+        OpenFault::Folder(why) => append_cause(alloc, &mut text, why)?,
     }
-}
-
-// Adds why a folder was not read.
-fn append_scan_cause(alloc: Global, text: &mut Bytes, why: ScanError) -> Result<(), NoMemory>
-    ensures { OnOk result (text.new.items ≡ text.old.items ++ spec.scan_cause why) }
-{
-    match why {
-        ScanError::Missing => text.append(b"missing"),
-        ScanError::NotMailbox(place) => append_numbered(alloc, text, b"not a mailbox (", place),
-        ScanError::TooMany(count) => append_numbered(alloc, text, b"too many messages (", count),
-        ScanError::TooLarge(length) => append_numbered(alloc, text, b"too large (", length),
-        ScanError::Unfinished => text.append(b"unfinished"),
-        ScanError::ArchiveFull => text.append(b"archive full"),
-        ScanError::Fault => text.append(b"disk fault"),
-        ScanError::NoMemory => text.append(b"no memory"),
-    }
-}
-
-// Adds a text, a number and a closing parenthesis.
-fn append_numbered(
-    alloc: Global,
-    text: &mut Bytes,
-    front: &[u8],
-    number: u64,
-) -> Result<(), NoMemory>
-    ensures { OnOk result (text.new.items ≡ text.old.items ++ spec.numbered front.now number) }
-{
-    text.append(front)?;
-    text.append(number.to_string(alloc)?.as_bytes())?;
-    text.append(b")")?;
-    Ok(())
+    Ok(text)
 }
 
 // A line of the fault stream.

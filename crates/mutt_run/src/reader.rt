@@ -1,6 +1,6 @@
 //! A whole run, from the words of a command line to its end.
 
-ghost use Rattle.std.specs.Prelude.{◌≡◌, ◌⊎◌, ℤ, true, false, [], Ok, Any, IfErr, map};
+ghost use Rattle.std.specs.Prelude.{◌≡◌, ◌⊎◌, ℤ, true, false, [], Ok, Any, IfErr, length, map};
 ghost use Rattle.std.specs.List.{All};
 ghost use Rattle.mail_base.specs.Faults.{Rose};
 ghost use Rattle.mail_base.specs.Series.{plain_texts};
@@ -12,7 +12,8 @@ ghost use Rattle.mutt_words.specs.Words.{options_of};
 ghost use Rattle.session_events.specs.Events.{plain_events};
 ghost use Rattle.session_state.specs.Instants.{IsMoment};
 ghost use Rattle.session.specs.Given.{given_of};
-ghost use Rattle.mutt_run.specs.Ending.{AllListed, IsChosen};
+ghost use Rattle.mutt_run.specs.Ending.{IsChosen};
+ghost use Rattle.session_events.specs.Happened.{AllMet};
 ghost use Rattle.mutt_run.specs.Notes.{folder_in};
 ghost use Rattle.mutt_run.specs.Printed.{TellsVersion};
 ghost use Rattle.mutt_run.specs.Going.{CountsStreams};
@@ -76,7 +77,8 @@ pub fn run<K: Source, O: Sink, E: Sink, C: Clock>(
     // Nothing is changed on the disk.
     ensures looks { LooksOnly (seen (dev.old.disk.vtable, dev.old.disk.value)).told
         (seen (dev.new.disk.vtable, dev.new.disk.value)).told }
-    ensures listed { AllListed (map plain_letter trace.new.archive.items)
+    // The letters are those of what came, one behind the other, whatever the disk tells.
+    ensures listed { AllMet (length (map plain_letter trace.new.archive.items)) 0
         (plain_events trace.new.events.items) }
     ensures drivers { drivers.new.list.items ≡ drivers.old.list.items }
 
@@ -128,6 +130,8 @@ fn obey_words<K: Source, O: Sink, E: Sink, C: Clock>(
         (C.moments clock.new) (seen (dev.new.disk.vtable, dev.new.disk.value))) }
     ensures unopened { IfErr (options_of (plain_texts words.now))
         (λ word. plain_events trace.new.events.items ≡ []) }
+    ensures met { AllMet (length (map plain_letter trace.new.archive.items)) 0
+        (plain_events trace.new.events.items) }
     ensures faults { CountsStreams result (K.faults keys.old) (K.faults keys.new)
         (O.faults out.old) (O.faults out.new) (E.faults errs.old) (E.faults errs.new) }
 {
@@ -166,6 +170,8 @@ fn obey<K: Source, O: Sink, E: Sink, C: Clock>(
         (C.moments clock.old) (seen (dev.old.disk.vtable, dev.old.disk.value)))
         (outside (O.written out.new) (E.written errs.new) (E.faults errs.new) (K.left keys.new)
         (C.moments clock.new) (seen (dev.new.disk.vtable, dev.new.disk.value))) }
+    ensures met { AllMet (length (map plain_letter trace.new.archive.items)) 0
+        (plain_events trace.new.events.items) }
     ensures faults { CountsStreams result (K.faults keys.old) (K.faults keys.new)
         (O.faults out.old) (O.faults out.new) (E.faults errs.old) (E.faults errs.new) }
 {

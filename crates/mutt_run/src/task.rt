@@ -1,16 +1,20 @@
 //! The tasks of a run: to read a folder, and to print the values of variables.
 
-ghost use Rattle.std.specs.Prelude.{◌≡◌, ◌≤◌, ℕ, ℤ, Ok, true, false, [], List, Any, Option, map};
+ghost use Rattle.std.specs.Prelude.{◌≡◌, ◌≤◌, ℕ, ℤ, Ok, true, false, [], List, Any, Option, length};
+ghost use Rattle.std.specs.Prelude.{map};
 ghost use Rattle.mail_base.specs.Series.{plain_texts};
 ghost use Rattle.disk_model.specs.Seen.{Seen};
 ghost use Rattle.folder_letters.specs.Letters.{plain_letter};
 ghost use Rattle.mutt_words.specs.Options.{PlainOptions};
 ghost use Rattle.session.specs.Beginning.{Starts};
 ghost use Rattle.session_events.specs.Events.{AreFiles, plain_events};
+ghost use Rattle.session_events.specs.Happened.{AllMet};
+ghost use Rattle.session.specs.Calls.{IsOpenIn};
+ghost use Rattle.session.specs.Steps.{StaysMet};
 ghost use Rattle.session_screen.specs.Window.{IsWindow};
 ghost use Rattle.session_state.specs.Instants.{IsMoment};
-ghost use Rattle.session.specs.Fitting.{Fits};
-ghost use Rattle.session.specs.Given.{Given, IsGiven, given_of};
+ghost use Rattle.session.specs.Fitting.{FitsRun};
+ghost use Rattle.session.specs.Given.{Given, IsGivenOn, given_of};
 ghost use Rattle.session.specs.Runs.{plain_session};
 ghost use Rattle.session.specs.Starting.{plain_setup};
 ghost use Rattle.session.specs.Telling.{Driverless};
@@ -59,6 +63,8 @@ pub fn read<K: Source, O: Sink, E: Sink, C: Clock>(
         (C.moments clock.old) (seen (dev.old.disk.vtable, dev.old.disk.value)))
         (outside (O.written out.new) (E.written errs.new) (E.faults errs.new) (K.left keys.new)
         (C.moments clock.new) (seen (dev.new.disk.vtable, dev.new.disk.value))) }
+    ensures met { AllMet (length (map plain_letter trace.new.archive.items)) 0
+        (plain_events trace.new.events.items) }
     ensures faults { CountsStreams result (K.faults keys.old) (K.faults keys.new)
         (O.faults out.old) (O.faults out.new) (E.faults errs.old) (E.faults errs.new) }
 {
@@ -96,13 +102,20 @@ fn read_on<K: Source, O: Sink, E: Sink, C: Clock>(
     session: &mut Session,
     trace: &mut Trace,
 ) -> Status
-    requires fits { Fits (map plain_letter trace.old.archive.items) session.old }
+    requires fits { FitsRun (map plain_letter trace.old.archive.items) session.old }
+    requires known { IsOpenIn (λ kind. Any (λ d. sort (d.vtable, d.value) ≡ kind)
+        drivers.now.list.items) session.old trace.old
+        (seen (dev.old.disk.vtable, dev.old.disk.value)) }
+    ensures met { StaysMet (map plain_letter trace.old.archive.items)
+        (plain_events trace.old.events.items) (map plain_letter trace.new.archive.items)
+        (plain_events trace.new.events.items) }
     ensures reads { (o : PlainOptions) → o.skip_empty ≡ skip_empty → task_of o ≡ ReadFolder
         → (start : ℤ) → (before : Seen) → ((given : Given)
-        → IsGiven (map plain_letter trace.old.archive.items) trace.old.verdicts.kept given → Starts
+        → IsGivenOn (map plain_letter trace.old.archive.items) trace.old.verdicts.kept given
+        → Starts
         (λ kind. Any (λ d. sort (d.vtable, d.value) ≡ kind) drivers.now.list.items)
         given (first_of o start) start (plain_events trace.old.events.items)
-        (plain_session session.old trace.old.notes) before
+        (plain_session session.old trace.old.notes) session.old.folder.known.listing before
         (seen (dev.old.disk.vtable, dev.old.disk.value)))
         → ReadsOver (Ok o) start
         (λ kind. Any (λ d. sort (d.vtable, d.value) ≡ kind) drivers.now.list.items)
@@ -118,7 +131,7 @@ fn read_on<K: Source, O: Sink, E: Sink, C: Clock>(
     if let Err(status) = tell_notes(alloc, errs, &trace.notes) {
         return status;
     }
-    if is_hidden(skip_empty, session.listing.as_slice()) {
+    if is_hidden(skip_empty, session.folder.known.listing().as_slice()) {
         return Status::Empty;
     }
     go(alloc, keys, out, errs, dev, drivers, clock, session, trace)
@@ -174,6 +187,8 @@ pub fn answer<O: Sink, E: Sink>(
         (outside (O.written out.new) (E.written errs.new) (E.faults errs.new) left moments
         (seen (dev.new.disk.vtable, dev.new.disk.value))) }
     ensures files { AreFiles (plain_events trace.new.events.items) }
+    ensures met { AllMet (length (map plain_letter trace.new.archive.items)) 0
+        (plain_events trace.new.events.items) }
     ensures faults { (before after : ℕ) → CountsStreams result before after
         (O.faults out.old) (O.faults out.new) (E.faults errs.old) (E.faults errs.new) }
 {

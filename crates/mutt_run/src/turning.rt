@@ -1,19 +1,19 @@
 //! The keys of a run, one after the other.
 
 ghost use Rattle.std.specs.Prelude.{◌≡◌, ◌≤◌, ◌<◌, ◌⊎◌, ℕ, List, Any};
-ghost use Rattle.std.specs.Prelude.{OnOk, IsErrOf, length, map};
+ghost use Rattle.std.specs.Prelude.{OnOk, IsErrOf, length, map, take};
 ghost use Rattle.mail_base.specs.Faults.{Rose};
 ghost use Rattle.folder_letters.specs.Letters.{plain_letter};
 ghost use Rattle.session_events.specs.Events.{plain_events};
 ghost use Rattle.session_state.specs.Instants.{IsMoment};
-ghost use Rattle.session.specs.Fitting.{Fits};
-ghost use Rattle.session.specs.Given.{Given, IsGiven};
-ghost use Rattle.patterns.specs.Causes.{Keeps};
+ghost use Rattle.session.specs.Fitting.{FitsRun};
+ghost use Rattle.session.specs.Given.{Given, IsGivenOn};
+ghost use Rattle.session.specs.Calls.{IsOpenIn, KeepsGiven};
 ghost use Rattle.session.specs.Runs.{State, after_events, plain_session, screen_in};
-ghost use Rattle.session.specs.Steps.{GoesOn, IsNext, PressesKey, StaysTold};
+ghost use Rattle.session.specs.Steps.{GoesOn, IsNext, StaysMet, StaysToldFrom};
 ghost use Rattle.session_state.specs.declared.stage.Stage.TheVariants.{Idle};
 ghost use Rattle.mutt_run.specs.Going.{BeginsOut, CountsStreams, Ended, GoesOut, GoesSo, GoesToEnd};
-ghost use Rattle.mutt_run.specs.Going.{IsTurnedTo, Shows, Streams, Turned, streams};
+ghost use Rattle.mutt_run.specs.Going.{IsTurnedTo, Shows, Streams, Turned, TurnsKey, streams};
 ghost use Rattle.mutt_run.specs.Screens.{screen_text};
 
 use crate::clock::now;
@@ -44,9 +44,12 @@ pub fn go<K: Source, O: Sink, E: Sink, C: Clock>(
     session: &mut Session,
     trace: &mut Trace,
 ) -> Status
-    requires fits { Fits (map plain_letter trace.old.archive.items) session.old }
+    requires fits { FitsRun (map plain_letter trace.old.archive.items) session.old }
+    requires known { IsOpenIn (λ kind. Any (λ d. sort (d.vtable, d.value) ≡ kind)
+        drivers.now.list.items) session.old trace.old
+        (seen (dev.old.disk.vtable, dev.old.disk.value)) }
     ensures ended { (given : Given)
-        → IsGiven (map plain_letter trace.new.archive.items) trace.new.verdicts.kept given
+        → IsGivenOn (map plain_letter trace.new.archive.items) trace.new.verdicts.kept given
         → (first : State) → (start : Streams) → BeginsOut given first
         (plain_events trace.old.events.items) (plain_session session.old trace.old.notes) start
         (streams (O.written out.old) (E.written errs.old) (E.faults errs.old))
@@ -56,13 +59,19 @@ pub fn go<K: Source, O: Sink, E: Sink, C: Clock>(
     ensures pressed { GoesToEnd result (plain_events trace.old.events.items)
         (plain_events trace.new.events.items) session.new.stage (K.left keys.old)
         (K.left keys.new) (C.moments clock.old) (C.moments clock.new) }
-    ensures told { StaysTold (λ kind. Any (λ d. sort (d.vtable, d.value) ≡ kind)
-        drivers.now.list.items) (plain_events trace.old.events.items)
-        (plain_events trace.new.events.items)
+    ensures told { (given : Given)
+        → IsGivenOn (map plain_letter trace.new.archive.items) trace.new.verdicts.kept given
+        → (first : State) → (start : Streams) → BeginsOut given first
+        (plain_events trace.old.events.items) (plain_session session.old trace.old.notes) start
+        (streams (O.written out.old) (E.written errs.old) (E.faults errs.old))
+        → StaysToldFrom (λ kind. Any (λ d. sort (d.vtable, d.value) ≡ kind) drivers.now.list.items)
+        given first (plain_events trace.old.events.items) (plain_events trace.new.events.items)
         (seen (dev.old.disk.vtable, dev.old.disk.value))
         (seen (dev.new.disk.vtable, dev.new.disk.value)) }
-    ensures archive { trace.new.archive ≡ trace.old.archive }
-    ensures kept { Keeps trace.old.verdicts.kept trace.new.verdicts.kept }
+    ensures met { StaysMet (map plain_letter trace.old.archive.items)
+        (plain_events trace.old.events.items) (map plain_letter trace.new.archive.items)
+        (plain_events trace.new.events.items) }
+    ensures kept { KeepsGiven trace.old trace.new }
     ensures faults { CountsStreams result (K.faults keys.old) (K.faults keys.new)
         (O.faults out.old) (O.faults out.new) (E.faults errs.old) (E.faults errs.new) }
 {
@@ -90,9 +99,12 @@ fn press_all<K: Source, O: Sink, E: Sink, C: Clock>(
     trace: &mut Trace,
 ) -> Status
     requires idle { session.old.stage ≡ Idle }
-    requires fits { Fits (map plain_letter trace.old.archive.items) session.old }
+    requires fits { FitsRun (map plain_letter trace.old.archive.items) session.old }
+    requires known { IsOpenIn (λ kind. Any (λ d. sort (d.vtable, d.value) ≡ kind)
+        drivers.now.list.items) session.old trace.old
+        (seen (dev.old.disk.vtable, dev.old.disk.value)) }
     ensures ended { (given : Given)
-        → IsGiven (map plain_letter trace.new.archive.items) trace.new.verdicts.kept given
+        → IsGivenOn (map plain_letter trace.new.archive.items) trace.new.verdicts.kept given
         → (first : State) → (start : Streams) → GoesOut given first
         (plain_events trace.old.events.items) (plain_session session.old trace.old.notes) start
         (streams (O.written out.old) (E.written errs.old) (E.faults errs.old))
@@ -102,19 +114,25 @@ fn press_all<K: Source, O: Sink, E: Sink, C: Clock>(
     ensures pressed { GoesToEnd result (plain_events trace.old.events.items)
         (plain_events trace.new.events.items) session.new.stage (K.left keys.old)
         (K.left keys.new) (C.moments clock.old) (C.moments clock.new) }
-    ensures told { StaysTold (λ kind. Any (λ d. sort (d.vtable, d.value) ≡ kind)
-        drivers.now.list.items) (plain_events trace.old.events.items)
-        (plain_events trace.new.events.items)
+    ensures told { (given : Given)
+        → IsGivenOn (map plain_letter trace.new.archive.items) trace.new.verdicts.kept given
+        → (first : State) → (start : Streams) → GoesOut given first
+        (plain_events trace.old.events.items) (plain_session session.old trace.old.notes) start
+        (streams (O.written out.old) (E.written errs.old) (E.faults errs.old))
+        → StaysToldFrom (λ kind. Any (λ d. sort (d.vtable, d.value) ≡ kind) drivers.now.list.items)
+        given first (plain_events trace.old.events.items) (plain_events trace.new.events.items)
         (seen (dev.old.disk.vtable, dev.old.disk.value))
         (seen (dev.new.disk.vtable, dev.new.disk.value)) }
-    ensures archive { trace.new.archive ≡ trace.old.archive }
-    ensures kept { Keeps trace.old.verdicts.kept trace.new.verdicts.kept }
+    ensures met { StaysMet (map plain_letter trace.old.archive.items)
+        (plain_events trace.old.events.items) (map plain_letter trace.new.archive.items)
+        (plain_events trace.new.events.items) }
+    ensures kept { KeepsGiven trace.old trace.new }
     ensures faults { CountsStreams result (K.faults keys.old) (K.faults keys.new)
         (O.faults out.old) (O.faults out.new) (E.faults errs.old) (E.faults errs.new) }
 {
     let mut reader = KeyReader::new();
     for _turn in 0..MOST_KEYS {
-        if trace.events.reserve(1).is_err() {
+        if trace.events.reserve(2).is_err() {
             return Status::NoMemory;
         }
         let key = match reader.next_key(keys) {
@@ -133,7 +151,8 @@ fn press_all<K: Source, O: Sink, E: Sink, C: Clock>(
     Status::TooManyKeys
 }
 
-/// Does what a key is bound to, and prints the next screen.
+/// Looks what changed in the folder where that is due, does what a key is bound to, and prints the
+/// next screen.
 fn turn<O: Sink, E: Sink>(
     alloc: Global,
     key: Key,
@@ -146,11 +165,14 @@ fn turn<O: Sink, E: Sink>(
     trace: &mut Trace,
 ) -> Result<Next, Status>
     requires idle { session.old.stage ≡ Idle }
-    requires fits { Fits (map plain_letter trace.old.archive.items) session.old }
+    requires fits { FitsRun (map plain_letter trace.old.archive.items) session.old }
+    requires known { IsOpenIn (λ kind. Any (λ d. sort (d.vtable, d.value) ≡ kind)
+        drivers.now.list.items) session.old trace.old
+        (seen (dev.old.disk.vtable, dev.old.disk.value)) }
     requires moment { IsMoment moment }
-    requires room { 0 < trace.old.events.room }
+    requires room { 1 < trace.old.events.room }
     ensures turned { (given : Given)
-        → IsGiven (map plain_letter trace.new.archive.items) trace.new.verdicts.kept given
+        → IsGivenOn (map plain_letter trace.new.archive.items) trace.new.verdicts.kept given
         → (first : State) → (start : Streams) → GoesOut given first
         (plain_events trace.old.events.items) (plain_session session.old trace.old.notes) start
         (streams (O.written out.old) (E.written errs.old) (E.faults errs.old))
@@ -158,22 +180,30 @@ fn turn<O: Sink, E: Sink>(
         (plain_session session.new trace.new.notes) start
         (streams (O.written out.new) (E.written errs.new) (E.faults errs.new)) }
     ensures to { IsTurnedTo result session.new.stage }
-    ensures fits { OnOk result (Fits (map plain_letter trace.new.archive.items) session.new) }
-    ensures pressed { PressesKey key moment (plain_events trace.old.events.items)
+    ensures fits { OnOk result (FitsRun (map plain_letter trace.new.archive.items) session.new) }
+    ensures known { IsOpenIn (λ kind. Any (λ d. sort (d.vtable, d.value) ≡ kind)
+        drivers.now.list.items) session.new trace.new
+        (seen (dev.new.disk.vtable, dev.new.disk.value)) }
+    ensures pressed { TurnsKey key moment (plain_events trace.old.events.items)
         (plain_events trace.new.events.items) }
-    ensures told { StaysTold (λ kind. Any (λ d. sort (d.vtable, d.value) ≡ kind)
-        drivers.now.list.items) (plain_events trace.old.events.items)
-        (plain_events trace.new.events.items)
+    ensures told { (given : Given)
+        → IsGivenOn (map plain_letter trace.new.archive.items) trace.new.verdicts.kept given
+        → (first : State) → after_events given first (plain_events trace.old.events.items)
+        ≡ plain_session session.old trace.old.notes
+        → StaysToldFrom (λ kind. Any (λ d. sort (d.vtable, d.value) ≡ kind) drivers.now.list.items)
+        given first (plain_events trace.old.events.items) (plain_events trace.new.events.items)
         (seen (dev.old.disk.vtable, dev.old.disk.value))
         (seen (dev.new.disk.vtable, dev.new.disk.value)) }
-    ensures archive { trace.new.archive ≡ trace.old.archive }
-    ensures kept { Keeps trace.old.verdicts.kept trace.new.verdicts.kept }
+    ensures met { StaysMet (map plain_letter trace.old.archive.items)
+        (plain_events trace.old.events.items) (map plain_letter trace.new.archive.items)
+        (plain_events trace.new.events.items) }
+    ensures kept { KeepsGiven trace.old trace.new }
     ensures cause { IsErrOf result Status.OutFault → Rose (O.faults out.old) (O.faults out.new)
         ⊎ Rose (E.faults errs.old) (E.faults errs.new) }
     ensures later { (O.faults out.old ≤ O.faults out.new)
         × (E.faults errs.old ≤ E.faults errs.new) }
 {
-    session.check(trace);
+    session.check(dev, drivers, moment, trace);
     let told = trace.notes.len();
     match session.key(key, moment, dev, drivers, trace) {
         Err(NoMemory) => Err(Status::NoMemory),
@@ -192,9 +222,10 @@ fn tell_and_show<O: Sink, E: Sink>(
     session: &Session,
     trace: &Trace,
 ) -> Result<Next, Status>
-    requires fits { Fits (map plain_letter trace.now.archive.items) session.now }
+    requires fits { FitsRun (map plain_letter trace.now.archive.items) session.now }
     requires next { IsNext next session.now.stage }
-    ensures answered { (given : Given) → given.mails ≡ map plain_letter trace.now.archive.items
+    ensures answered { (given : Given) → take (length (map plain_letter trace.now.archive.items))
+        given.mails ≡ map plain_letter trace.now.archive.items
         → (first : State) → (screens : List (List (List ℕ))) → (notes : List (List ℕ))
         → GoesOn given first (plain_events trace.now.events.items) screens notes
         → after_events given first (plain_events trace.now.events.items)
@@ -222,7 +253,7 @@ fn tell_and_show<O: Sink, E: Sink>(
 
 /// Prints the screen in one write.
 fn show<O: Sink>(alloc: Global, out: &mut O, session: &Session, trace: &Trace) -> Result<(), Status>
-    requires { Fits (map plain_letter trace.now.archive.items) session.now }
+    requires { FitsRun (map plain_letter trace.now.archive.items) session.now }
     ensures { Shows result (screen_text (screen_in (map plain_letter trace.now.archive.items)
         (plain_session session.now trace.now.notes))) (O.written out.old) (O.written out.new)
         (O.faults out.old) (O.faults out.new) }

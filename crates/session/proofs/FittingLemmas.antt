@@ -1,21 +1,20 @@
 -- What events need of an index, and what they leave.
-use Rattle.std.proofs.Common.{◌≡◌, ◌≤◌, ℕ, ℤ, List, [], None, ap, arith, refl, sym, subst}
-use Rattle.std.proofs.lemmas.Option.{none-some}
+use Rattle.std.proofs.Common.{◌≡◌, ◌≤◌, ◌∙◌, ℕ, ℤ, List, [], ap, arith, refl, sym}
+use Rattle.std.proofs.Common.{subst}
 use Rattle.disk_model.specs.Seen.{Seen}
 use Rattle.folder_letters.specs.Letters.{Mail}
 use Rattle.index_view.specs.View.{IsOf}
 use Rattle.keymap.specs.Queue.{most_replacements}
 use Rattle.keymap.specs.declared.key.Key.{Key}
-use Rattle.session_events.specs.Events.{Happening, FileRead, FileRefused, KeyPressed, FolderOpened}
-use Rattle.session_events.specs.Events.{FolderRefused}
-use Rattle.session_events.specs.Happened.{IsListed}
-use Rattle.session_events.specs.Opening.{IsOpening, refusal_of}
+use Rattle.session_events.specs.Events.{Happening, FileRead, FileRefused, KeyPressed}
 use Rattle.session_events.specs.Telling.{HasFileCause, TellsFile}
 use Rattle.session_events.specs.declared.event.Marks.{Marks}
 use Rattle.message_text.specs.Weeding.{PlainWeeding}
 use Rattle.keymap.specs.Queue.{PlainQueue}
 use Rattle.session_pager.specs.Opening.{reader_again, shown_again}
-use Rattle.session_pager.specs.Reader.{PlainReader, PlainShowing, Index}
+use Rattle.keymap.specs.declared.menu.Menu.TheVariants as menu
+use Rattle.session_pager.specs.Reader.{PlainReader, PlainShowing, Index, Text, Parts, menu_for}
+use Rattle.session.specs.Checking.{IsIndexShown}
 use Rattle.session_pager.specs.Reads.{FullReader, IsShown, plain_reader, plain_showing}
 use Rattle.session_pager.specs.declared.showing.Showing.{Showing}
 use Rattle.session_pager.specs.declared.showing.Showing.TheVariants as kept
@@ -23,13 +22,14 @@ use Rattle.session_state.specs.Frames.{PlainFrame}
 use Rattle.session_state.specs.Rules.{weeding_of}
 use Rattle.session_state.specs.declared.stage.Stage.{Stage}
 use Rattle.session_state.specs.declared.stage.Stage.TheVariants.{Unopened}
-use Rattle.session.specs.Core.{CoreState, Ground, IsEmpty, IsOver, Reads}
+use Rattle.session.specs.Core.{CoreState, Ground, IsEmpty, IsOver, Reads, plain_core}
 use Rattle.session.specs.Keys.{TurnState, settled, turn_of}
 use Rattle.session.specs.Steps.{IsSettled}
 use Rattle.session.proofs.SettlingLemmas.{turn_settles}
 use Rattle.session_screen.specs.Window.{IsWindow}
 use Rattle.session_state.specs.Instants.{IsMoment}
-use Rattle.session.specs.Fitting.{CanAct, CanLearn, CanRead, CanTake, Fits, IsClosedAt, IsLeft}
+use Rattle.session.specs.Fitting.{CanAct, CanLearn, CanRead, CanTake, Fits, IsClosedAt}
+use Rattle.session.specs.Fitting.{IsLeft}
 use Rattle.session.specs.Fitting.{IsReadIn, ReadsAt, StaysUnopened}
 use Rattle.session_state.specs.declared.instant.Moment.{Moment}
 use Rattle.session.specs.Runs.{State, plain_session}
@@ -207,24 +207,6 @@ pub file_fits : (mails : List Mail) (old new : Session) (event : Happening) (now
 file_fits mails old new event now next tells left =
     (file_keeps mails old new event tells.marks tells.cause left).0
 
--- The opening.
-
-pub opening_taken : (mails : List Mail) (session : Session) (moment : ℤ) (event : Happening)
-    → IsOpening moment event → IsListed mails event → IsEmpty session.core.desk.view
-    → IsMoment moment → CanTake mails session event
-opening_taken mails session moment (FolderOpened path kind at came marks) is listed empty now =
-    (empty, listed, subst IsMoment (sym is) now)
-opening_taken mails session moment (FolderRefused path why marks) is listed empty now = tt
-opening_taken mails session moment _ is listed empty now = absurd is
-
-pub opened_fits : (mails : List Mail) (old new : Session) (moment : ℤ) (event : Happening)
-    → IsOpening moment event → refusal_of event ≡ None → IsLeft mails old new event
-    → Fits mails new
-opened_fits mails old new moment (FolderOpened path kind at came marks) is none left = left
-opened_fits mails old new moment (FolderRefused path why marks) is none left =
-    absurd (none-some why (sym none))
-opened_fits mails old new moment _ is none left = absurd is
-
 -- Keys.
 
 pub key_taken : (mails : List Mail) (session : Session) (key : Key) (moment : ℤ)
@@ -237,3 +219,32 @@ pub key_fits : (mails : List Mail) (old new : Session) (key : Key) (moment : ℤ
     (event : Happening) → event ≡ KeyPressed key moment → IsLeft mails old new event
     → Fits mails new
 key_fits mails old new key moment event is left = subst (IsLeft mails old new) is left
+
+-- Checks.
+
+shown_index : (showing : PlainShowing) → menu_for showing ≡ menu.Index → showing ≡ Index
+shown_index Index is = refl
+shown_index (Text id part top hidden) is = absurd (cc)
+shown_index (Parts id cursor) is = absurd (cc)
+
+-- where the index is shown, another index and another folder are all that is to fit
+pub index_fits : (mails : List Mail) (old new : Session)
+    → new ≡ record old { core = new.core; folder = new.folder }
+    → IsOf mails new.core.desk.view
+    → plain_reader new.core.reader ≡ plain_reader old.core.reader
+    → IsIndexShown (plain_core old.core) → CanRead old → Fits mails new
+index_fits mails old new same of reader shown can =
+    let showing = ap (λ (r : PlainReader). r.showing) reader
+    ∙ shown_index (plain_reader old.core.reader).showing shown in
+    act_fits mails new (first_closed new.stage (plain_reader new.core.reader) showing) (record {
+      over = record {
+        is_of = of;
+        reads = index_read mails new.window.cols (weeding_of new.core.rules)
+            new.core.reader.showing showing;
+      };
+      can = record {
+        window = subst (λ (s : Session). IsWindow s.window) (sym same) can.window;
+        moment = subst (λ (s : Session). IsMoment s.moment.0) (sym same) can.moment;
+        few = subst (λ (s : Session). s.queue.replaced ≤ most_replacements) (sym same) can.few;
+      };
+    })

@@ -8,6 +8,9 @@ mod SettlingLemmas
 pub mod StepsLemmas
 mod BeginningLemmas
 mod CallsLemmas
+mod CheckedLemmas
+mod CheckingLemmas
+mod LookingLemmas
 mod FittingLemmas
 mod OpeningLemmas
 mod LearningLemmas

@@ -9,7 +9,8 @@ use Rattle.index_view.specs.Laws.{FirstFolderIsTaken}
 use Rattle.index_view.specs.View.{MayTake}
 use Rattle.session_index.specs.Desk.{PlainDesk}
 use Rattle.session_index.specs.Opening.{taken_in}
-use Rattle.session.specs.Opening.{first_found, held}
+use Rattle.session_events.specs.Events.{held}
+use Rattle.session.specs.Opening.{first_found}
 
 pub may_open : FirstFolderIsTaken → (mails : List Mail) (found : Found)
     → found.gone.items ≡ [] → found.reflagged.items ≡ []

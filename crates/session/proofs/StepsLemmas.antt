@@ -1,6 +1,7 @@
 -- How a run goes on by one event.
-use Rattle.std.proofs.Common.{◌≡◌, ◌≤◌, ℕ, ℤ, List, [], ◌∷◌, ◌++◌, refl, sym, ◌∙◌, ap, subst}
-use Rattle.std.proofs.Common.{append_assoc, arith, pos}
+use Rattle.std.proofs.Common.{◌≡◌, ◌≤◌, ℕ, ℤ, Bool, true, false, List, [], ◌∷◌, ◌++◌, refl, sym}
+use Rattle.std.proofs.Common.{◌∙◌, ap, append_assoc, arith, if◌then◌else◌, length, pos, subst}
+use Rattle.std.proofs.Common.{take}
 use Rattle.std.proofs.lemmas.List.{append-nil, map-append}
 use Rattle.folder_letters.specs.Letters.{Mail}
 use Rattle.keymap.specs.declared.key.Key.{Key}
@@ -15,10 +16,13 @@ use Rattle.session_events.specs.declared.event.Event.{Event}
 use Rattle.session_events.specs.declared.event.Marks.{Marks}
 use Rattle.patterns.specs.Causes.{Keeps}
 use Rattle.people.specs.Judged.{PlainJudged}
-use Rattle.session.specs.Given.{Given, IsGiven, given_of}
+use Rattle.session.specs.Checking.{is_due}
+use Rattle.session.specs.Given.{Given, IsGiven, IsGivenOn, given_of, met_of}
 use Rattle.session.specs.Runs.{Answers, IsRunFrom, State, after, after_events, screens_from}
-use Rattle.session_events.specs.Wishes.{Source, answered, moment_of}
-use Rattle.session.specs.Runs.{arrived, begin_behind, going_on, ground, learning, pushed, putting}
+use Rattle.session_events.specs.Happened.{met_after}
+use Rattle.session_events.specs.Wishes.{Check, Press, Source, answered, moment_of}
+use Rattle.session.specs.Runs.{arrived, arrived_by, begin_behind, going_on, ground, learning}
+use Rattle.session.specs.Runs.{pushed, pushed_on, putting}
 use Rattle.session.specs.Runs.{read_at, read_in, shown}
 use Rattle.session.specs.Runs.{skipped, stage_screens, taken, taken_at, typed, waiting, wish}
 use Rattle.session.specs.Runs.{wish_at, with_core}
@@ -31,7 +35,7 @@ use Rattle.session.specs.Steps.{AddsFiles, GoesOn, IsLent, IsSettled, IsTaken, P
 use Rattle.session.specs.Steps.{ReadsFiles, Sources, SourcesOff, Stands, StaysTold}
 use Rattle.session.specs.Telling.{Driverless, Witnessed}
 use Rattle.session_events.specs.Telling.{HasFileCause, TellsFile}
-use Rattle.session.proofs.GivenLemmas.{given_here, keeps_then}
+use Rattle.session.proofs.GivenLemmas.{given_here, given_met, given_on, keeps_then}
 use Rattle.session.proofs.SettlingLemmas.{turn_settles}
 use Rattle.session.proofs.TellingLemmas.{each_are, each_faults, file_is, files_more, witnessed_each}
 use Rattle.session.proofs.TellingLemmas.{witnessed_key, witnessed_none}
@@ -77,17 +81,30 @@ module _ (given : Given) (first s : State) (events : List Happening)
         (append-nil (shown given (after given s event)));
   }
 
+-- a key was typed over the letters that were met
+abbrev typed_on : Given → Key → ℤ → State → State
+typed_on given key moment s = typed (met_of s.met given) key moment s
+
+-- a key that is taken meets no letter
+taken_met : (stage : Stage) (s : State) → (taken_at stage s).met ≡ s.met
+taken_met Idle s = refl
+taken_met _ s = refl
+
 -- a key that was taken is pressed
 pub stands_pressed : (given : Given) (first s : State) (events : List Happening) (key : Key)
-    (moment : ℤ) (screens : List (List (List ℕ))) → IsTaken given first events s screens
-    → Stands given first (events ++ KeyPressed key moment ∷ []) (typed given key moment s)
-    (screens ++ shown given (typed given key moment s))
+    (moment : ℤ) (screens : List (List (List ℕ))) → IsTaken given first events s moment screens
+    → Stands given first (events ++ KeyPressed key moment ∷ []) (typed_on given key moment s)
+    (screens ++ shown given (typed_on given key moment s))
 stands_pressed given first s events key moment screens is =
-    let wishes : Answers is.before (KeyPressed key moment) =
-    ap (λ (stage : Stage). wish_at stage is.before moment) is.idle in
     subst (λ (t : State). Stands given first (events ++ KeyPressed key moment ∷ [])
-    (typed given key moment t) (screens ++ shown given (typed given key moment t))) is.taken_is
-    (stands_push given first is.before events (KeyPressed key moment) screens is.stands wishes)
+    (typed_on given key moment t) (screens ++ shown given (typed_on given key moment t)))
+    is.taken_is
+    (subst (λ (n : ℕ). Stands given first (events ++ KeyPressed key moment ∷ [])
+    (typed (met_of n given) key moment (taken is.before))
+    (screens ++ shown given (typed (met_of n given) key moment (taken is.before))))
+    (sym (taken_met is.before.turn.stage is.before))
+    (stands_push given first is.before events (KeyPressed key moment) screens is.stands
+    is.wishes))
 
 -- a run that shows a state goes on to it
 pub stands_goes : {given : Given} {first s : State} {events : List Happening}
@@ -165,12 +182,12 @@ module _ (key : Key) (moment : ℤ) (old : State) (events events' : List Happeni
     still = ap (λ (stage : Stage). taken_at stage old) ready
 
     module _ (given : Given) (first : State) (screens : List (List (List ℕ)))
-        (is : IsTaken given first events old screens) where
-      pressed_stands : Stands given first events' (typed given key moment old)
-          (screens ++ shown given (typed given key moment old))
+        (is : IsTaken given first events old moment screens) where
+      pressed_stands : Stands given first events' (typed_on given key moment old)
+          (screens ++ shown given (typed_on given key moment old))
       pressed_stands =
-          subst (λ (l : List Happening). Stands given first l (typed given key moment old)
-          (screens ++ shown given (typed given key moment old))) (sym put)
+          subst (λ (l : List Happening). Stands given first l (typed_on given key moment old)
+          (screens ++ shown given (typed_on given key moment old))) (sym put)
           (stands_pressed given first old events key moment screens is)
 
       -- the key was told
@@ -182,12 +199,13 @@ module _ (key : Key) (moment : ℤ) (old : State) (events events' : List Happeni
           → Stands given first events' new (screens ++ shown given new)
       key_stands new arrives =
           subst (λ (t : State). Stands given first events' t (screens ++ shown given t))
-          (sym (arrives ∙ ap (typed given key moment) still)) pressed_stands
+          (sym (arrives ∙ ap (typed (met_of old.met given) key moment) still)) pressed_stands
 
     pub key_notes : (given : Given) (new : State) → new ≡ arrived given old (KeyPressed key moment)
         → new.notes ≡ old.notes ++ []
     key_notes given new arrives =
-        ap (λ (t : State). t.notes) (arrives ∙ ap (typed given key moment) still)
+        ap (λ (t : State). t.notes)
+        (arrives ∙ ap (typed (met_of old.met given) key moment) still)
         ∙ sym (append-nil old.notes)
 
 pub key_told : (Has : Kind → Type 0) (key : Key) (moment : ℤ) (events events' : List Happening)
@@ -208,14 +226,14 @@ put_plain old new event is put same =
 -- a typed key has settled
 pub key_settles : {mails : List Mail} {kept : List PlainJudged} (key : Key) (moment : ℤ)
     (old new : State) (event : Happening) → event ≡ KeyPressed key moment
-    → ((given : Given) → IsGiven mails kept given → new ≡ arrived given old event)
+    → ((given : Given) → IsGivenOn mails kept given → new ≡ arrived given old event)
     → IsSettled new.turn.stage new.turn.core.frames
 key_settles {mails} {kept} key moment old new event is arrives =
     let given = given_of mails kept in
     let s : State = taken old in
     subst (λ (t : State). IsSettled t.turn.stage t.turn.core.frames)
     (sym (arrives given (given_here mails kept) ∙ ap (arrived given old) is))
-    (turn_settles (ground given (record s { moment = moment }))
+    (turn_settles (ground (met_of old.met given) (record s { moment = moment }))
     (waiting (s.turn.queue ++ key ∷ []) (record s { moment = moment })).turn)
 
 push_settles : (given : Given) (s : State) (frames : List PlainFrame) → s.turn.core.frames ≡ frames
@@ -229,12 +247,12 @@ push_settles given s (frame ∷ frames) is = λ none.
 
 -- so have keys that commands have put, or a file is to be read first
 pub pushed_settles : {mails : List Mail} {kept : List PlainJudged} (old new : State)
-    → ((given : Given) → IsGiven mails kept given → new ≡ pushed given old)
+    → ((given : Given) → IsGivenOn mails kept given → new ≡ pushed_on given old)
     → IsSettled new.turn.stage new.turn.core.frames
 pushed_settles {mails} {kept} old new goes =
     subst (λ (t : State). IsSettled t.turn.stage t.turn.core.frames)
     (sym (goes (given_of mails kept) (given_here mails kept)))
-    (push_settles (given_of mails kept) old old.turn.core.frames refl)
+    (push_settles (met_of old.met (given_of mails kept)) old old.turn.core.frames refl)
 
 -- files that were read are told
 pub files_told : (Has : Kind → Type 0) (a b : List Happening) (now next : Seen)
@@ -321,38 +339,66 @@ file_notes : (given : Given) (s : State) (event : Happening) (marks : Marks)
     → HasFileCause event marks
     → (more : List (List ℕ)) × ((arrived given s event).notes ≡ s.notes ++ more)
 file_notes given s (FileRead path text kept) marks cause =
-    (_, (read_keeps s.turn.stage given (read_in given.verdicts text s)).0)
+    (_, (read_keeps s.turn.stage (met_of s.met given) (read_in given.verdicts text s)).0)
 file_notes given s (FileRefused path why kept) marks cause =
-    (_, (read_keeps s.turn.stage given (skipped given.verdicts why s)).0)
+    (_, (read_keeps s.turn.stage (met_of s.met given) (skipped given.verdicts why s)).0)
 file_notes given s _ marks cause = absurd cause
 
 -- Before a folder is open it leaves the stage, and the letters have no say.
 
-unopened_read : (mails : List Mail) (stage : Stage) (given : Given) (s : State) → stage ≡ Unopened
-    → (read_at stage given s ≡ s) × (read_at stage (given_of mails given.verdicts) s ≡ s)
-unopened_read mails Unopened given s is = (refl, refl)
-unopened_read mails _ given s is = absurd (cc)
+unopened_read : (stage : Stage) (given : Given) (s : State) → stage ≡ Unopened
+    → read_at stage given s ≡ s
+unopened_read Unopened given s is = refl
+unopened_read _ given s is = absurd (cc)
 
 module _ (mails : List Mail) (given : Given) (s : State) (unopened : s.turn.stage ≡ Unopened) where
-  file_same : (event : Happening) (marks : Marks) → HasFileCause event marks
-      → arrived given s event ≡ arrived (given_of mails given.verdicts) s event
-  file_same (FileRead path text kept) marks cause =
-      let both = unopened_read mails s.turn.stage given (read_in given.verdicts text s) unopened in
-      both.0 ∙ sym both.1
-  file_same (FileRefused path why kept) marks cause =
-      let both = unopened_read mails s.turn.stage given (skipped given.verdicts why s) unopened in
-      both.0 ∙ sym both.1
-  file_same _ marks cause = absurd cause
+  read_same : (t : State) → t.turn.stage ≡ Unopened
+      → read_at t.turn.stage given t ≡ read_at t.turn.stage (given_of mails given.verdicts) t
+  read_same t is = unopened_read t.turn.stage given t is
+      ∙ sym (unopened_read t.turn.stage (given_of mails given.verdicts) t is)
+
+  file_same_by : (event : Happening) → IsFile event
+      → arrived_by given s event ≡ arrived_by (given_of mails given.verdicts) s event
+  file_same_by (FileRead path text kept) is =
+      read_same (read_in given.verdicts text s) unopened
+  file_same_by (FileRefused path why kept) is =
+      read_same (skipped given.verdicts why s) unopened
+  file_same_by _ is = absurd is
+
+-- the letters that are given have no say
+file_same : (mails : List Mail) (given : Given) (s : State) → s.turn.stage ≡ Unopened
+    → (event : Happening) → IsFile event
+    → arrived given s event ≡ arrived (given_of mails given.verdicts) s event
+file_same mails given s unopened event is =
+    let letters : List Mail = take (met_after s.met event) mails in
+    file_same_by letters (met_of (met_after s.met event) given) s unopened event is
 
 file_unopened : (given : Given) (s : State) (event : Happening) → IsFile event
     → s.turn.stage ≡ Unopened → (arrived given s event).turn.stage ≡ Unopened
 file_unopened given s (FileRead path text kept) is unopened =
-    ap (λ (t : State). t.turn.stage) (unopened_read [] s.turn.stage given
-    (read_in given.verdicts text s) unopened).0 ∙ unopened
+    ap (λ (t : State). t.turn.stage) (unopened_read s.turn.stage (met_of s.met given)
+    (read_in given.verdicts text s) unopened) ∙ unopened
 file_unopened given s (FileRefused path why kept) is unopened =
-    ap (λ (t : State). t.turn.stage) (unopened_read [] s.turn.stage given
-    (skipped given.verdicts why s) unopened).0 ∙ unopened
+    ap (λ (t : State). t.turn.stage) (unopened_read s.turn.stage (met_of s.met given)
+    (skipped given.verdicts why s) unopened) ∙ unopened
 file_unopened given s _ is unopened = absurd is
+
+-- what arrives by all letters arrives by those that were met
+pub arrives_on : {mails : List Mail} {kept : List PlainJudged} (s t : State) (event : Happening)
+    → met_after s.met event ≡ length mails
+    → ((given : Given) → IsGiven mails kept given → t ≡ arrived_by given s event)
+    → (given : Given) → IsGivenOn mails kept given → t ≡ arrived given s event
+arrives_on {mails} {kept} s t event met arrives given is =
+    subst (λ (n : ℕ). t ≡ arrived_by (met_of n given) s event) (sym met)
+    (arrives (met_of (length mails) given) (given_met is))
+
+-- and so it is of the keys that wait behind an opening
+pub pushes_on : {mails : List Mail} {kept : List PlainJudged} (s t : State)
+    → s.met ≡ length mails → ((given : Given) → IsGiven mails kept given → t ≡ pushed given s)
+    → (given : Given) → IsGivenOn mails kept given → t ≡ pushed_on given s
+pushes_on {mails} {kept} s t met acts given is =
+    subst (λ (n : ℕ). t ≡ pushed (met_of n given) s) (sym met)
+    (acts (met_of (length mails) given) (given_met is))
 
 -- the event of a file leads to what arrives
 file_after : (given : Given) (s : State) (event : Happening) → IsFile event
@@ -403,15 +449,22 @@ file_settles : (given : Given) (s : State) (event : Happening) → IsFile event
     → IsSettled s.turn.stage s.turn.core.frames
     → IsSettled (arrived given s event).turn.stage (arrived given s event).turn.core.frames
 file_settles given s (FileRead path text kept) is h =
-    read_settles s.turn.stage given s (read_in given.verdicts text s) refl refl h
+    read_settles s.turn.stage (met_of s.met given) s (read_in given.verdicts text s) refl refl h
 file_settles given s (FileRefused path why kept) is h =
-    read_settles s.turn.stage given s (skipped given.verdicts why s) refl refl h
+    read_settles s.turn.stage (met_of s.met given) s (skipped given.verdicts why s) refl refl h
 file_settles given s _ is h = absurd is
+
+-- a key that is typed wishes no file
+no_source : (due : Bool) (moment : ℤ) (path : List ℕ)
+    → (if due then Check moment else Press moment) ≡ Source path → ⊥
+no_source true moment path is = cc
+no_source false moment path is = cc
 
 -- A stage at which a file is wished shows nothing.
 wishes_unshown : (given : Given) (s t : State) (stage : Stage) (moment : ℤ) (path : List ℕ)
     → wish_at stage s moment ≡ Source path → stage_screens given stage t ≡ []
-wishes_unshown given s t Idle moment path is = absurd (cc)
+wishes_unshown given s t Idle moment path is = absurd
+    (no_source (is_due s.checked s.turn.core moment) moment path is)
 wishes_unshown given s t _ moment path is = refl
 
 file_path : (event : Happening) → IsFile event → (path : List ℕ) × (answered event ≡ Source path)
@@ -469,15 +522,15 @@ module _ (s : State) (events events' : List Happening)
   lent_by : {mails : List Mail} {kept : List PlainJudged} (stage : Stage) → s.turn.stage ≡ stage
       → (given : Given)
       → IsLent stage mails kept given → (t : State)
-      → ((other : Given) → IsGiven mails kept other → t ≡ arrived other s event)
+      → ((other : Given) → IsGivenOn mails kept other → t ≡ arrived other s event)
       → t ≡ arrived given s event
   lent_by {mails} Unopened is given lent t arrives =
-      arrives (given_of mails given.verdicts) (record { mails_are = refl; keeps = lent })
-      ∙ sym (file_same mails given s is event tells.marks tells.cause)
+      arrives (given_of mails given.verdicts) (given_on mails given lent)
+      ∙ sym (file_same mails given s is event is_file)
   lent_by _ is given lent t arrives = arrives given lent
 
   module _ {mails : List Mail} {kept : List PlainJudged} (t : State)
-      (arrives : (given : Given) → IsGiven mails kept given → t ≡ arrived given s event) where
+      (arrives : (given : Given) → IsGivenOn mails kept given → t ≡ arrived given s event) where
     pub file_arrives : (given : Given) → IsLent s.turn.stage mails kept given
         → t ≡ arrived given s event
     file_arrives given lent = lent_by s.turn.stage refl given lent t arrives

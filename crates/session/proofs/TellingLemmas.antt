@@ -16,10 +16,10 @@ use Rattle.keymap.specs.declared.key.Key.{Key}
 use Rattle.session_events.specs.declared.event.Marks.{Marks}
 use Rattle.session_events.specs.Events.{AreFiles, Happening, FileRead, FileRefused, IsFile}
 use Rattle.session_events.specs.Events.{KeyPressed}
-use Rattle.session_events.specs.Happened.{AllCounted, Counts, Happened, IsCounted}
+use Rattle.session_events.specs.Happened.{AllCounted, Counts, Happened, IsCounted, Standing}
 use Rattle.session.specs.Telling.{AllHappened}
 use Rattle.session_events.specs.Happened.{IsTrueAt, counts_after, counts_at, counts_of, marks_of}
-use Rattle.session.specs.Telling.{kind_in}
+use Rattle.session.specs.Telling.{standing_of}
 use Rattle.session_events.specs.Happened.{HasCause, past_at}
 use Rattle.session.specs.Given.{Given}
 use Rattle.session.specs.Runs.{State, after, after_events}
@@ -84,18 +84,18 @@ module _ (Has : Kind → Type 0) where
   module _ (given : Given) where
     -- What was true stays true.
 
-    true_stays : (mid new : Past) (empty : Kind) (counts : Counts) (event : Happening)
+    true_stays : (mid new : Past) (stood : Standing) (counts : Counts) (event : Happening)
         (marks : Option Marks) → IsCounted Has counts event marks
         → (counts_after counts marks).mark ≤ length mid.journal → HasLooked mid new
-        → IsTrueAt Has empty given.mails event marks mid
-        → IsTrueAt Has empty given.mails event marks new
-    true_stays mid new empty counts event None counted low looked h = tt
-    true_stays mid new empty counts event (Some marks) counted low looked h =
+        → IsTrueAt Has stood given.mails event marks mid
+        → IsTrueAt Has stood given.mails event marks new
+    true_stays mid new stood counts event None counted low looked h = tt
+    true_stays mid new stood counts event (Some marks) counted low looked h =
         let before : marks.mark_before ≤ length mid.journal = omega (arith, counted.on, low) in
-        subst (λ (p : Past). Happened Has empty given.mails event p (past_at new marks.mark_after))
+        subst (λ (p : Past). Happened Has stood given.mails event p (past_at new marks.mark_after))
         (sym (past_stays mid new marks.mark_before looked before))
         (subst (λ (p : Past).
-        Happened Has empty given.mails event (past_at mid marks.mark_before) p)
+        Happened Has stood given.mails event (past_at mid marks.mark_before) p)
         (sym (past_stays mid new marks.mark_after looked low)) h)
 
     all_stays : (mid new : Past) (s : State) (counts : Counts) (events : List Happening)
@@ -107,32 +107,33 @@ module _ (Has : Kind → Type 0) where
         let next : Counts = counts_after counts (marks_of event) in
         let first : next.mark ≤ length mid.journal =
         omega (arith, rises_all (counts_after counts (marks_of event)) events counted.1, low) in (
-          true_stays mid new (kind_in s) counts event (marks_of event) counted.0 first looked h.0,
+          true_stays mid new (standing_of s) counts event (marks_of event) counted.0 first looked
+              h.0,
           all_stays mid new (after given s event) (counts_after counts (marks_of event)) events
               counted.1 low looked h.1,
         )
 
     happened-append : (s t : State) (events : List Happening) (event : Happening) (new : Past)
         → after_events given s events ≡ t → AllHappened Has given s events new
-        → IsTrueAt Has (kind_in t) given.mails event (marks_of event) new
+        → IsTrueAt Has (standing_of t) given.mails event (marks_of event) new
         → AllHappened Has given s (events ++ event ∷ []) new
     happened-append s t [] event new at h k = (
-      subst (λ (u : State). IsTrueAt Has (kind_in u) given.mails event (marks_of event) new)
+      subst (λ (u : State). IsTrueAt Has (standing_of u) given.mails event (marks_of event) new)
           (sym at) k,
       tt,
     )
     happened-append s t (e ∷ events) event new at h k =
         (h.0, happened-append (after given s e) t events event new at h.1 k)
 
-    true_now : (empty : Kind) (event : Happening) (mid new : Past) (marks : Marks)
+    true_now : (stood : Standing) (event : Happening) (mid new : Past) (marks : Marks)
         (at : Option Marks) → at ≡ Some marks → marks.mark_before ≡ length mid.journal
         → marks.mark_after ≡ length new.journal → HasLooked mid new
-        → Happened Has empty given.mails event mid new → IsTrueAt Has empty given.mails event at new
-    true_now empty event mid new marks at is before after looked h =
-        subst (λ (o : Option Marks). IsTrueAt Has empty given.mails event o new) (sym is)
-        (subst (λ (p : Past). Happened Has empty given.mails event p (past_at new marks.mark_after))
+        → Happened Has stood given.mails event mid new → IsTrueAt Has stood given.mails event at new
+    true_now stood event mid new marks at is before after looked h =
+        subst (λ (o : Option Marks). IsTrueAt Has stood given.mails event o new) (sym is)
+        (subst (λ (p : Past). Happened Has stood given.mails event p (past_at new marks.mark_after))
         (sym (ap (past_at new) before ∙ past_seam mid new looked))
-        (subst (λ (p : Past). Happened Has empty given.mails event mid p)
+        (subst (λ (p : Past). Happened Has stood given.mails event mid p)
         (sym (ap (past_at new) after ∙ past_end new)) h))
 
     told_push : (s t : State) (events : List Happening) (event : Happening) (counts : Counts)
@@ -142,7 +143,7 @@ module _ (Has : Kind → Type 0) where
         → AllCounted Has counts events → (counts_at counts events).mark ≡ low
         → marks_of event ≡ Some marks → marks.mark_before ≡ low → marks.mark_after ≡ high
         → IfSome mid (λ p. low ≡ length p.journal) → IfSome new (λ p. high ≡ length p.journal)
-        → GoesOn (Happened Has (kind_in t) given.mails event) mid new → LooksOnly mid new
+        → GoesOn (Happened Has (standing_of t) given.mails event) mid new → LooksOnly mid new
         → IsTold Has given s (events ++ event ∷ []) first new
     told_push s t events event counts marks low high None mid new here told counted at is before
         after lows highs h looks = looks_then None mid new told looks
@@ -155,14 +156,14 @@ module _ (Has : Kind → Type 0) where
           looks_then (Some f) (Some m) (Some n) told.0 looks,
           happened-append s t events event n here
               (all_stays m n s counts events counted (omega (arith, at, lows)) looks told.1)
-              (true_now (kind_in t) event m n marks (marks_of event) is (before ∙ lows)
+              (true_now (standing_of t) event m n marks (marks_of event) is (before ∙ lows)
               (after ∙ highs) looks h),
         )
 
-    begins : (empty : Kind) (counts : Counts) (event : Happening) (mid new : Seen)
-        (tells : Tells Has empty given.mails event mid new) → counts ≡ counts_of mid
+    begins : (stood : Standing) (counts : Counts) (event : Happening) (mid new : Seen)
+        (tells : Tells Has stood given.mails event mid new) → counts ≡ counts_of mid
         → IsCounted Has counts event (marks_of event)
-    begins empty counts event mid new tells at =
+    begins stood counts event mid new tells at =
         subst (λ (o : Option Marks). IsCounted Has counts event o) (sym tells.marked) (record {
           mark = sym (ap (λ (c : Counts). c.mark) (at ∙ tells.before));
           faults = sym (ap (λ (c : Counts). c.faults) (at ∙ tells.before));
@@ -184,7 +185,8 @@ module _ (Has : Kind → Type 0) where
     -- an event that tells of the device
     pub witnessed_push : (s t : State) (events : List Happening) (event : Happening)
         (first mid new : Seen) → after_events given s events ≡ t
-        → Tells Has (kind_in t) given.mails event mid new → Witnessed Has given s events first mid
+        → Tells Has (standing_of t) given.mails event mid new
+        → Witnessed Has given s events first mid
         → Witnessed Has given s (events ++ event ∷ []) first new
     witnessed_push s t events event first mid new here tells h = record {
       told = told_push s t events event (counts_of first) tells.marks mid.marks new.marks
@@ -193,7 +195,7 @@ module _ (Has : Kind → Type 0) where
           (sym (ap (λ (c : Counts). c.mark) tells.after)) tells.first tells.last tells.happened
           tells.looks;
       counted = counted-append (counts_of first) events event h.counted
-          (begins (kind_in t) (counts_at (counts_of first) events) event mid new tells h.at);
+          (begins (standing_of t) (counts_at (counts_of first) events) event mid new tells h.at);
       at = at-append (counts_of first) events event
           ∙ ap (counts_after (counts_at (counts_of first) events)) tells.marked ∙ sym tells.after;
     }
@@ -228,9 +230,10 @@ module _ (Has : Kind → Type 0) where
     witnessed_none s now = record { told = none_told s now.told; counted = tt; at = refl }
 
     -- an event of a file tells of the device
-    pub tells_file : (empty : Kind) (event : Happening) (old new : Seen) → TellsFile event old new
-        → Tells Has empty given.mails event old new
-    tells_file empty (FileRead path text kept) old new h = record {
+    pub tells_file : (stood : Standing) (event : Happening) (old new : Seen)
+        → TellsFile event old new
+        → Tells Has stood given.mails event old new
+    tells_file stood (FileRead path text kept) old new h = record {
       marks = h.marks;
       marked = h.marked;
       before = h.before;
@@ -243,7 +246,7 @@ module _ (Has : Kind → Type 0) where
       first = h.first;
       last = h.last;
     }
-    tells_file empty (FileRefused path why kept) old new h = record {
+    tells_file stood (FileRefused path why kept) old new h = record {
       marks = h.marks;
       marked = h.marked;
       before = h.before;
@@ -256,7 +259,7 @@ module _ (Has : Kind → Type 0) where
       first = h.first;
       last = h.last;
     }
-    tells_file empty _ old new h = absurd h.cause
+    tells_file stood _ old new h = absurd h.cause
 
     -- events of files tell of it one after the other
     pub witnessed_each : (s : State) (events files : List Happening) (first now next : Seen)
@@ -271,7 +274,7 @@ module _ (Has : Kind → Type 0) where
         (append_assoc events (event ∷ []) files)
         (witnessed_each s (events ++ event ∷ []) files first each.0 next each.2
         (witnessed_push s (after_events given s events) events event first now each.0 refl
-        (tells_file (kind_in (after_events given s events)) event now each.0 each.1) h))
+        (tells_file (standing_of (after_events given s events)) event now each.0 each.1) h))
 
 -- the event of a file is one
 pub file_is : (event : Happening) (marks : Marks) → HasFileCause event marks → IsFile event
@@ -296,6 +299,18 @@ pub each_faults : (files : List Happening) (old new : Seen) → TellsEach files 
 each_faults [] old new each = omega (arith, ap (λ (s : Seen). s.faults) each)
 each_faults (event ∷ files) old new each =
     omega (arith, each.1.faults, each_faults files each.0 new each.2)
+
+-- the device only looked in them
+pub each_looks : (files : List Happening) (old new : Seen) → TellsEach files old new
+    → LooksOnly old.told new.told
+each_looks [] old new each =
+    subst (λ (s : Seen). LooksOnly old.told s.told) (sym each) (looks_same old.told)
+each_looks (event ∷ files) old new each = looks_then old.told each.0.told new.told each.1.looks
+    (each_looks files each.0 new each.2)
+
+pub files_looks : (events events' : List Happening) (old new : Seen)
+    → ReadsFiles events events' old new → LooksOnly old.told new.told
+files_looks events events' old new reads = each_looks reads.files old new reads.each
 
 each_then : (files more : List Happening) (old mid new : Seen) → TellsEach files old mid
     → TellsEach more mid new → TellsEach (files ++ more) old new
@@ -350,20 +365,20 @@ module _ (Has Other : Kind → Type 0) where
     files_counted (counts_after counts (marks_of event)) events are.1 h.1,
   )
 
-  file_true : (empty : Kind) (archive : List Mail) (event : Happening) (at : Option Marks)
-      (past : Past) → IsFile event → IsTrueAt Has empty archive event at past
-      → IsTrueAt Other empty archive event at past
-  file_true empty archive event None past is h = tt
-  file_true empty archive (FileRead path text kept) (Some marks) past is h = h
-  file_true empty archive (FileRefused path why kept) (Some marks) past is h = h
-  file_true empty archive _ (Some marks) past is h = absurd is
+  file_true : (stood : Standing) (archive : List Mail) (event : Happening) (at : Option Marks)
+      (past : Past) → IsFile event → IsTrueAt Has stood archive event at past
+      → IsTrueAt Other stood archive event at past
+  file_true stood archive event None past is h = tt
+  file_true stood archive (FileRead path text kept) (Some marks) past is h = h
+  file_true stood archive (FileRefused path why kept) (Some marks) past is h = h
+  file_true stood archive _ (Some marks) past is h = absurd is
 
   files_true : (given : Given) (s : State) (events : List Happening) (past : Past)
       → AreFiles events → AllHappened Has given s events past
       → AllHappened Other given s events past
   files_true given s [] past are h = tt
   files_true given s (event ∷ events) past are h = (
-    file_true (kind_in s) given.mails event (marks_of event) past are.0 h.0,
+    file_true (standing_of s) given.mails event (marks_of event) past are.0 h.0,
     files_true given (after given s event) events past are.1 h.1,
   )
 

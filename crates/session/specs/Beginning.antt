@@ -3,7 +3,6 @@ use Rattle.std.specs.Prelude.{◌≡◌, ℕ, ℤ, List, [], ◌∷◌, ◌++◌
 use Rattle.mail_base.specs.Faults.{Rose}
 use Rattle.mail_base.specs.declared.kind.Kind.{Kind}
 use Rattle.disk_model.specs.Seen.{Seen}
-use Rattle.folder_letters.specs.Letters.{Mail}
 use Rattle.folder_core.specs.declared.error.ScanError.TheVariants.{ArchiveFull, Fault}
 use Rattle.folder_core.specs.declared.error.ScanError.TheVariants.{NoMemory as NoRoom}
 use Rattle.folder_letters.specs.declared.listing.Listed.{Listed}
@@ -16,17 +15,16 @@ use Rattle.session_events.specs.declared.setup.StartError.{StartError}
 use Rattle.session_events.specs.declared.setup.StartError.TheVariants as error
 use Rattle.session_events.specs.Events.{AreFiles, Happening, FolderOpened, FolderRefused}
 use Rattle.session.specs.Given.{Given}
-use Rattle.session_events.specs.Happened.{IsListed}
 use Rattle.session_events.specs.Opening.{IsOpening}
 use Rattle.session.specs.Runs.{IsRunFrom, State, after_events}
 use Rattle.session.specs.Steps.{Waits}
 use Rattle.session.specs.Telling.{Witnessed}
 
--- no event or one of a folder; the letters are those that came
-abbrev pub AreOpening : ℤ → List Mail → List Happening → Type 0
-AreOpening moment letters [] = letters ≡ []
-AreOpening moment letters (event ∷ []) = IsOpening moment event × IsListed letters event
-AreOpening moment letters (event ∷ next ∷ events) = ⊥
+-- no event or one of a folder
+abbrev pub AreOpening : ℤ → List Happening → Type 0
+AreOpening moment [] = Unit {0}
+AreOpening moment (event ∷ []) = IsOpening moment event
+AreOpening moment (event ∷ next ∷ events) = ⊥
 
 -- Files of commands were read, and then perhaps a folder was looked for; what the events say is
 -- true.
@@ -34,14 +32,16 @@ pub record BeginsRun (Has : Kind → Type 0) (given : Given) (first : State) (mo
     (opening events : List Happening) (old new : Seen) : Type 0 where
   pub files : List Happening
   pub are_files : AreFiles files
-  pub opens : AreOpening moment given.mails opening
+  pub opens : AreOpening moment opening
   pub events_are : events ≡ files ++ opening
   pub run : IsRunFrom given first events
   pub told : Witnessed Has given first events old new
 
--- The folder was opened, and the run waits for the keys that commands have put.
+-- The folder was opened, in which this is listed, and the run waits for the keys that commands have
+-- put.
 pub record Starts (Has : Kind → Type 0) (given : Given) (first : State) (moment : ℤ)
-    (events : List Happening) (state : State) (old new : Seen) : Type 0 where
+    (events : List Happening) (state : State) (listing : List Listed) (old new : Seen)
+    : Type 0 where
   pub path : List ℕ
   pub kind : Kind
   pub came : List Listed
@@ -49,7 +49,7 @@ pub record Starts (Has : Kind → Type 0) (given : Given) (first : State) (momen
   pub begins : BeginsRun Has given first moment (FolderOpened path kind moment came marks ∷ [])
       events old new
   pub stage : state.turn.stage ≡ Pushing
-  pub listing : state.listing ≡ came
+  pub listed : listing ≡ came
   pub window : state.window ≡ first.window
   pub waits : Waits given first events state
 

@@ -1,14 +1,12 @@
 -- What holds of a session between its events.
-use Rattle.std.specs.Prelude.{◌≡◌, ◌≤◌, List}
+use Rattle.std.specs.Prelude.{◌≡◌, ◌≤◌, List, length}
 use Rattle.folder_letters.specs.Letters.{Mail}
 use Rattle.index_view.specs.View.{IsOf}
-use Rattle.session_events.specs.Events.{Happening, KeyPressed, FolderOpened}
-use Rattle.session_events.specs.Events.{FolderRefused}
+use Rattle.session_events.specs.Events.{Happening, FileRead, FileRefused, KeyPressed}
 use Rattle.keymap.specs.Queue.{most_replacements}
-use Rattle.session_events.specs.Happened.{IsFresh}
 use Rattle.session_pager.specs.Reader.{PlainReader, Index}
 use Rattle.session_pager.specs.Reads.{plain_reader}
-use Rattle.session.specs.Core.{IsEmpty, IsOver, Reads}
+use Rattle.session.specs.Core.{IsOver, Reads}
 use Rattle.session_screen.specs.Window.{IsWindow}
 use Rattle.session_state.specs.Instants.{IsMoment}
 use Rattle.session_state.specs.declared.stage.Stage.{Stage}
@@ -49,15 +47,19 @@ pub record Fits (mails : List Mail) (session : Session) : Type 0 where
   pub reads : ReadsAt session.stage mails session
   pub can : CanRead session
 
--- what an event needs of a session, over the letters that were met up to it: the first opening an
--- empty index, a key all that is shown, and others an index that can learn
+-- a session between the events of a run, with the letters that were met
+pub record FitsRun (mails : List Mail) (session : Session) : Type 0 where
+  pub fits : Fits mails session
+  pub met : session.folder.met ≡ length mails
+
+-- what the event of a key or of a file needs of a session, over the letters that were met up to it:
+-- a key all that is shown, a file an index that can learn
 abbrev pub CanTake : List Mail → Session → Happening → Type 0
 CanTake mails session (KeyPressed key moment) =
     IsOver mails session.window session.core × IsMoment moment
-CanTake mails session (FolderOpened path kind moment came marks) =
-    IsEmpty session.core.desk.view × IsFresh mails came × IsMoment moment
-CanTake mails session (FolderRefused path why marks) = Unit {0}
-CanTake mails session _ = CanLearn mails session
+CanTake mails session (FileRead path text marks) = CanLearn mails session
+CanTake mails session (FileRefused path why marks) = CanLearn mails session
+CanTake mails session _ = ⊥
 
 -- commands were run: the rest of the session is as before
 pub record IsReadIn (old new : Session) : Type 0 where
@@ -66,6 +68,7 @@ pub record IsReadIn (old new : Session) : Type 0 where
   pub stage : new.stage ≡ old.stage
   pub window : new.window ≡ old.window
   pub moment : new.moment ≡ old.moment
+  pub folder : new.folder ≡ old.folder
   pub replaced : new.queue.replaced ≡ old.queue.replaced
 
 -- the index stays before a folder is open
@@ -75,6 +78,4 @@ StaysUnopened old new = old.stage ≡ Unopened → new.core.desk.view ≡ old.co
 -- what it leaves
 abbrev pub IsLeft : List Mail → Session → Session → Happening → Type 0
 IsLeft mails old new (KeyPressed key moment) = Fits mails new
-IsLeft mails old new (FolderOpened path kind moment came marks) = Fits mails new
-IsLeft mails old new (FolderRefused path why marks) = Unit {0}
 IsLeft mails old new _ = Fits mails new × StaysUnopened old new

@@ -8,6 +8,7 @@ pub mod Acting
 pub mod Keys
 pub mod Opening
 pub mod Screen
+pub mod Checking
 pub mod Runs
 pub mod Telling
 pub mod Starting
@@ -15,3 +16,4 @@ pub mod Steps
 pub mod Beginning
 pub mod Fitting
 pub mod Calls
+pub mod Looking

@@ -3,15 +3,11 @@ use Rattle.std.specs.Prelude.{List, []}
 use Rattle.folder_letters.specs.Letters.{Mail}
 use Rattle.folder_letters.specs.declared.listing.Found.{Found}
 use Rattle.folder_letters.specs.declared.listing.Listed.{Listed}
-use Rattle.mail_base.specs.Series.{Held}
+use Rattle.session_events.specs.Events.{held}
 use Rattle.session_index.specs.Opening.{begun, taken_in}
 use Rattle.session.specs.Answers.{learnt, tuned}
 use Rattle.session.specs.Core.{CoreState, with_desk}
 use Rattle.session.specs.Reading.{left}
-
--- a list without room
-abbrev pub held : {X : Type 0} → List X → Held X
-held items = record { items = items; room = 0 }
 
 -- these messages came
 abbrev pub first_found : List Listed → Found

@@ -1,16 +1,22 @@
 -- A run: what a state wishes, what an event makes of it, and the screens.
-use Rattle.std.specs.Prelude.{◌≡◌, ℕ, ℤ, List, [], ◌∷◌, ◌++◌, Option, option_map}
+use Rattle.std.specs.Prelude.{◌≡◌, ◌+◌, ℕ, ℤ, Bool, false, List, [], ◌∷◌, ◌++◌, Option}
+use Rattle.std.specs.Prelude.{length, option_map, if◌then◌else◌}
 use Rattle.mail_base.specs.Series.{Held, plain_texts}
 use Rattle.mail_base.specs.declared.kind.Kind.{Kind}
 use Rattle.disk_model.specs.declared.answers.DiskError.{DiskError}
 use Rattle.folder_letters.specs.Letters.{Mail}
+use Rattle.folder_core.specs.declared.error.ScanError.{ScanError}
 use Rattle.folder_letters.specs.declared.listing.Listed.{Listed}
 use Rattle.hooks.specs.Hooks.{commands_for}
 use Rattle.keymap.specs.declared.key.Key.{Key}
+use Rattle.listing_laws.specs.Listing.{listing_behind}
 use Rattle.people.specs.Judged.{PlainJudged}
 use Rattle.session_events.specs.Events.{Happening, FileRead, FileRefused, KeyPressed, FolderOpened}
-use Rattle.session_events.specs.Events.{FolderRefused}
-use Rattle.session_events.specs.Wishes.{Nothing, Open, Press, Source, Wish, answered, moment_of}
+use Rattle.session_events.specs.Events.{FolderRefused, FolderChecked, CheckRefused, PlainFound}
+use Rattle.session_events.specs.Events.{held_found}
+use Rattle.session_events.specs.Happened.{met_after}
+use Rattle.session_events.specs.Wishes.{Check, Nothing, Open, Press, Source, Wish, answered}
+use Rattle.session_events.specs.Wishes.{moment_of}
 use Rattle.session_state.specs.declared.stage.Stage.{Stage}
 use Rattle.session_state.specs.declared.stage.Stage.TheVariants.{Unopened, Pushing, Idle, Ready}
 use Rattle.session_state.specs.declared.stage.Stage.TheVariants.{Opening, Over, Reading}
@@ -20,8 +26,9 @@ use Rattle.session_screen.specs.Places.{folder_path}
 use Rattle.session_state.specs.Rules.{put_all, without_puts}
 use Rattle.session_state.specs.Told.{nothing_told}
 use Rattle.session.specs.Answers.{caught_up, ran_to}
+use Rattle.session.specs.Checking.{forgot_by, found_again, is_due, refused_again}
 use Rattle.session.specs.Core.{CoreState, Ground, instant_of, plain_core, with_desk}
-use Rattle.session.specs.Given.{Given}
+use Rattle.session.specs.Given.{Given, met_of}
 use Rattle.session.specs.Keys.{TurnState, run_on}
 use Rattle.session.specs.Opening.{begun_in, opened}
 use Rattle.session.specs.Reading.{refreshed}
@@ -30,14 +37,17 @@ use Rattle.session.specs.Showing.{resumed}
 use Rattle.session.specs.declared.session_type.Session.{Session}
 
 -- what keys act on; what was told of files of commands; the screen's size; the open folder, its
--- listing and the moment of its last check, before its opening that of the start; the moment at
--- which commands run and keys act; and the folder that the words name
+-- listing, and whether only a part of it is known still; how many letters were met; the moment of
+-- its last check, before its opening that of the start; the moment at which commands run and keys
+-- act; and the folder that the words name
 pub record State : Type 0 where
   pub turn : TurnState
   pub notes : List (List ℕ)
   pub window : Window
   pub folder : Folder
   pub listing : List Listed
+  pub forgot : Bool
+  pub met : ℕ
   pub checked : ℤ
   pub moment : ℤ
   pub named : Option (List ℕ)
@@ -53,9 +63,11 @@ plain_session session notes = record {
   };
   notes = plain_texts notes;
   window = session.window;
-  folder = record { path = session.path.items; kind = session.kind };
-  listing = session.listing.items;
-  checked = session.checked.0;
+  folder = record { path = session.folder.known.path; kind = session.folder.known.kind };
+  listing = session.folder.listing.items;
+  forgot = session.folder.forgot;
+  met = session.folder.met;
+  checked = session.folder.checked;
   moment = session.moment.0;
   named = option_map (λ path. path.items) session.named;
 }
@@ -67,11 +79,15 @@ abbrev pub file_wish : List PlainFrame → Wish → Wish
 file_wish [] other = other
 file_wish (frame ∷ frames) other = Source frame.place.file
 
+-- what a key wishes that is typed: a check comes first where it is due
+abbrev pub key_wish : State → ℤ → Wish
+key_wish s moment = if is_due s.checked s.turn.core moment then Check moment else Press moment
+
 -- what a state wishes, by its stage
 abbrev pub wish_at : Stage → State → ℤ → Wish
 wish_at Unopened s moment = file_wish s.turn.core.frames
     (Open (folder_path s.turn.core.rules.settings s.named))
-wish_at Idle s moment = Press moment
+wish_at Idle s moment = key_wish s moment
 wish_at Ready s moment = Press moment
 wish_at Opening s moment = file_wish s.turn.core.frames Nothing
 wish_at Reading s moment = file_wish s.turn.core.frames Nothing
@@ -156,6 +172,8 @@ found_by mails path kind moment came s = record s {
   turn = record s.turn { core = opened mails came s.turn.core; stage = Pushing };
   folder = record { path = path; kind = kind };
   listing = came;
+  forgot = false;
+  met = s.met + length came;
   checked = moment;
   moment = moment;
 }
@@ -205,19 +223,48 @@ abbrev pub typed : Given → Key → ℤ → State → State
 typed given key moment s =
     acting given (waiting (s.turn.queue ++ key ∷ []) (record s { moment = moment }))
 
+-- the folder was checked at a moment, before a key that was taken
+abbrev pub checked_by : List Mail → ℤ → PlainFound → State → State
+checked_by mails moment found s = record s {
+  turn = record s.turn { core = found_again mails found s.turn.core };
+  listing = listing_behind mails (held_found found) s.listing;
+  forgot = false;
+  met = s.met + length found.came;
+  checked = moment;
+}
+
+-- a check was refused at a moment, before a key that was taken
+abbrev pub unchecked_by : ℤ → ScanError → State → State
+unchecked_by moment why s = record s {
+  turn = record s.turn { core = refused_again why s.turn.core };
+  forgot = forgot_by why s.forgot;
+  checked = moment;
+}
+
+-- the state that an event leads to by the letters that were met then
+abbrev pub arrived_by : Given → State → Happening → State
+arrived_by given s (FileRead path text marks) = read_on given (read_in given.verdicts text s)
+arrived_by given s (FileRefused path why marks) = read_on given (skipped given.verdicts why s)
+arrived_by given s (KeyPressed key moment) = typed given key moment (taken s)
+arrived_by given s (FolderOpened path kind moment came marks) =
+    opened_by given path kind moment came s
+arrived_by given s (FolderRefused path why marks) = at_stage Over s
+arrived_by given s (FolderChecked moment found marks) =
+    checked_by given.mails moment found (taken s)
+arrived_by given s (CheckRefused moment why marks) = unchecked_by moment why (taken s)
+
 -- the state that an event leads to, in which keys may still wait behind an opening
 abbrev pub arrived : Given → State → Happening → State
-arrived given s (FileRead path text marks) = read_on given (read_in given.verdicts text s)
-arrived given s (FileRefused path why marks) = read_on given (skipped given.verdicts why s)
-arrived given s (KeyPressed key moment) = typed given key moment (taken s)
-arrived given s (FolderOpened path kind moment came marks) =
-    opened_by given path kind moment came s
-arrived given s (FolderRefused path why marks) = at_stage Over s
+arrived given s event = arrived_by (met_of (met_after s.met event) given) s event
+
+-- the keys that wait behind an opening act
+abbrev pub pushed_on : Given → State → State
+pushed_on given s = pushed (met_of s.met given) s
 
 -- the state after an event
 abbrev pub after : Given → State → Happening → State
 after given s (FolderOpened path kind moment came marks) =
-    pushed given (arrived given s (FolderOpened path kind moment came marks))
+    pushed_on given (arrived given s (FolderOpened path kind moment came marks))
 after given s event = arrived given s event
 
 -- the state behind events
@@ -234,9 +281,9 @@ IsRunFrom given s (event ∷ events) = Answers s event × IsRunFrom given (after
 abbrev pub screen_in : List Mail → State → List (List ℕ)
 screen_in mails s = screen mails s.window s.folder s.turn.core
 
--- a state that wants a key shows its screen
+-- a state that wants a key shows its screen, of the letters that were met
 abbrev pub stage_screens : Given → Stage → State → List (List (List ℕ))
-stage_screens given Idle s = screen_in given.mails s ∷ []
+stage_screens given Idle s = screen_in (met_of s.met given).mails s ∷ []
 stage_screens given _ s = []
 
 -- the screens that a state shows

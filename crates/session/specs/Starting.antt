@@ -1,5 +1,5 @@
 -- The state that a run starts from, by the words of a command line.
-use Rattle.std.specs.Prelude.{ℕ, ℤ, Bool, List, [], Option, option_map}
+use Rattle.std.specs.Prelude.{ℕ, ℤ, Bool, false, List, [], Option, option_map}
 use Rattle.mail_base.specs.Series.{plain_texts}
 use Rattle.mail_base.specs.declared.kind.Kind.{Kind}
 use Rattle.mail_base.specs.declared.kind.Kind.TheVariants.{Mbox}
@@ -38,6 +38,8 @@ state_over setup core moment = record {
   window = setup.window;
   folder = record { path = []; kind = Mbox };
   listing = [];
+  forgot = false;
+  met = 0;
   checked = moment;
   moment = moment;
   named = setup.path;

@@ -1,5 +1,5 @@
 -- How a session stands in its run.
-use Rattle.std.specs.Prelude.{◌≡◌, ◌≢◌, ◌≤◌, ℕ, ℤ, List, [], ◌∷◌, ◌++◌}
+use Rattle.std.specs.Prelude.{◌≡◌, ◌≢◌, ◌≤◌, ℕ, ℤ, List, [], ◌∷◌, ◌++◌, length}
 use Rattle.mail_base.specs.declared.kind.Kind.{Kind}
 use Rattle.disk_model.specs.Seen.{Seen}
 use Rattle.folder_letters.specs.Letters.{Mail}
@@ -11,10 +11,13 @@ use Rattle.session_state.specs.declared.stage.Stage.TheVariants.{Unopened, Idle}
 use Rattle.session_state.specs.declared.stage.Stage.TheVariants.{Opening, Over, Reading}
 use Rattle.session_events.specs.declared.setup.Next.{Next}
 use Rattle.session_events.specs.declared.setup.Next.TheVariants.{Go, Quit}
-use Rattle.session_events.specs.Events.{AreFiles, Happening, KeyPressed}
+use Rattle.session_events.specs.Events.{AreFiles, Happening, IsCheck, KeyPressed}
+use Rattle.session_events.specs.Happened.{AllMet}
 use Rattle.session_events.specs.Telling.{TellsFile}
-use Rattle.session.specs.Given.{Given, IsGiven}
-use Rattle.session.specs.Runs.{IsRunFrom, State, after_events, pushed, screens_from, shown, taken}
+use Rattle.session_events.specs.Wishes.{Press}
+use Rattle.session.specs.Given.{Given, IsGivenOn}
+use Rattle.session.specs.Runs.{IsRunFrom, State, after_events, pushed_on, screens_from, shown}
+use Rattle.session.specs.Runs.{taken, wish}
 use Rattle.session_state.specs.Frames.{PlainFrame}
 use Rattle.session.specs.Telling.{Driverless, Witnessed}
 
@@ -25,20 +28,20 @@ pub record Stands (given : Given) (first : State) (events : List Happening) (sta
   pub state_is : after_events given first events ≡ state
   pub screens_are : screens_from given first events ≡ screens
 
--- The same, and then a key was taken.
+-- The same, and then a key was taken, which is wished at this moment: a check that was due is made.
 pub record IsTaken (given : Given) (first : State) (events : List Happening) (state : State)
-    (screens : List (List (List ℕ))) : Type 0 where
+    (moment : ℤ) (screens : List (List (List ℕ))) : Type 0 where
   pub before : State
   pub stands : Stands given first events before screens
-  pub idle : before.turn.stage ≡ Idle
+  pub wishes : wish before moment ≡ Press moment
   pub taken_is : taken before ≡ state
 
 -- A folder was opened, and the keys that commands have put wait in this state.
 pub record Waits (given : Given) (first : State) (events : List Happening)
     (state : State) : Type 0 where
   pub run : IsRunFrom given first events
-  pub state_is : after_events given first events ≡ pushed given state
-  pub screens_are : screens_from given first events ≡ shown given (pushed given state)
+  pub state_is : after_events given first events ≡ pushed_on given state
+  pub screens_are : screens_from given first events ≡ shown given (pushed_on given state)
 
 -- a key is wanted, or the run is over
 abbrev pub IsNext : Next → Stage → Type 0
@@ -55,11 +58,22 @@ pub record GoesOn (given : Given) (first : State) (events : List Happening)
   pub more : List (List ℕ)
   pub noted : (after_events given first events).notes ≡ notes ++ more
 
+-- all of these are events of checks
+abbrev pub AreChecks : List Happening → Type 0
+AreChecks [] = Unit {0}
+AreChecks (event ∷ events) = IsCheck event × AreChecks events
+
 -- A key was pressed, and files of commands were read that it came to.
 pub record PressesKey (key : Key) (moment : ℤ) (events events' : List Happening) : Type 0 where
   pub files : List Happening
   pub are : AreFiles files
   pub pressed : events' ≡ events ++ KeyPressed key moment ∷ files
+
+-- A check was made, or none was due.
+pub record AddsCheck (events events' : List Happening) : Type 0 where
+  pub checks : List Happening
+  pub are : AreChecks checks
+  pub added : events' ≡ events ++ checks
 
 -- The same without a key.
 pub record AddsFiles (events events' : List Happening) : Type 0 where
@@ -67,17 +81,28 @@ pub record AddsFiles (events events' : List Happening) : Type 0 where
   pub are : AreFiles files
   pub added : events' ≡ events ++ files
 
--- What the events say of the disk stays true.
-abbrev pub StaysTold : (Kind → Type 0) → List Happening → List Happening → Seen → Seen → Type 0
-StaysTold Has events events' now next = (given : Given) → (first : State) → (before : Seen)
+-- what the events say of so many letters stays true while there are more
+abbrev pub StaysMet : List Mail → List Happening → List Mail → List Happening → Type 0
+StaysMet mails events mails' events' =
+    AllMet (length mails) 0 events → AllMet (length mails') 0 events'
+
+-- What the events from a state on say of the disk stays true.
+abbrev pub StaysToldFrom : (Kind → Type 0) → Given → State → List Happening → List Happening → Seen
+    → Seen → Type 0
+StaysToldFrom Has given first events events' now next = (before : Seen)
     → Witnessed Has given first events before now → Witnessed Has given first events' before next
+
+-- the same from each state on
+abbrev pub StaysTold : (Kind → Type 0) → List Happening → List Happening → Seen → Seen → Type 0
+StaysTold Has events events' now next = (given : Given) → (first : State)
+    → StaysToldFrom Has given first events events' now next
 
 -- Files of commands.
 
 -- before a folder is open the letters have no say
 abbrev pub IsLent : Stage → List Mail → List PlainJudged → Given → Type 0
 IsLent Unopened mails kept given = Keeps kept given.verdicts
-IsLent _ mails kept given = IsGiven mails kept given
+IsLent _ mails kept given = IsGivenOn mails kept given
 
 -- one event of a file after the other, in which the device went from one view to the next
 abbrev pub TellsEach : List Happening → Seen → Seen → Type 0

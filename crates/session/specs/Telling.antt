@@ -6,7 +6,8 @@ use Rattle.disk_model.specs.Journal.{Past}
 use Rattle.disk_model.specs.Looking.{HasLooked}
 use Rattle.disk_model.specs.Seen.{Seen}
 use Rattle.session_events.specs.Events.{Happening}
-use Rattle.session_events.specs.Happened.{AllCounted, IsTrueAt, counts_at, counts_of, marks_of}
+use Rattle.session_events.specs.Happened.{AllCounted, IsTrueAt, Standing, counts_at, counts_of}
+use Rattle.session_events.specs.Happened.{marks_of}
 use Rattle.session_events.specs.declared.event.Event.{Event}
 use Rattle.session_screen.specs.Places.{new_kind}
 use Rattle.session.specs.Given.{Given}
@@ -16,11 +17,22 @@ use Rattle.session.specs.Runs.{State, after}
 abbrev pub kind_in : State → Kind
 kind_in s = new_kind s.turn.core.rules.settings
 
+-- what an event speaks of in the state before it
+abbrev pub standing_of : State → Standing
+standing_of s = record {
+  empty = kind_in s;
+  path = s.folder.path;
+  kind = s.folder.kind;
+  listing = s.listing;
+  met = s.met;
+  forgot = s.forgot;
+}
+
 -- each event from this state on is true
 abbrev pub AllHappened : (Kind → Type 0) → Given → State → List Happening → Past → Type 0
 AllHappened Has given s [] past = Unit {0}
 AllHappened Has given s (event ∷ events) past =
-    IsTrueAt Has (kind_in s) given.mails event (marks_of event) past
+    IsTrueAt Has (standing_of s) given.mails event (marks_of event) past
     × AllHappened Has given (after given s event) events past
 
 -- where a past is told, it stays told; where it is not, it stays untold

@@ -92,11 +92,11 @@ impl Core {
     {
         match self.desk.wanted {
             Wanted::ToDisplay => {
-                self.grant();
+                let _ = self.take_wanted();
                 self.display_at_cursor(window, moment, archive, verdicts)
             }
             Wanted::ToList => {
-                self.grant();
+                let _ = self.take_wanted();
                 self.list_parts(window, archive)
             }
             _ => Ok(()),

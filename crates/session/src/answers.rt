@@ -100,17 +100,6 @@ impl Core {
         }
     }
 
-    fn drop_limit(&mut self, archive: &Archive) -> Result<(), NoMemory>
-        requires { IsOf (map plain_letter archive.now.items) self.old.desk.view }
-        ensures { OnOk result (Stands (map plain_letter archive.now.items)
-            (spec.without_limit (map plain_letter archive.now.items) (plain_core self.old))
-            self.new) }
-    {
-        self.desk.limit_to(archive, None)?;
-        self.limit = None;
-        Ok(())
-    }
-
     // Does what a text does that is answered in the index.
     fn do_text(
         &mut self,
@@ -131,7 +120,11 @@ impl Core {
             asking text.items (plain_core self.old)) self.new) }
     {
         match asking {
-            Asking::Limit if is_no_limit(text.as_slice()) => self.drop_limit(archive),
+            Asking::Limit if is_no_limit(text.as_slice()) => {
+                self.desk.limit_to(archive, None)?;
+                self.limit = None;
+                Ok(())
+            }
             Asking::Command => self.command(window, moment, archive, verdicts, &text),
             _ => self.read_text(window, moment, archive, verdicts, asking, text),
         }
@@ -322,22 +315,13 @@ impl Core {
         }
     }
 
-    // Takes up what is wanted.
-    fn take_wanted(&mut self) -> Wanted
+    /// Takes up what is wanted.
+    pub fn take_wanted(&mut self) -> Wanted
         ensures wanted { plain_wanted result ≡ (plain_core self.old).desk.wanted }
         ensures core { plain_core self.new ≡ spec.granted (plain_core self.old) }
         ensures view { self.new.desk.view ≡ self.old.desk.view }
         ensures rest { self.new ≡ record self.old { desk = self.new.desk } }
     {
         std::mem::replace(&mut self.desk.wanted, Wanted::Unasked)
-    }
-
-    /// Nothing is wanted any more.
-    pub fn grant(&mut self)
-        ensures core { plain_core self.new ≡ spec.granted (plain_core self.old) }
-        ensures view { self.new.desk.view ≡ self.old.desk.view }
-        ensures rest { self.new ≡ record self.old { desk = self.new.desk } }
-    {
-        self.desk.wanted = Wanted::Unasked;
     }
 }

@@ -3,30 +3,33 @@
 use crate::core_state::Core;
 use crate::session_type::Session;
 use disk_model::Device;
-use folder_core::{Archive, Drivers, Listing};
+use folder_core::{Archive, Drivers};
 use keymap::KeyQueue;
-use mail_base::{Bytes, Kind, Lines, NoMemory, Words};
-use session_events::{Event, Setup, StartError, Trace, open_event};
+use mail_base::{Bytes, Lines, NoMemory, Words};
+use session_events::{OpenFolder, Opening, Setup, StartError, Trace, open_event};
 use session_screen::{Window, folder_path as path_in, new_kind as kind_in};
 use session_state::{Moment, Stage, first_frames};
 use std::alloc::Global;
 
 impl Session {
     ghost use Rattle.std.specs.Prelude.{◌≡◌, [], ℕ, Any, IfOk, IfErr, OnErr, OnOk};
-    ghost use Rattle.std.specs.Prelude.{map, option_map};
+    ghost use Rattle.std.specs.Prelude.{false, length, map, option_map};
     ghost use Rattle.mail_base.specs.Series.{Held, plain_texts};
     ghost use Rattle.disk_model.specs.Seen.{Seen};
     ghost use Rattle.patterns.specs.Causes.{Keeps};
     ghost use Rattle.folder_letters.specs.Letters.{plain_letter};
     ghost use Rattle.session_screen.specs.Places.{folder_path, new_kind};
     ghost use Rattle.session.specs.Beginning.{AnswersNames};
-    ghost use Rattle.session.specs.Calls.{FailsIn, IsSourced, IsUnopened, StartsIn, events_in};
-    ghost use Rattle.session.specs.Calls.{letters_in};
+    ghost use Rattle.folder_core.specs.Known.{nothing_known};
+    ghost use Rattle.mail_base.specs.declared.kind.Kind.TheVariants.{Mbox};
+    ghost use Rattle.session.specs.Calls.{FailsIn, IsOpenIn, IsSourced, IsUnopened, StartsIn};
+    ghost use Rattle.session.specs.Calls.{events_in, letters_in};
     ghost use Rattle.session.specs.Core.{IsEmpty, plain_core};
-    ghost use Rattle.session_events.specs.Events.{plain_event};
+    ghost use Rattle.session_events.specs.Events.{AreFiles, plain_event};
+    ghost use Rattle.session_events.specs.Happened.{AllMet, Standing};
     ghost use Rattle.session_screen.specs.Window.{IsWindow};
     ghost use Rattle.session_state.specs.Instants.{IsMoment};
-    ghost use Rattle.session.specs.Fitting.{Fits};
+    ghost use Rattle.session.specs.Fitting.{FitsRun};
     ghost use Rattle.session.specs.Given.{Given};
     ghost use Rattle.session_events.specs.Opening.{OpensPath};
     ghost use Rattle.session.specs.Runs.{State, plain_session};
@@ -48,7 +51,11 @@ impl Session {
         requires notes { trace.old.notes.items ≡ [] }
         requires window { IsWindow (plain_setup setup).window }
         requires moment { IsMoment moment }
-        ensures fits { IfOk result (Fits (letters_in trace.new)) }
+        ensures fits { IfOk result (FitsRun (letters_in trace.new)) }
+        ensures known { IfOk result (λ session. IsOpenIn
+            (λ kind. Any (λ d. sort (d.vtable, d.value) ≡ kind) drivers.now.list.items) session
+            trace.new (seen (dev.new.disk.vtable, dev.new.disk.value))) }
+        ensures met { AllMet (length (letters_in trace.new)) 0 (events_in trace.new) }
         ensures ok { IfOk result (λ session. StartsIn
             (λ kind. Any (λ d. sort (d.vtable, d.value) ≡ kind) drivers.now.list.items)
             (first_state (plain_setup setup) moment) moment session trace.new
@@ -75,6 +82,7 @@ impl Session {
         dev: &mut Device,
         trace: &mut Trace,
     ) -> Result<Lines, NoMemory>
+        requires archive { trace.old.archive.items ≡ [] }
         requires events { trace.old.events.items ≡ [] }
         requires notes { trace.old.notes.items ≡ [] }
         requires window { IsWindow (plain_setup setup).window }
@@ -88,6 +96,7 @@ impl Session {
             (seen (dev.old.disk.vtable, dev.old.disk.value))
             (seen (dev.new.disk.vtable, dev.new.disk.value)) }
         ensures archive { trace.new.archive ≡ trace.old.archive }
+        ensures met { AllMet (length (letters_in trace.new)) 0 (events_in trace.new) }
     {
         let session = Session::sourced(alloc, setup, moment, dev, trace)?;
         session.core.rules.answers(alloc, names.as_slice())
@@ -95,7 +104,12 @@ impl Session {
 
     // A session over a core. A call of its own, so that its proof does not have the tables of
     // default keys and settings before it.
-    fn over(alloc: Global, setup: Setup, core: Core, moment: Moment) -> Session
+    fn over(alloc: Global, setup: Setup, core: Core, folder: OpenFolder, moment: Moment) -> Session
+        requires known { folder.known ≡ nothing_known [] Mbox false }
+        requires listing { folder.listing.items ≡ [] }
+        requires met { folder.met ≡ 0 }
+        requires forgot { folder.forgot ≡ false }
+        requires checked { folder.checked ≡ moment.0 }
         ensures state { (notes : Held (Held ℕ)) → notes.items ≡ [] → plain_session result notes
             ≡ state_over (plain_setup setup) (plain_core core) moment.0 }
         ensures view { result.core.desk.view ≡ core.desk.view }
@@ -110,10 +124,7 @@ impl Session {
                 cols: setup.cols,
                 offset: setup.offset,
             },
-            path: Bytes::new(alloc),
-            kind: Kind::Mbox,
-            listing: Listing::new(alloc),
-            checked: moment,
+            folder,
             moment,
             named: setup.path,
         }
@@ -128,7 +139,8 @@ impl Session {
         let commands = setup.commands.as_slice();
         let frames = first_frames(alloc, &setup.rc, commands, setup.kind)?;
         let core = Core::new(alloc, setup.read_only, frames)?;
-        Ok(Session::over(alloc, setup, core, moment))
+        let folder = OpenFolder::none(alloc, moment.0)?;
+        Ok(Session::over(alloc, setup, core, folder, moment))
     }
 
     // A session that has read its files of commands.
@@ -139,6 +151,7 @@ impl Session {
         dev: &mut Device,
         trace: &mut Trace,
     ) -> Result<Session, NoMemory>
+        requires archive { trace.old.archive.items ≡ [] }
         requires events { trace.old.events.items ≡ [] }
         requires notes { trace.old.notes.items ≡ [] }
         requires window { IsWindow (plain_setup setup).window }
@@ -168,7 +181,12 @@ impl Session {
         requires archive { trace.old.archive.items ≡ [] }
         requires moment { IsMoment moment }
         requires ready { IsUnopened self.old }
-        ensures fits { OnOk result (Fits (letters_in trace.new) self.new) }
+        ensures fits { OnOk result (FitsRun (letters_in trace.new) self.new) }
+        ensures known { OnOk result (IsOpenIn
+            (λ kind. Any (λ d. sort (d.vtable, d.value) ≡ kind) drivers.now.list.items) self.new
+            trace.new (seen (dev.new.disk.vtable, dev.new.disk.value))) }
+        ensures met { AreFiles (events_in trace.old)
+            → AllMet (length (letters_in trace.new)) 0 (events_in trace.new) }
         ensures ok { OnOk result ((first : State) → (before : Seen) → IsSourced first self.old
             trace.old before (seen (dev.old.disk.vtable, dev.old.disk.value))
             → StartsIn (λ kind. Any (λ d. sort (d.vtable, d.value) ≡ kind) drivers.now.list.items)
@@ -180,12 +198,18 @@ impl Session {
             first moment why trace.new before (seen (dev.new.disk.vtable, dev.new.disk.value))) }
     {
         trace.events.reserve(1)?;
-        let event = self.look(dev, drivers, moment, &mut trace.archive)?;
-        let refusal = event.refusal();
-        self.happen(event, trace)?;
-        match refusal {
-            None => Ok(()),
-            Some(why) => Err(StartError::of(why)),
+        let opening = self.look(dev, drivers, moment, &mut trace.archive)?;
+        let _ = trace.events.push(opening.event);
+        match opening.answer {
+            Ok(folder) => {
+                let (verdicts, notes) = (&mut trace.verdicts, &mut trace.notes);
+                self.open(folder, Moment(moment), &trace.archive, verdicts, notes)?;
+                Ok(())
+            }
+            Err(why) => {
+                self.stage = Stage::Over;
+                Err(StartError::of(why))
+            }
         }
     }
 
@@ -196,34 +220,29 @@ impl Session {
         drivers: &Drivers,
         moment: i64,
         archive: &mut Archive,
-    ) -> Result<Event, NoMemory>
+    ) -> Result<Opening, NoMemory>
         requires { archive.old.items ≡ [] }
-        ensures ok { IfOk result (λ event. OpensPath
+        ensures ok { IfOk result (λ opening. (at : Standing)
+            → at.empty ≡ new_kind self.now.core.rules.settings → OpensPath
             (λ kind. Any (λ d. sort (d.vtable, d.value) ≡ kind) drivers.now.list.items)
-            (new_kind self.now.core.rules.settings)
+            at
             (folder_path self.now.core.rules.settings
             (option_map (λ path. path.items) self.now.named)) moment
-            (map plain_letter archive.new.items) (plain_event event)
+            (map plain_letter archive.new.items) (plain_event opening.event) opening.answer
             (seen (dev.old.disk.vtable, dev.old.disk.value))
             (seen (dev.new.disk.vtable, dev.new.disk.value))) }
         ensures err { OnErr result ((seen (dev.new.disk.vtable, dev.new.disk.value)
             ≡ seen (dev.old.disk.vtable, dev.old.disk.value)) × (archive.new ≡ archive.old)) }
     {
         let settings = self.core.rules.settings();
-        let path = path_in(self.alloc, settings, self.named_path())?;
+        let named = match &self.named {
+            Some(path) => Some(path.as_slice()),
+            None => None,
+        };
+        let path = path_in(self.alloc, settings, named)?;
         let name = Bytes::copy_of(self.alloc, path.as_slice())?;
         let empty = kind_in(settings);
         let path = path.as_str();
         Ok(open_event(self.alloc, dev, drivers, empty, path, name, moment, archive))
-    }
-
-    fn named_path(&self) -> Option<&[u8]>
-        ensures { option_map (λ path. path.now) result
-            ≡ option_map (λ path. path.items) self.now.named }
-    {
-        match &self.named {
-            Some(path) => Some(path.as_slice()),
-            None => None,
-        }
     }
 }

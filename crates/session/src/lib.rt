@@ -9,6 +9,7 @@
 mod acting;
 mod answers;
 mod beginning;
+mod checking;
 mod core_state;
 mod learning;
 mod opening;

@@ -12,16 +12,15 @@ use session_state::Stage;
 use std::alloc::Global;
 
 impl Session {
-    ghost use Rattle.std.specs.Prelude.{◌≡◌, ℕ, Any, List, length, IfOk};
+    ghost use Rattle.std.specs.Prelude.{◌≡◌, Any, length, IfOk};
     ghost use Rattle.mail_base.specs.Series.{plain_texts};
     ghost use Rattle.session_state.specs.Instants.{IsMoment};
     ghost use Rattle.session.specs.Calls.{Presses, PressesWhole, Pushes, PushesWhole};
-    ghost use Rattle.session.specs.Calls.{events_in, letters_in, state_in};
-    ghost use Rattle.session.specs.Fitting.{Fits};
-    ghost use Rattle.session.specs.Given.{Given};
-    ghost use Rattle.session.specs.Runs.{State, screen_in};
-    ghost use Rattle.session.specs.Steps.{IsTaken, Stands, next_of};
-    ghost use Rattle.session_state.specs.declared.stage.Stage.TheVariants.{Idle, Ready};
+    ghost use Rattle.session.specs.Calls.{letters_in, state_in};
+    ghost use Rattle.session.specs.Fitting.{FitsRun};
+    ghost use Rattle.session.specs.Runs.{screen_in};
+    ghost use Rattle.session.specs.Steps.{next_of};
+    ghost use Rattle.session_state.specs.declared.stage.Stage.TheVariants.{Ready};
 
     /// Lets the keys act that commands have put before the first screen, and reads the files of
     /// commands that they come to.
@@ -31,9 +30,9 @@ impl Session {
         drivers: &Drivers,
         trace: &mut Trace,
     ) -> Result<Next, NoMemory>
-        requires { Fits (letters_in trace.old) self.old }
+        requires { FitsRun (letters_in trace.old) self.old }
         ensures pushes { Pushes (λ kind. Any (λ d. sort (d.vtable, d.value) ≡ kind)
-            drivers.now.list.items) self.old trace.old trace.new
+            drivers.now.list.items) self.old self.new trace.old trace.new
             (seen (dev.old.disk.vtable, dev.old.disk.value))
             (seen (dev.new.disk.vtable, dev.new.disk.value)) }
         ensures whole { IfOk result (PushesWhole self.old self.new trace.old trace.new) }
@@ -41,19 +40,6 @@ impl Session {
         self.push_keys(&trace.archive, &mut trace.verdicts)?;
         self.source_all(dev, trace)?;
         Ok(self.next())
-    }
-
-    /// A key was taken: empties the message line.
-    pub fn check(&mut self, trace: &Trace)
-        requires idle { self.old.stage ≡ Idle }
-        requires fits { Fits (letters_in trace.now) self.old }
-        ensures ready { self.new.stage ≡ Ready }
-        ensures fits { Fits (letters_in trace.now) self.new }
-        ensures stood { (given : Given) → (first : State) → (screens : List (List (List ℕ)))
-            → Stands given first (events_in trace.now) (state_in self.old trace.now) screens
-            → IsTaken given first (events_in trace.now) (state_in self.new trace.now) screens }
-    {
-        self.take_key();
     }
 
     /// Lets a typed key act, and reads the files of commands that it comes to. Call `check` first.
@@ -67,9 +53,9 @@ impl Session {
     ) -> Result<Next, NoMemory>
         requires ready { self.old.stage ≡ Ready }
         requires moment { IsMoment moment }
-        requires fits { Fits (letters_in trace.old) self.old }
+        requires fits { FitsRun (letters_in trace.old) self.old }
         ensures presses { Presses (λ kind. Any (λ d. sort (d.vtable, d.value) ≡ kind)
-            drivers.now.list.items) key moment self.old trace.old trace.new
+            drivers.now.list.items) key moment self.old self.new trace.old trace.new
             (seen (dev.old.disk.vtable, dev.old.disk.value))
             (seen (dev.new.disk.vtable, dev.new.disk.value)) }
         ensures whole { IfOk result
@@ -95,15 +81,16 @@ impl Session {
 
     /// The lines of the screen.
     pub fn screen(&self, alloc: Global, trace: &Trace) -> Result<Lines, NoMemory>
-        requires { Fits (letters_in trace.now) self.now }
+        requires { FitsRun (letters_in trace.now) self.now }
         ensures lines { IfOk result (λ lines. plain_texts lines
             ≡ screen_in (letters_in trace.now) (state_in self.now trace.now)) }
         ensures rows { length (screen_in (letters_in trace.now) (state_in self.now trace.now))
             ≡ self.now.window.rows }
     {
+        let known = &self.folder.known;
         let place = Place {
-            path: self.path.as_slice(),
-            kind: self.kind,
+            path: known.path().as_bytes(),
+            kind: known.kind(),
         };
         screen_lines(alloc, &trace.archive, &self.core, self.window, place)
     }

@@ -3,11 +3,11 @@
 use crate::core_state::Core;
 use crate::turn::settle;
 use disk_model::DiskError;
-use folder_core::{Archive, Listing};
+use folder_core::Archive;
 use keymap::{Key, KeyQueue};
-use mail_base::{Bytes, Kind, Line, Lines, NoMemory};
+use mail_base::{Bytes, Line, Lines, NoMemory};
 use people::Verdicts;
-use session_events::{Event, Trace};
+use session_events::{Event, OpenFolder, Trace};
 use session_index::Message;
 use session_screen::Window;
 use session_state::{Moment, Stage, Told, add_notes, read_first, run_folder_hooks, skip_first};
@@ -20,11 +20,8 @@ pub struct Session {
     pub queue: KeyQueue,
     pub stage: Stage,
     pub window: Window,
-    pub path: Bytes,
-    pub kind: Kind,
-    pub listing: Listing,
-    /// The moment of the folder's last check: its opening at first, and before that the start.
-    pub checked: Moment,
+    /// The open folder, and the moment of its last check: before an opening that of the start.
+    pub folder: OpenFolder,
     /// The moment at which commands run and keys act: that of the last key, or of the opening or
     /// the start.
     pub moment: Moment,
@@ -39,10 +36,7 @@ impl Drop for Session {
             queue: _,
             stage: _,
             window: _,
-            path: _,
-            kind: _,
-            listing: _,
-            checked: _,
+            folder: _,
             moment: _,
             named: _,
         } = self;
@@ -50,8 +44,8 @@ impl Drop for Session {
 }
 
 impl Session {
-    ghost use Rattle.std.specs.Prelude.{◌≡◌, ◌<◌, ◌++◌, ℕ, ℤ, List, OnOk, MatchOption};
-    ghost use Rattle.std.specs.Prelude.{map};
+    ghost use Rattle.std.specs.Prelude.{◌≡◌, ◌<◌, ◌+◌, ◌++◌, ℕ, ℤ, false, List, length, map};
+    ghost use Rattle.std.specs.Prelude.{OnOk, MatchOption};
     ghost use Rattle.mail_base.specs.Series.{Held, plain_texts};
     ghost use Rattle.folder_letters.specs.Letters.{Mail, plain_letter};
     ghost use Rattle.index_view.specs.View.{IsOf};
@@ -67,14 +61,14 @@ impl Session {
     ghost use Rattle.session_state.specs.Instants.{IsMoment};
     ghost use Rattle.session.specs.Fitting.{CanAct, CanLearn, CanRead, CanTake, Fits, IsLeft};
     ghost use Rattle.session.specs.Fitting.{IsReadIn, StaysUnopened};
-    ghost use Rattle.session.specs.Given.{Given, IsGiven};
+    ghost use Rattle.session.specs.Given.{Given, IsGiven, given_of};
     ghost use Rattle.session.specs.Steps.{IsFileless};
     ghost use Rattle.session_state.specs.Frames.{plain_frames};
     ghost use Rattle.session_state.specs.Told.{plain_told};
     ghost use Rattle.session_state.specs.declared.stage.Stage.TheVariants.{Idle, Ready};
     ghost use Rattle.session.specs.Runs as spec;
 
-    /// Takes in what happened. Keys that commands have put still wait behind an opening.
+    /// Takes in the event of a file of commands or of a key.
     pub(crate) fn take(
         &mut self,
         archive: &Archive,
@@ -88,10 +82,12 @@ impl Session {
         ensures arrived { OnOk result ((given : Given)
             → IsGiven (map plain_letter archive.now.items) verdicts.new.kept given
             → spec.plain_session self.new notes.new
-            ≡ spec.arrived given (spec.plain_session self.old notes.old) (plain_event event.now)) }
+            ≡ spec.arrived_by given (spec.plain_session self.old notes.old)
+            (plain_event event.now)) }
         ensures left { OnOk result (IsLeft (map plain_letter archive.now.items) self.old
             self.new (plain_event event.now)) }
         ensures window { self.new.window ≡ self.old.window }
+        ensures folder { self.new.folder ≡ self.old.folder }
         ensures kept { Keeps verdicts.old.kept verdicts.new.kept }
     {
         match event {
@@ -107,21 +103,7 @@ impl Session {
                 self.take_key();
                 self.type_in(*key, Moment(*moment), archive, verdicts)
             }
-            Event::Opened {
-                path,
-                kind,
-                moment,
-                came,
-                ..
-            } => {
-                let moment = Moment(*moment);
-                self.run_hooks(path.as_slice(), moment, verdicts, notes)?;
-                self.open(path, *kind, moment, came, archive)
-            }
-            Event::NotOpened { .. } => {
-                self.stage = Stage::Over;
-                Ok(())
-            }
+            _ => Ok(()),
         }
     }
 
@@ -130,6 +112,7 @@ impl Session {
         requires room { 0 < trace.old.events.room }
         requires read { CanRead self.old }
         requires fits { CanTake (letters_in trace.old) self.old (plain_event event) }
+        requires met { self.old.folder.met ≡ length (letters_in trace.old) }
         ensures happens { Happens (plain_event event) self.old self.new trace.old trace.new }
         ensures taken { OnOk result
             (TakesIn (plain_event event) self.old self.new trace.old trace.new) }
@@ -248,6 +231,7 @@ impl Session {
         ensures fits { OnOk result (Fits (map plain_letter archive.now.items) self.new) }
         ensures unopened { StaysUnopened self.old self.new }
         ensures window { self.new.window ≡ self.old.window }
+        ensures folder { self.new.folder ≡ self.old.folder }
         ensures kept { Keeps verdicts.old.kept verdicts.new.kept }
     {
         match self.stage {
@@ -272,6 +256,7 @@ impl Session {
         ensures fits { OnOk result (Fits (map plain_letter archive.now.items) self.new) }
         ensures stage { self.new.stage ≡ self.old.stage }
         ensures window { self.new.window ≡ self.old.window }
+        ensures folder { self.new.folder ≡ self.old.folder }
     {
         self.core.catch_up(archive)?;
         self.core.refresh(self.window, archive)?;
@@ -285,6 +270,7 @@ impl Session {
             spec.reading_on self.old self.new) }
         ensures fits { OnOk result (Fits (map plain_letter archive.now.items) self.new) }
         ensures window { self.new.window ≡ self.old.window }
+        ensures folder { self.new.folder ≡ self.old.folder }
         ensures kept { Keeps verdicts.old.kept verdicts.new.kept }
     {
         if self.core.waits_for_file() {
@@ -301,7 +287,9 @@ impl Session {
         ensures fits { (mails : List Mail) → Fits mails self.old → Fits mails self.new }
         ensures act { (mails : List Mail) → CanAct mails self.old → CanAct mails self.new }
         ensures window { self.new.window ≡ self.old.window }
+        ensures folder { self.new.folder ≡ self.old.folder }
         ensures stage { self.old.stage ≡ Idle → self.new.stage ≡ Ready }
+        ensures kept { self.old.stage ≡ Ready → self.new ≡ self.old }
     {
         if let Stage::Idle = self.stage {
             self.core.desk.message = Message::Blank;
@@ -323,6 +311,7 @@ impl Session {
             (λ given. spec.typed given key moment.0) self.old self.new) }
         ensures fits { OnOk result (Fits (map plain_letter archive.now.items) self.new) }
         ensures window { self.new.window ≡ self.old.window }
+        ensures folder { self.new.folder ≡ self.old.folder }
         ensures kept { Keeps verdicts.old.kept verdicts.new.kept }
     {
         self.moment = moment;
@@ -337,6 +326,7 @@ impl Session {
             spec.acting self.old self.new) }
         ensures fits { OnOk result (Fits (map plain_letter archive.now.items) self.new) }
         ensures window { self.new.window ≡ self.old.window }
+        ensures folder { self.new.folder ≡ self.old.folder }
         ensures kept { Keeps verdicts.old.kept verdicts.new.kept }
     {
         let (window, moment) = (self.window, self.moment);
@@ -345,29 +335,37 @@ impl Session {
         Ok(())
     }
 
-    fn open(
+    /// Takes in a folder that was opened at a moment: the commands of the hooks that count for it
+    /// are run. Keys that commands have put still wait.
+    pub(crate) fn open(
         &mut self,
-        path: &Bytes,
-        kind: Kind,
+        folder: OpenFolder,
         moment: Moment,
-        came: &Listing,
         archive: &Archive,
+        verdicts: &mut Verdicts,
+        notes: &mut Lines,
     ) -> Result<(), NoMemory>
         requires read { CanRead self.old }
         requires empty { IsEmpty self.old.core.desk.view }
-        requires fresh { IsFresh (map plain_letter archive.now.items) came.now.items }
+        requires fresh { IsFresh (map plain_letter archive.now.items) folder.listing.items }
         requires moment { IsMoment moment.0 }
-        ensures opened { OnOk result ((notes : Held (Held ℕ)) → spec.plain_session self.new notes
-            ≡ spec.found_by (map plain_letter archive.now.items) path.now.items kind moment.0
-            came.now.items (spec.plain_session self.old notes)) }
+        requires met { folder.met ≡ self.old.folder.met + length folder.listing.items }
+        requires forgot { folder.forgot ≡ false }
+        requires checked { folder.checked ≡ moment.0 }
+        ensures opened { OnOk result ((later : List PlainJudged) → Keeps verdicts.new.kept later
+            → spec.plain_session self.new notes.new ≡ spec.opened_by
+            (given_of (map plain_letter archive.now.items) later) folder.known.path
+            folder.known.kind moment.0 folder.listing.items
+            (spec.plain_session self.old notes.old)) }
         ensures fits { OnOk result (Fits (map plain_letter archive.now.items) self.new) }
         ensures window { self.new.window ≡ self.old.window }
+        ensures folder { OnOk result (self.new.folder ≡ folder) }
+        ensures kept { Keeps verdicts.old.kept verdicts.new.kept }
     {
-        self.core.open(archive, came)?;
-        self.listing = Listing::from_vec(came.as_slice().to_vec(self.alloc)?);
-        self.path = Bytes::copy_of(self.alloc, path.as_slice())?;
-        self.kind = kind;
-        self.checked = moment;
+        let path = folder.known.path().as_bytes();
+        self.run_hooks(path, moment, verdicts, notes)?;
+        self.core.open(archive, &folder.listing)?;
+        self.folder = folder;
         self.moment = moment;
         self.stage = Stage::Pushing;
         Ok(())
@@ -385,6 +383,7 @@ impl Session {
             verdicts.new.kept spec.pushed self.old self.new) }
         ensures fits { OnOk result (Fits (map plain_letter archive.now.items) self.new) }
         ensures window { self.new.window ≡ self.old.window }
+        ensures folder { self.new.folder ≡ self.old.folder }
         ensures kept { Keeps verdicts.old.kept verdicts.new.kept }
     {
         if self.core.waits_for_file() {

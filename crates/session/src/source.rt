@@ -9,7 +9,7 @@ impl Session {
     ghost use Rattle.std.specs.Prelude.{◌≡◌, ℕ, ℤ, false, IfOk, IfSome, MatchOption, OnOk};
     ghost use Rattle.mail_base.specs.Series.{Held};
     ghost use Rattle.session.specs.Calls.{Reads, ReadsWhole, letters_in};
-    ghost use Rattle.session.specs.Fitting.{Fits};
+    ghost use Rattle.session.specs.Fitting.{FitsRun};
     ghost use Rattle.session.specs.Runs.{plain_session, wish};
     ghost use Rattle.session_events.specs.Wishes.{answered};
     ghost use Rattle.session_events.specs.Events.{plain_event};
@@ -39,7 +39,7 @@ impl Session {
 
     /// Reads all files of commands that are wished, each with those that it names.
     pub(crate) fn source_all(&mut self, dev: &mut Device, trace: &mut Trace) -> Result<(), NoMemory>
-        requires { Fits (letters_in trace.old) self.old }
+        requires { FitsRun (letters_in trace.old) self.old }
         ensures reads { Reads self.old self.new trace.old trace.new
             (seen (dev.old.disk.vtable, dev.old.disk.value))
             (seen (dev.new.disk.vtable, dev.new.disk.value)) }
@@ -58,7 +58,7 @@ impl Session {
 
     // Reads the file of commands that is wished and takes it in, if there is one.
     fn source_next(&mut self, dev: &mut Device, trace: &mut Trace) -> Result<bool, NoMemory>
-        requires { Fits (letters_in trace.old) self.old }
+        requires { FitsRun (letters_in trace.old) self.old }
         ensures reads { Reads self.old self.new trace.old trace.new
             (seen (dev.old.disk.vtable, dev.old.disk.value))
             (seen (dev.new.disk.vtable, dev.new.disk.value)) }

@@ -53,7 +53,7 @@ pub fn settle(
         }
         waiting = is_waiting(core, queue);
     }
-    core.grant();
+    let _ = core.take_wanted();
     Ok(Stage::Idle)
 }
 
@@ -139,7 +139,7 @@ fn drop_keys(core: &mut Core, queue: &mut KeyQueue)
     core.rules.drop_puts();
     queue.clear();
     core.desk.say(Notice::MacroLoop);
-    core.grant();
+    let _ = core.take_wanted();
 }
 
 // The keys wait where a file is still to be read that commands have named.
@@ -154,7 +154,7 @@ fn wait_for_file(core: &mut Core) -> Option<Stage>
     if core.frames.is_empty() {
         return None;
     }
-    core.grant();
+    let _ = core.take_wanted();
     Some(Stage::Reading)
 }
 
@@ -235,6 +235,6 @@ fn stop_behind(core: &mut Core, press: Press) -> Option<Stage>
         (_, Wanted::ToEnd) => Stage::Over,
         (_, _) => return wait_for_file(core),
     };
-    core.grant();
+    let _ = core.take_wanted();
     Some(stage)
 }

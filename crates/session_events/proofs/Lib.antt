@@ -1,2 +1,4 @@
 mod Looked
 mod FileLemmas
+pub mod CheckLemmas
+pub mod MetLemmas

@@ -1,8 +1,7 @@
 -- What the looks of an opening have seen, as its last journal shows it.
 use Rattle.std.proofs.Common.{◌≡◌, ◌≤◌, ◌⊎◌, ℕ, false, List, [], inl, inr, Option, Result, Ok, Err}
-use Rattle.std.proofs.Common.{length}
-use Rattle.std.proofs.Common.{sym, ◌∙◌, ap}
-use Rattle.std.proofs.Common.{subst, arith}
+use Rattle.std.proofs.Common.{length, sym, take, ◌∙◌, ap, subst, arith}
+use Rattle.std.proofs.Math.Seq.{take-length}
 use Rattle.mail_base.specs.declared.kind.Kind.{Kind}
 use Rattle.disk_model.specs.Tree.{TreeNode}
 use Rattle.disk_model.specs.Journal.{Past}
@@ -23,7 +22,8 @@ use Rattle.folder_core.specs.declared.error.ScanError.TheVariants.{ArchiveFull, 
 use Rattle.folder_letters.specs.declared.listing.Found.{Found}
 use Rattle.folder_letters.specs.declared.listing.Listed.{Listed}
 use Rattle.session_events.specs.declared.event.OpenFault.TheVariants.{Folder}
-use Rattle.session_events.specs.Happened.{WasNotListed, WasOpened, WasRefused}
+use Rattle.session_events.specs.Happened.{Standing, WasNotListed, WasOpened, WasRefused}
+use Rattle.session_events.specs.declared.event.OpenFault.{OpenFault}
 
 -- what was looked at stays so while the journal goes on
 kind_later : (result : Result Kind ScanError) (empty : Kind) (path : List ℕ) (m n : ℕ)
@@ -136,3 +136,35 @@ refused_told empty Has kind path {before} archive known new_known why old mid ne
     (inr (not_listed empty Has kind path why known p q r none x y k s has))) first next seen
     (subst (λ (b : List Mail). GoesOn (Saw kind b archive known new_known (Err why)) mid new)
     no_letters saw)
+
+-- The events of an opening, by what stood before it.
+
+pub opened_told : (at : Standing) (empty : Kind) (letters : List Mail) (path name : List ℕ)
+    (kind : Kind) (came : List Listed) (old new : Option Past) → at.empty ≡ empty → name ≡ path
+    → length letters ≡ length came
+    → GoesOn (λ (p q : Past). WasOpened empty letters path kind came (length p.journal)
+    (length q.journal) q) old new
+    → GoesOn (λ (p q : Past). WasOpened at.empty (take (length came) letters) name kind came
+    (length p.journal) (length q.journal) q) old new
+opened_told at empty letters path name kind came old new same named each went =
+    goes_as old new (λ p q was.
+    subst (λ (l : List Mail). WasOpened at.empty l name kind came (length p.journal)
+    (length q.journal) q)
+    (sym (ap (λ (n : ℕ). take n letters) (sym each) ∙ take-length letters))
+    (subst (λ (k : Kind). WasOpened k letters name kind came (length p.journal)
+    (length q.journal) q) (sym same)
+    (subst (λ (n : List ℕ). WasOpened empty letters n kind came (length p.journal)
+    (length q.journal) q) (sym named) was))) went
+
+pub unopened_told : (Has : Kind → Type 0) (at : Standing) (empty : Kind) (path name : List ℕ)
+    (why : OpenFault) (old new : Option Past) → at.empty ≡ empty → name ≡ path
+    → GoesOn (λ (p q : Past). WasRefused Has empty path why (length p.journal)
+    (length q.journal) q) old new
+    → GoesOn (λ (p q : Past). WasRefused Has at.empty name why (length p.journal)
+    (length q.journal) q) old new
+unopened_told Has at empty path name why old new same named went =
+    goes_as old new (λ p q was.
+    subst (λ (k : Kind). WasRefused Has k name why (length p.journal) (length q.journal) q)
+    (sym same)
+    (subst (λ (n : List ℕ). WasRefused Has empty n why (length p.journal) (length q.journal) q)
+    (sym named) was)) went

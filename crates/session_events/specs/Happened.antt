@@ -1,7 +1,7 @@
 -- What an event says of the disk.
-use Rattle.std.specs.Prelude.{◌≡◌, ◌≤◌, ◌⊎◌, ℕ, false, List, [], ◌∷◌, Option, Some, None, Result}
-use Rattle.std.specs.Prelude.{Ok, Err}
-use Rattle.std.specs.Prelude.{length, map, take}
+use Rattle.std.specs.Prelude.{◌≡◌, ◌≤◌, ◌<◌, ◌⊎◌, ◌+◌, ℕ, Bool, true, false, List, [], ◌∷◌}
+use Rattle.std.specs.Prelude.{Option, Some, None, Result, Ok, Err, length, map, take}
+use Rattle.std.specs.List.{All}
 use Rattle.mail_base.specs.Faults.{Rose}
 use Rattle.mail_base.specs.declared.kind.Kind.{Kind}
 use Rattle.disk_model.specs.Journal.{Past, ReadAll}
@@ -11,16 +11,20 @@ use Rattle.disk_model.specs.declared.answers.DiskError.{DiskError}
 use Rattle.disk_model.specs.declared.answers.DiskError.TheVariants as disk
 use Rattle.disk_model.specs.declared.answers.Stat.{Stat}
 use Rattle.folder_core.specs.Kinds.{IsKindSeen, WasKind}
+use Rattle.folder_core.specs.Keeping.{IsDifference, lists_id}
 use Rattle.folder_core.specs.Known.{KnownFolder, nothing_known}
+use Rattle.folder_core.specs.Limits.{most_letters, most_messages}
 use Rattle.folder_letters.specs.Letters.{Mail}
 use Rattle.folder_core.specs.Reads.{format_of}
+use Rattle.folder_core.specs.Right.{Right}
 use Rattle.folder_core.specs.Scanned.{IsFound}
 use Rattle.folder_letters.specs.Listings.{ids_from}
 use Rattle.folder_core.specs.declared.error.ScanError.{ScanError}
 use Rattle.folder_core.specs.declared.error.ScanError.TheVariants.{ArchiveFull, Fault, NoMemory}
 use Rattle.folder_letters.specs.declared.listing.Listed.{Listed}
 use Rattle.session_events.specs.Events.{Happening, FileRead, FileRefused, KeyPressed, FolderOpened}
-use Rattle.session_events.specs.Events.{FolderRefused}
+use Rattle.session_events.specs.Events.{FolderRefused, FolderChecked, CheckRefused}
+use Rattle.session_events.specs.Events.{PlainFound, held_found}
 use Rattle.session_events.specs.declared.event.Marks.{Marks}
 use Rattle.session_events.specs.declared.event.OpenFault.{OpenFault}
 use Rattle.session_events.specs.declared.event.OpenFault.TheVariants.{Taken, NoDriver, Folder}
@@ -71,16 +75,70 @@ WasRefused Has empty path (Folder why) before after new =
     IsKindSeen (Err why) empty path before after new
     ⊎ WasNotListed Has empty path why before after new
 
--- what an event says of the pasts at its two marks, where an empty file is of this kind
-abbrev pub Happened : (Kind → Type 0) → Kind → List Mail → Happening → Past → Past → Type 0
-Happened Has empty archive (FileRead path text marks) old new =
+-- What a run stands on before an event, as far as the event speaks of it: the kind of an empty
+-- file; the open folder with its listing; how many letters were met; and whether a part of what was
+-- known was forgotten, since memory ran out in a check.
+pub record Standing : Type 0 where
+  pub empty : Kind
+  pub path : List ℕ
+  pub kind : Kind
+  pub listing : List Listed
+  pub met : ℕ
+  pub forgot : Bool
+
+-- what is known to be listed is the listing, or where some was forgotten a part of it
+abbrev pub IsKnownOf : Bool → List Listed → List Listed → Type 0
+IsKnownOf false listing known = known ≡ listing
+IsKnownOf true listing known = All (λ l. lists_id listing l.id.0 ≡ true) known
+
+-- What was known of the open folder when an event began: its listing, and what had been read of it
+-- once.
+pub record IsKnown (at : Standing) (mails : List Mail) (known : KnownFolder) (old : Past)
+    : Type 0 where
+  pub path : known.path ≡ at.path
+  pub listed : IsKnownOf at.forgot at.listing known.listing
+  pub right : Right at.kind (take at.met mails) known (Some old)
+
+-- The open folder was scanned between two pasts from what was known of it; the letters of what came
+-- are the next ones, and what was found is how its listing changed.
+pub record WasChecked (at : Standing) (mails : List Mail) (found : PlainFound) (old new : Past)
+    : Type 0 where
+  pub known : KnownFolder
+  pub new_known : KnownFolder
+  pub is : IsKnown at mails known old
+  pub scanned : IsFound (format_of at.kind) (take at.met mails)
+      (take (at.met + length found.came) mails) known new_known (length old.journal)
+      (length new.journal) new
+  pub difference : IsDifference at.listing new_known.listing (held_found found)
+
+-- A scan of the open folder from what was known of it was refused for this cause.
+pub record CheckWasRefused (at : Standing) (mails : List Mail) (why : ScanError)
+    (old new : Past) : Type 0 where
+  pub known : KnownFolder
+  pub is : IsKnown at mails known old
+  pub refused : (format_of at.kind).Refused (take at.met mails) known why (length old.journal)
+      (length new.journal) new
+
+-- why the open folder was not checked, as the tree shows it
+abbrev pub WasNotChecked : Standing → List Mail → ScanError → Past → Past → Type 0
+WasNotChecked at mails Fault old new = Unit {0}
+WasNotChecked at mails NoMemory old new = Unit {0}
+WasNotChecked at mails why old new = CheckWasRefused at mails why old new
+
+-- what an event says of the pasts at its two marks, where a run stood so before it
+abbrev pub Happened : (Kind → Type 0) → Standing → List Mail → Happening → Past → Past → Type 0
+Happened Has at mails (FileRead path text marks) old new =
     (stat : Stat) × WasRead (Ok (stat, text)) path old new
-Happened Has empty archive (FileRefused path why marks) old new = WasRead (Err why) path old new
-Happened Has empty archive (KeyPressed key moment) old new = Unit {0}
-Happened Has empty archive (FolderOpened path kind moment came marks) old new =
-    WasOpened empty archive path kind came (length old.journal) (length new.journal) new
-Happened Has empty archive (FolderRefused path why marks) old new =
-    WasRefused Has empty path why (length old.journal) (length new.journal) new
+Happened Has at mails (FileRefused path why marks) old new = WasRead (Err why) path old new
+Happened Has at mails (KeyPressed key moment) old new = Unit {0}
+Happened Has at mails (FolderOpened path kind moment came marks) old new =
+    WasOpened at.empty (take (length came) mails) path kind came (length old.journal)
+    (length new.journal) new
+Happened Has at mails (FolderRefused path why marks) old new =
+    WasRefused Has at.empty path why (length old.journal) (length new.journal) new
+Happened Has at mails (FolderChecked moment found marks) old new =
+    WasChecked at mails found old new
+Happened Has at mails (CheckRefused moment why marks) old new = WasNotChecked at mails why old new
 
 -- a fault was counted
 abbrev pub IsReadCause : DiskError → Marks → Type 0
@@ -95,12 +153,18 @@ IsCause Has (Folder Fault) before after = Rose before after
 IsCause Has (Folder ArchiveFull) before after = ⊥
 IsCause Has (Folder why) before after = Unit {0}
 
+-- a fault was counted where a scan was refused for one
+abbrev pub IsScanCause : ScanError → Marks → Type 0
+IsScanCause Fault marks = Rose marks.faults_before marks.faults_after
+IsScanCause _ marks = Unit {0}
+
 -- the cause of a refused event; an opened folder has a driver
 abbrev pub HasCause : (Kind → Type 0) → Happening → Marks → Type 0
 HasCause Has (FileRefused path why kept) marks = IsReadCause why marks
 HasCause Has (FolderOpened path kind moment came kept) marks = Has kind
 HasCause Has (FolderRefused path why kept) marks =
     IsCause Has why marks.faults_before marks.faults_after
+HasCause Has (CheckRefused moment why kept) marks = IsScanCause why marks
 HasCause Has _ marks = Unit {0}
 
 -- the marks of an event in which the device was used
@@ -110,16 +174,19 @@ marks_of (FileRefused path why marks) = Some marks
 marks_of (KeyPressed key moment) = None
 marks_of (FolderOpened path kind moment came marks) = Some marks
 marks_of (FolderRefused path why marks) = Some marks
+marks_of (FolderChecked moment found marks) = Some marks
+marks_of (CheckRefused moment why marks) = Some marks
 
 -- the past at a mark
 abbrev pub past_at : Past → ℕ → Past
 past_at past mark = record { first = past.first; journal = take mark past.journal }
 
 -- the event is true of the pasts at its marks
-abbrev pub IsTrueAt : (Kind → Type 0) → Kind → List Mail → Happening → Option Marks → Past → Type 0
-IsTrueAt Has empty archive event None past = Unit {0}
-IsTrueAt Has empty archive event (Some marks) past =
-    Happened Has empty archive event (past_at past marks.mark_before)
+abbrev pub IsTrueAt : (Kind → Type 0) → Standing → List Mail → Happening → Option Marks → Past
+    → Type 0
+IsTrueAt Has at mails event None past = Unit {0}
+IsTrueAt Has at mails event (Some marks) past =
+    Happened Has at mails event (past_at past marks.mark_before)
     (past_at past marks.mark_after)
 
 -- Each event begins at the mark and with the faults with which the one before it ended, and neither
@@ -173,3 +240,26 @@ abbrev pub IsListed : List Mail → Happening → Type 0
 IsListed archive (FolderOpened path kind moment came marks) = IsFresh archive came
 IsListed archive (FolderRefused path why marks) = archive ≡ []
 IsListed archive _ = Unit {0}
+
+-- Letters, whatever the disk tells.
+
+-- how many letters were met behind an event
+abbrev pub met_after : ℕ → Happening → ℕ
+met_after met (FolderOpened path kind moment came marks) = met + length came
+met_after met (FolderChecked moment found marks) = met + length found.came
+met_after met _ = met
+
+-- messages that came have the ids of the next letters, and an archive was full where that is said
+abbrev pub AreNext : ℕ → Happening → Type 0
+AreNext met (FolderOpened path kind moment came marks) =
+    map (λ listed. listed.id) came ≡ ids_from met came
+AreNext met (FolderChecked moment found marks) =
+    map (λ listed. listed.id) found.came ≡ ids_from met found.came
+AreNext met (CheckRefused moment ArchiveFull marks) = most_letters < met + most_messages
+AreNext met _ = Unit {0}
+
+-- the same of each event, behind which there are so many letters
+abbrev pub AllMet : ℕ → ℕ → List Happening → Type 0
+AllMet letters met [] = letters ≡ met
+AllMet letters met (event ∷ events) =
+    AreNext met event × AllMet letters (met_after met event) events

@@ -3,3 +3,5 @@ pub mod Wishes
 pub mod Happened
 pub mod Telling
 pub mod Opening
+pub mod Checking
+pub mod Causes

@@ -8,8 +8,8 @@ use Rattle.disk_model.specs.Seen.{Seen}
 use Rattle.folder_letters.specs.Letters.{Mail}
 use Rattle.disk_model.specs.declared.answers.Stat.{Stat}
 use Rattle.session_events.specs.Events.{Happening, FileRead, FileRefused}
-use Rattle.session_events.specs.Happened.{Happened, HasCause, IsReadCause, WasRead, counts_of}
-use Rattle.session_events.specs.Happened.{marks_of}
+use Rattle.session_events.specs.Happened.{Happened, HasCause, IsReadCause, Standing, WasRead}
+use Rattle.session_events.specs.Happened.{counts_of, marks_of}
 use Rattle.session_events.specs.declared.event.Marks.{Marks}
 
 -- the counts and their place in the journal, where that is told
@@ -17,7 +17,7 @@ abbrev pub IsMarked : Seen → Type 0
 IsMarked seen = IfSome seen.told (λ past. seen.marks ≡ length past.journal)
 
 -- One event, in which the device went from one view to the next.
-pub record Tells (Has : Kind → Type 0) (empty : Kind) (archive : List Mail) (event : Happening)
+pub record Tells (Has : Kind → Type 0) (at : Standing) (mails : List Mail) (event : Happening)
     (old new : Seen) : Type 0 where
   pub marks : Marks
   pub marked : marks_of event ≡ Some marks
@@ -26,7 +26,7 @@ pub record Tells (Has : Kind → Type 0) (empty : Kind) (archive : List Mail) (e
   pub on : old.marks ≤ new.marks
   pub faults : old.faults ≤ new.faults
   pub cause : HasCause Has event marks
-  pub happened : GoesOn (Happened Has empty archive event) old.told new.told
+  pub happened : GoesOn (Happened Has at mails event) old.told new.told
   pub looks : LooksOnly old.told new.told
   pub first : IsMarked old
   pub last : IsMarked new

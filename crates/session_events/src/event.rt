@@ -1,7 +1,7 @@
 //! What happened in a run.
 
 use disk_model::DiskError;
-use folder_core::{Archive, Listing, ScanError};
+use folder_core::{Archive, Found, Listing, ScanError};
 use keymap::Key;
 use mail_base::{Bytes, Kind, Lines, Series};
 use people::Verdicts;
@@ -55,28 +55,27 @@ pub enum Event {
         why: OpenFault,
         marks: Marks,
     },
+    Checked {
+        moment: i64,
+        found: Found,
+        marks: Marks,
+    },
+    NotChecked {
+        moment: i64,
+        why: ScanError,
+        marks: Marks,
+    },
 }
 
 impl Event {
     ghost use Rattle.std.specs.Prelude.{◌≡◌};
     ghost use Rattle.session_events.specs.Events.{KeyPressed, plain_event};
-    ghost use Rattle.session_events.specs.Opening.{refusal_of};
 
     /// A key was pressed.
     pub fn pressed(key: Key, moment: i64) -> Event
         ensures { plain_event result ≡ KeyPressed key moment }
     {
         Event::Pressed { key, moment }
-    }
-
-    /// Why the folder was not opened, where it was not.
-    pub fn refusal(&self) -> Option<OpenFault>
-        ensures { result ≡ refusal_of (plain_event self.now) }
-    {
-        match self {
-            Event::NotOpened { why, .. } => Some(*why),
-            _ => None,
-        }
     }
 }
 

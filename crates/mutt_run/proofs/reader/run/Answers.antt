@@ -49,7 +49,7 @@ pub returns-clause-looks : goal.returns-clause-looks
 returns-clause-looks g c = looked (c.obey_words-status.ensures.reads _ (given_here _ _))
 
 pub returns-clause-listed : goal.returns-clause-listed
-returns-clause-listed g c = (c.obey_words-status.ensures.reads _ (given_here _ _)).listed
+returns-clause-listed g c = c.obey_words-status.ensures.met
 
 pub returns-clause-disk_cause : goal.returns-clause-disk_cause
 returns-clause-disk_cause g c =

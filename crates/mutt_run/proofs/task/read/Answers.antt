@@ -23,5 +23,5 @@ returns-in-Err-NoMemory-clause-reads g c = λ o is skips task given h.
 pub returns-in-Ok-clause-reads : goal.returns-in-Ok-clause-reads
 returns-in-Ok-clause-reads g c = λ o is skips task.
     c.read_on.ensures.reads o skips task _ _ (λ given h.
-    starts_here o _ _ _ given _ _ _ _ _ (simp (to_z-of_z, c.ranges.moment)) is
+    starts_here o _ _ _ given _ _ _ _ _ _ (simp (to_z-of_z, c.ranges.moment)) is
     (c.in-Ok.ensures.ok given h))

@@ -3,9 +3,9 @@ use Rattle.std.proofs.lemmas.List.{length-map}
 use Rattle.mail_base.specs.Series.{Held}
 use Rattle.folder_letters.specs.Letters.{plain_letter}
 use Rattle.folder_letters.specs.declared.letter.Letter.{Letter}
-use Rattle.session.proofs.GivenLemmas.{keeps_more, keeps_then}
+use Rattle.session.proofs.GivenLemmas.{given_then, keeps_on, keeps_still}
 use Rattle.mutt_run.proofs.KeysLemmas.{counts_from, counts_turned, ends_broken, ends_files}
-use Rattle.mutt_run.proofs.KeysLemmas.{ends_over, presses_files}
+use Rattle.mutt_run.proofs.KeysLemmas.{ends_over, presses_files, stays_files}
 use Rattle.mutt_run.proofs.ScreensLemmas.{ended_broken}
 use Rattle.mutt_run.proofs.TurnLemmas.{begins_so, runs_out}
 use Rattle.mutt_run.proofs.turning.go.Goals as goal
@@ -21,11 +21,9 @@ returns-in_default-clause-pressed g c =
 
 pub returns-in-Ok-Go-clause-ended : goal.returns-in-Ok-Go-clause-ended
 returns-in-Ok-Go-clause-ended g c = λ given is first start begins.
-    let before = keeps_more
-    (ap (λ (a : Held Letter). map plain_letter a.items) c.press_all.ensures.archive)
-    c.press_all.ensures.kept is in
+    let before = given_then c.press_all.ensures.kept is in
     c.press_all.ensures.ended given is first start
-    (c.in-Ok-Go.ensures.answered given before.mails_are first [] _
+    (c.in-Ok-Go.ensures.answered given before.first first [] _
     (c.pushed.ensures.pushes.on given before first begins.waits)
     (c.in-Ok.ensures.whole.to given before first begins.waits)
     (c.len-told.ensures ∙ sym (length-map c.args.trace.now.notes.items (λ l. l.items))) start
@@ -36,8 +34,14 @@ returns-in-Ok-Go-clause-pressed g c =
     ends_files _ _ _ _ _ _ _ _ _ c.pushed.ensures.pushes.files c.press_all.ensures.pressed
 
 pub returns-in-Ok-Go-clause-told : goal.returns-in-Ok-Go-clause-told
-returns-in-Ok-Go-clause-told g c = λ given first before h.
-    c.press_all.ensures.told given first before (c.pushed.ensures.pushes.told given first before h)
+returns-in-Ok-Go-clause-told g c = λ given is first start begins before h.
+    let here = given_then c.press_all.ensures.kept is in
+    c.press_all.ensures.told given is first start
+    (c.in-Ok-Go.ensures.answered given here.first first [] _
+    (c.pushed.ensures.pushes.on given here first begins.waits)
+    (c.in-Ok.ensures.whole.to given here first begins.waits)
+    (c.len-told.ensures ∙ sym (length-map c.args.trace.now.notes.items (λ l. l.items))) start
+    (begins_so begins)) before (c.pushed.ensures.pushes.told given first before h)
 
 pub returns-in-Ok-Go-clause-faults : goal.returns-in-Ok-Go-clause-faults
 returns-in-Ok-Go-clause-faults g c = counts_from c.tell_and_show.ensures.later.0
@@ -45,7 +49,7 @@ returns-in-Ok-Go-clause-faults g c = counts_from c.tell_and_show.ensures.later.0
 
 pub returns-in-Ok-Quit-clause-ended : goal.returns-in-Ok-Quit-clause-ended
 returns-in-Ok-Quit-clause-ended g c = λ given is first start begins.
-    c.in-Ok-Quit.ensures.answered given is.mails_are first [] _
+    c.in-Ok-Quit.ensures.answered given is.first first [] _
     (c.pushed.ensures.pushes.on given is first begins.waits)
     (c.in-Ok.ensures.whole.to given is first begins.waits)
     (c.len-told.ensures ∙ sym (length-map c.args.trace.now.notes.items (λ l. l.items))) start
@@ -59,7 +63,7 @@ returns-in-Ok-Quit-clause-pressed g c =
 pub returns-in-Err-clause-ended : goal.returns-in-Err-clause-ended
 returns-in-Err-clause-ended g c = λ given is first start begins.
     ended_broken _ _ c.in-Err.ensures.to
-    (c.in-Err.ensures.answered given is.mails_are first [] _
+    (c.in-Err.ensures.answered given is.first first [] _
     (c.pushed.ensures.pushes.on given is first begins.waits)
     (c.in-Ok.ensures.whole.to given is first begins.waits)
     (c.len-told.ensures ∙ sym (length-map c.args.trace.now.notes.items (λ l. l.items))) start
@@ -77,39 +81,56 @@ returns-in-Err-clause-faults g c =
     c.tell_and_show.ensures.later.1
 
 pub returns-in_default-clause-told : goal.returns-in_default-clause-told
-returns-in_default-clause-told g c = c.pushed.ensures.pushes.told
+returns-in_default-clause-told g c = λ given is first start begins.
+    c.pushed.ensures.pushes.told given first
 
-pub returns-in_default-clause-archive : goal.returns-in_default-clause-archive
-returns-in_default-clause-archive g c = c.pushed.ensures.pushes.archive
+pub returns-in_default-clause-met : goal.returns-in_default-clause-met
+returns-in_default-clause-met g c = stays_files _ _ _ _
+    (ap (λ (a : Held Letter). map plain_letter a.items) c.pushed.ensures.pushes.archive)
+    c.pushed.ensures.pushes.files
 
 pub returns-in_default-clause-kept : goal.returns-in_default-clause-kept
-returns-in_default-clause-kept g c = c.pushed.ensures.pushes.kept
+returns-in_default-clause-kept g c =
+    keeps_still _ _ c.pushed.ensures.pushes.archive c.pushed.ensures.pushes.kept
 
 pub returns-in-Ok-Quit-clause-told : goal.returns-in-Ok-Quit-clause-told
-returns-in-Ok-Quit-clause-told g c = c.pushed.ensures.pushes.told
+returns-in-Ok-Quit-clause-told g c = λ given is first start begins.
+    c.pushed.ensures.pushes.told given first
 
-pub returns-in-Ok-Quit-clause-archive : goal.returns-in-Ok-Quit-clause-archive
-returns-in-Ok-Quit-clause-archive g c = c.pushed.ensures.pushes.archive
+pub returns-in-Ok-Quit-clause-met : goal.returns-in-Ok-Quit-clause-met
+returns-in-Ok-Quit-clause-met g c = stays_files _ _ _ _
+    (ap (λ (a : Held Letter). map plain_letter a.items) c.pushed.ensures.pushes.archive)
+    c.pushed.ensures.pushes.files
 
 pub returns-in-Ok-Quit-clause-kept : goal.returns-in-Ok-Quit-clause-kept
-returns-in-Ok-Quit-clause-kept g c = c.pushed.ensures.pushes.kept
+returns-in-Ok-Quit-clause-kept g c =
+    keeps_still _ _ c.pushed.ensures.pushes.archive c.pushed.ensures.pushes.kept
 
 pub returns-in-Err-clause-told : goal.returns-in-Err-clause-told
-returns-in-Err-clause-told g c = c.pushed.ensures.pushes.told
+returns-in-Err-clause-told g c = λ given is first start begins.
+    c.pushed.ensures.pushes.told given first
 
-pub returns-in-Err-clause-archive : goal.returns-in-Err-clause-archive
-returns-in-Err-clause-archive g c = c.pushed.ensures.pushes.archive
+pub returns-in-Err-clause-met : goal.returns-in-Err-clause-met
+returns-in-Err-clause-met g c = stays_files _ _ _ _
+    (ap (λ (a : Held Letter). map plain_letter a.items) c.pushed.ensures.pushes.archive)
+    c.pushed.ensures.pushes.files
 
 pub returns-in-Err-clause-kept : goal.returns-in-Err-clause-kept
-returns-in-Err-clause-kept g c = c.pushed.ensures.pushes.kept
+returns-in-Err-clause-kept g c =
+    keeps_still _ _ c.pushed.ensures.pushes.archive c.pushed.ensures.pushes.kept
 
-pub returns-in-Ok-Go-clause-archive : goal.returns-in-Ok-Go-clause-archive
-returns-in-Ok-Go-clause-archive g c =
-    c.press_all.ensures.archive ∙ c.pushed.ensures.pushes.archive
+pub returns-in-Ok-Go-clause-met : goal.returns-in-Ok-Go-clause-met
+returns-in-Ok-Go-clause-met g c = λ all. c.press_all.ensures.met (stays_files _ _ _ _
+    (ap (λ (a : Held Letter). map plain_letter a.items) c.pushed.ensures.pushes.archive)
+    c.pushed.ensures.pushes.files all)
 
 pub returns-in-Ok-Go-clause-kept : goal.returns-in-Ok-Go-clause-kept
-returns-in-Ok-Go-clause-kept g c =
-    keeps_then c.pushed.ensures.pushes.kept c.press_all.ensures.kept
+returns-in-Ok-Go-clause-kept g c = keeps_on
+    (keeps_still _ _ c.pushed.ensures.pushes.archive c.pushed.ensures.pushes.kept)
+    c.press_all.ensures.kept
+
+pub press_all-requires-clause-known : goal.press_all-requires-clause-known
+press_all-requires-clause-known g c = c.pushed.ensures.pushes.known c.requires.known
 
 pub tell_and_show-requires-clause-fits : goal.tell_and_show-requires-clause-fits
 tell_and_show-requires-clause-fits g c = c.in-Ok.ensures.whole.fits

@@ -1,18 +1,17 @@
-use Rattle.std.proofs.Common.{◌∙◌, Err, arith, ap, length, map, refl}
+use Rattle.std.proofs.Common.{Err, arith, ap, length, refl}
 use Rattle.std.proofs.Common.{FitsSigned, w64}
 use Rattle.std.proofs.lemmas.Int.{ints as signed_arith}
 use Rattle.std.proofs.lemmas.Int.{to_z-of_z}
-use Rattle.mail_base.specs.Series.{Held}
-use Rattle.folder_letters.specs.Letters.{plain_letter}
-use Rattle.folder_letters.specs.declared.letter.Letter.{Letter}
 use Rattle.keymap.specs.Reader.{PlainReader}
 use Rattle.session_events.specs.Events.{plain_events}
-use Rattle.session.proofs.GivenLemmas.{keeps_more, keeps_same, keeps_then}
+use Rattle.session.proofs.GivenLemmas.{given_then, keeps_same, keeps_still}
 use Rattle.mutt_run.proofs.KeysLemmas.{counted_key, counts_turned, ended_keys, ends_broken}
+use Rattle.mutt_run.proofs.KeysLemmas.{keeps_over}
 use Rattle.mutt_run.proofs.KeysLemmas.{ends_done, ends_fault, ends_limit, ends_over, presses_end}
 use Rattle.mutt_run.proofs.KeysLemmas.{presses_key, presses_new, presses_stop, pressed_on}
+use Rattle.mutt_run.proofs.KeysLemmas.{stays_same}
 use Rattle.mutt_run.proofs.ScreensLemmas.{ended_broken, out_broken, out_same}
-use Rattle.session.proofs.StepsLemmas.{told_same}
+use Rattle.session.proofs.StepsLemmas.{to_same, told_same}
 use Rattle.mutt_run.proofs.turning.press_all.Goals as goal
 
 pub loop-turn-init : goal.loop-turn-init
@@ -22,9 +21,10 @@ loop-turn-init g c = record {
   count = omega (arith, ap (λ (r : PlainReader). length r.pending) c.new-reader.ensures);
   idle = c.requires.idle;
   fits = c.requires.fits;
-  told = λ given first before h. h;
-  archive = refl;
-  kept = keeps_same _;
+  told = λ given is first start goes before h. h;
+  known = c.requires.known;
+  met = λ all. all;
+  kept = keeps_still _ _ refl (keeps_same _);
   keys = omega arith;
   out = omega arith;
   errs = omega arith;
@@ -34,8 +34,7 @@ pub loop-turn-preserved : goal.loop-turn-preserved
 loop-turn-preserved g c = record {
   goes = λ given is first start h. c.in-Ok-Go.ensures.turned given is first start
       (out_same (ap plain_events c.reserve.ensures.items) (c.loop-turn.invariant.goes given
-      (keeps_more (ap (λ (a : Held Letter). map plain_letter a.items) c.turn.ensures.archive)
-      c.turn.ensures.kept is) first start h));
+      (given_then c.turn.ensures.kept is) first start h));
   presses = presses_key _ _ _ _ _ _ _ _ c.loop-turn.invariant.presses _ c.next_key.ensures.ahead
       _ _ _ _ (rw c.in-Ok-Some.field-0-is at c.in-Ok-Some.ensures.key) c.now-moment.ensures.gives
       (pressed_on _ _ _ _ _ _
@@ -46,11 +45,17 @@ loop-turn-preserved g c = record {
       c.loop-turn.invariant.count;
   idle = rw c.in-Ok-Go.field-0-is at c.in-Ok-Go.ensures.to;
   fits = c.in-Ok-Go.ensures.fits;
-  told = λ given first before h. c.turn.ensures.told given first before
+  told = λ given is first start goes before h.
+      let here = given_then c.turn.ensures.kept is in
+      c.turn.ensures.told given is first
+      (to_same given first (ap plain_events c.reserve.ensures.items)
+      (c.loop-turn.invariant.goes given here first start goes).goes.stands.state_is) before
       (told_same (ap plain_events c.reserve.ensures.items)
-      (c.loop-turn.invariant.told given first before h));
-  archive = c.turn.ensures.archive ∙ c.loop-turn.invariant.archive;
-  kept = keeps_then c.loop-turn.invariant.kept c.turn.ensures.kept;
+      (c.loop-turn.invariant.told given here first start goes before h));
+  known = c.turn.ensures.known;
+  met = λ all. c.turn.ensures.met (stays_same _ _ _ (ap plain_events c.reserve.ensures.items)
+      (c.loop-turn.invariant.met all));
+  kept = keeps_over c.turn.ensures.kept c.loop-turn.invariant.kept refl refl;
   keys = omega (arith, c.loop-turn.invariant.keys, c.next_key.ensures.later);
   out = omega (arith, c.loop-turn.invariant.out, c.turn.ensures.later.0);
   errs = omega (arith, c.loop-turn.invariant.errs, c.turn.ensures.later.1);
@@ -62,9 +67,9 @@ returns-then-is_err-clause-ended g c = λ given is first start h.
     (c.loop-turn.invariant.goes given is first start h)
 
 pub returns-then-is_err-clause-told : goal.returns-then-is_err-clause-told
-returns-then-is_err-clause-told g c = λ given first before h.
+returns-then-is_err-clause-told g c = λ given is first start goes before h.
     told_same (ap plain_events c.reserve.ensures.items)
-    (c.loop-turn.invariant.told given first before h)
+    (c.loop-turn.invariant.told given is first start goes before h)
 
 pub returns-in-Ok-None-clause-ended : goal.returns-in-Ok-None-clause-ended
 returns-in-Ok-None-clause-ended g c = λ given is first start h.
@@ -79,9 +84,9 @@ returns-in-Ok-None-clause-pressed g c =
     c.loop-turn.invariant.idle (ended_keys _ _ _ _ ended)
 
 pub returns-in-Ok-None-clause-told : goal.returns-in-Ok-None-clause-told
-returns-in-Ok-None-clause-told g c = λ given first before h.
+returns-in-Ok-None-clause-told g c = λ given is first start goes before h.
     told_same (ap plain_events c.reserve.ensures.items)
-    (c.loop-turn.invariant.told given first before h)
+    (c.loop-turn.invariant.told given is first start goes before h)
 
 pub returns-in-Err-ReadFault-clause-pressed : goal.returns-in-Err-ReadFault-clause-pressed
 returns-in-Err-ReadFault-clause-pressed g c =
@@ -91,9 +96,9 @@ returns-in-Err-ReadFault-clause-pressed g c =
     (rw c.in-Err-ReadFault.field-0-is at c.in-Err-ReadFault.ensures.stops.cause)
 
 pub returns-in-Err-ReadFault-clause-told : goal.returns-in-Err-ReadFault-clause-told
-returns-in-Err-ReadFault-clause-told g c = λ given first before h.
+returns-in-Err-ReadFault-clause-told g c = λ given is first start goes before h.
     told_same (ap plain_events c.reserve.ensures.items)
-    (c.loop-turn.invariant.told given first before h)
+    (c.loop-turn.invariant.told given is first start goes before h)
 
 pub returns-in-Err-TooManyKeys-clause-ended : goal.returns-in-Err-TooManyKeys-clause-ended
 returns-in-Err-TooManyKeys-clause-ended g c = λ given is first start h.
@@ -108,16 +113,15 @@ returns-in-Err-TooManyKeys-clause-pressed g c =
     (rw c.in-Err-TooManyKeys.field-0-is at c.in-Err-TooManyKeys.ensures.stops.cause)
 
 pub returns-in-Err-TooManyKeys-clause-told : goal.returns-in-Err-TooManyKeys-clause-told
-returns-in-Err-TooManyKeys-clause-told g c = λ given first before h.
+returns-in-Err-TooManyKeys-clause-told g c = λ given is first start goes before h.
     told_same (ap plain_events c.reserve.ensures.items)
-    (c.loop-turn.invariant.told given first before h)
+    (c.loop-turn.invariant.told given is first start goes before h)
 
 pub returns-in-Ok-Quit-clause-ended : goal.returns-in-Ok-Quit-clause-ended
 returns-in-Ok-Quit-clause-ended g c = λ given is first start h.
     c.in-Ok-Quit.ensures.turned given is first start
     (out_same (ap plain_events c.reserve.ensures.items) (c.loop-turn.invariant.goes given
-    (keeps_more (ap (λ (a : Held Letter). map plain_letter a.items) c.turn.ensures.archive)
-    c.turn.ensures.kept is) first start h))
+    (given_then c.turn.ensures.kept is) first start h))
 
 pub returns-in-Ok-Quit-clause-pressed : goal.returns-in-Ok-Quit-clause-pressed
 returns-in-Ok-Quit-clause-pressed g c =
@@ -130,17 +134,19 @@ returns-in-Ok-Quit-clause-pressed g c =
     (rw c.in-Ok-Quit.field-0-is at c.in-Ok-Quit.ensures.to)
 
 pub returns-in-Ok-Quit-clause-told : goal.returns-in-Ok-Quit-clause-told
-returns-in-Ok-Quit-clause-told g c = λ given first before h.
-    c.turn.ensures.told given first before (told_same (ap plain_events
-    c.reserve.ensures.items)
-    (c.loop-turn.invariant.told given first before h))
+returns-in-Ok-Quit-clause-told g c = λ given is first start goes before h.
+    let here = given_then c.turn.ensures.kept is in
+    c.turn.ensures.told given is first
+    (to_same given first (ap plain_events c.reserve.ensures.items)
+    (c.loop-turn.invariant.goes given here first start goes).goes.stands.state_is) before
+    (told_same (ap plain_events c.reserve.ensures.items)
+    (c.loop-turn.invariant.told given here first start goes before h))
 
 pub returns-in-Err-clause-ended : goal.returns-in-Err-clause-ended
 returns-in-Err-clause-ended g c = λ given is first start h.
     ended_broken _ _ c.in-Err.ensures.to (c.in-Err.ensures.turned given is first start
     (out_same (ap plain_events c.reserve.ensures.items) (c.loop-turn.invariant.goes given
-    (keeps_more (ap (λ (a : Held Letter). map plain_letter a.items) c.turn.ensures.archive)
-    c.turn.ensures.kept is) first start h)))
+    (given_then c.turn.ensures.kept is) first start h)))
 
 pub returns-in-Err-clause-pressed : goal.returns-in-Err-clause-pressed
 returns-in-Err-clause-pressed g c =
@@ -152,16 +158,21 @@ returns-in-Err-clause-pressed g c =
     c.turn.ensures.pressed)) _ _ c.in-Err.ensures.to
 
 pub returns-in-Err-clause-told : goal.returns-in-Err-clause-told
-returns-in-Err-clause-told g c = λ given first before h.
-    c.turn.ensures.told given first before (told_same (ap plain_events
-    c.reserve.ensures.items)
-    (c.loop-turn.invariant.told given first before h))
+returns-in-Err-clause-told g c = λ given is first start goes before h.
+    let here = given_then c.turn.ensures.kept is in
+    c.turn.ensures.told given is first
+    (to_same given first (ap plain_events c.reserve.ensures.items)
+    (c.loop-turn.invariant.goes given here first start goes).goes.stands.state_is) before
+    (told_same (ap plain_events c.reserve.ensures.items)
+    (c.loop-turn.invariant.told given here first start goes before h))
 
 pub returns-in-Ok-Quit-clause-kept : goal.returns-in-Ok-Quit-clause-kept
-returns-in-Ok-Quit-clause-kept g c = keeps_then c.loop-turn.invariant.kept c.turn.ensures.kept
+returns-in-Ok-Quit-clause-kept g c =
+    keeps_over c.turn.ensures.kept c.loop-turn.invariant.kept refl refl
 
 pub returns-in-Err-clause-kept : goal.returns-in-Err-clause-kept
-returns-in-Err-clause-kept g c = keeps_then c.loop-turn.invariant.kept c.turn.ensures.kept
+returns-in-Err-clause-kept g c =
+    keeps_over c.turn.ensures.kept c.loop-turn.invariant.kept refl refl
 
 pub returns-in-Err-clause-faults : goal.returns-in-Err-clause-faults
 returns-in-Err-clause-faults g c =
@@ -173,3 +184,27 @@ pub returns-in-Err-ReadFault-clause-ended : goal.returns-in-Err-ReadFault-clause
 returns-in-Err-ReadFault-clause-ended g c = λ given is first start h.
     out_same (ap plain_events c.reserve.ensures.items)
     (c.loop-turn.invariant.goes given is first start h)
+
+pub returns-then-is_err-clause-met : goal.returns-then-is_err-clause-met
+returns-then-is_err-clause-met g c = λ all.
+    stays_same _ _ _ (ap plain_events c.reserve.ensures.items) (c.loop-turn.invariant.met all)
+
+pub returns-in-Ok-None-clause-met : goal.returns-in-Ok-None-clause-met
+returns-in-Ok-None-clause-met g c = λ all.
+    stays_same _ _ _ (ap plain_events c.reserve.ensures.items) (c.loop-turn.invariant.met all)
+
+pub returns-in-Err-ReadFault-clause-met : goal.returns-in-Err-ReadFault-clause-met
+returns-in-Err-ReadFault-clause-met g c = λ all.
+    stays_same _ _ _ (ap plain_events c.reserve.ensures.items) (c.loop-turn.invariant.met all)
+
+pub returns-in-Err-TooManyKeys-clause-met : goal.returns-in-Err-TooManyKeys-clause-met
+returns-in-Err-TooManyKeys-clause-met g c = λ all.
+    stays_same _ _ _ (ap plain_events c.reserve.ensures.items) (c.loop-turn.invariant.met all)
+
+pub returns-in-Ok-Quit-clause-met : goal.returns-in-Ok-Quit-clause-met
+returns-in-Ok-Quit-clause-met g c = λ all. c.turn.ensures.met
+    (stays_same _ _ _ (ap plain_events c.reserve.ensures.items) (c.loop-turn.invariant.met all))
+
+pub returns-in-Err-clause-met : goal.returns-in-Err-clause-met
+returns-in-Err-clause-met g c = λ all. c.turn.ensures.met
+    (stays_same _ _ _ (ap plain_events c.reserve.ensures.items) (c.loop-turn.invariant.met all))

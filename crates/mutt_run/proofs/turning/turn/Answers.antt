@@ -1,52 +1,81 @@
-use Rattle.std.proofs.Common.{◌∙◌, refl, sym}
+use Rattle.std.proofs.Common.{◌∙◌, ap, map, sym}
 use Rattle.std.proofs.Math.Facts.{to_z-of_z}
 use Rattle.std.proofs.lemmas.List.{length-map}
-use Rattle.mutt_run.proofs.KeysLemmas.{pressed_on}
-use Rattle.mutt_run.proofs.TurnLemmas.{goes_so, runs_out}
+use Rattle.mail_base.specs.Series.{Held}
+use Rattle.folder_letters.specs.Letters.{plain_letter}
+use Rattle.folder_letters.specs.declared.letter.Letter.{Letter}
+use Rattle.session.proofs.GivenLemmas.{given_then, keeps_on, keeps_still}
+use Rattle.mutt_run.proofs.KeysLemmas.{stays_key, turns_key}
+use Rattle.mutt_run.proofs.TurnLemmas.{goes_so, runs_out, so_still}
 use Rattle.mutt_run.proofs.turning.turn.Goals as goal
 
 pub returns-in-Err-clause-turned : goal.returns-in-Err-clause-turned
 returns-in-Err-clause-turned g c = λ given is first start goes.
+    let here = given_then (keeps_still c.check.new.trace c.key.new.trace
+    c.key.ensures.presses.archive c.key.ensures.presses.kept) is in
     runs_out given first _ _ _
-    (c.key.ensures.presses.on c.requires.room given is first goes.goes.screens
-    (c.check.ensures.stood given first goes.goes.screens goes.goes.stands)) start _ (goes_so goes)
+    (c.key.ensures.presses.on c.check.ensures.checks.room given is first goes.goes.screens
+    (c.check.ensures.checks.taken given here first goes.goes.screens goes.goes.stands)) start _
+    (so_still c.check.ensures.checks.notes (goes_so goes))
 
 pub returns-in-Err-clause-pressed : goal.returns-in-Err-clause-pressed
 returns-in-Err-clause-pressed g c =
-    pressed_on _ _ _ _ _ _ refl (to_z-of_z c.ranges.moment)
-    (c.key.ensures.presses.pressed c.requires.room)
+    turns_key _ _ _ _ _ _ (to_z-of_z c.ranges.moment) c.check.ensures.checks.adds
+    (c.key.ensures.presses.pressed c.check.ensures.checks.room)
 
 pub returns-in-Ok-clause-turned : goal.returns-in-Ok-clause-turned
 returns-in-Ok-clause-turned g c = λ given is first start goes.
-    let taken = c.check.ensures.stood given first goes.goes.screens goes.goes.stands in
-    c.tell_and_show.ensures.answered given is.mails_are first goes.goes.screens _
-    (c.key.ensures.presses.on c.requires.room given is first goes.goes.screens taken)
+    let here = given_then (keeps_still c.check.new.trace c.key.new.trace
+    c.key.ensures.presses.archive c.key.ensures.presses.kept) is in
+    let taken = c.check.ensures.checks.taken given here first goes.goes.screens goes.goes.stands in
+    c.tell_and_show.ensures.answered given is.first first goes.goes.screens _
+    (c.key.ensures.presses.on c.check.ensures.checks.room given is first goes.goes.screens taken)
     (c.in-Ok.ensures.whole.to given is first goes.goes.screens taken)
-    (c.len-told.ensures ∙ sym (length-map c.args.trace.now.notes.items (λ l. l.items))) start
-    (goes_so goes)
+    (c.len-told.ensures ∙ sym (length-map c.check.new.trace.notes.items (λ l. l.items))) start
+    (so_still c.check.ensures.checks.notes (goes_so goes))
 
 pub returns-in-Ok-clause-pressed : goal.returns-in-Ok-clause-pressed
 returns-in-Ok-clause-pressed g c =
-    pressed_on _ _ _ _ _ _ refl (to_z-of_z c.ranges.moment)
-    (c.key.ensures.presses.pressed c.requires.room)
+    turns_key _ _ _ _ _ _ (to_z-of_z c.ranges.moment) c.check.ensures.checks.adds
+    (c.key.ensures.presses.pressed c.check.ensures.checks.room)
 
 pub returns-in-Err-clause-told : goal.returns-in-Err-clause-told
-returns-in-Err-clause-told g c = c.key.ensures.presses.told
+returns-in-Err-clause-told g c = λ given is first at before h.
+    let here = given_then (keeps_still c.check.new.trace c.key.new.trace
+    c.key.ensures.presses.archive c.key.ensures.presses.kept) is in
+    c.key.ensures.presses.told given first before
+    (c.check.ensures.checks.told given here first at before h)
 
-pub returns-in-Err-clause-archive : goal.returns-in-Err-clause-archive
-returns-in-Err-clause-archive g c = c.key.ensures.presses.archive
+pub returns-in-Err-clause-met : goal.returns-in-Err-clause-met
+returns-in-Err-clause-met g c = λ all. stays_key _ _ _ _ _ _
+    (ap (λ (a : Held Letter). map plain_letter a.items) c.key.ensures.presses.archive)
+    (c.key.ensures.presses.pressed c.check.ensures.checks.room) (c.check.ensures.checks.met all)
 
 pub returns-in-Err-clause-kept : goal.returns-in-Err-clause-kept
-returns-in-Err-clause-kept g c = c.key.ensures.presses.kept
+returns-in-Err-clause-kept g c = keeps_on c.check.ensures.kept
+    (keeps_still _ _ c.key.ensures.presses.archive c.key.ensures.presses.kept)
+
+pub returns-in-Err-clause-known : goal.returns-in-Err-clause-known
+returns-in-Err-clause-known g c = c.key.ensures.presses.known c.check.ensures.checks.known
 
 pub returns-in-Ok-clause-told : goal.returns-in-Ok-clause-told
-returns-in-Ok-clause-told g c = c.key.ensures.presses.told
+returns-in-Ok-clause-told g c = λ given is first at before h.
+    let here = given_then (keeps_still c.check.new.trace c.key.new.trace
+    c.key.ensures.presses.archive c.key.ensures.presses.kept) is in
+    c.key.ensures.presses.told given first before
+    (c.check.ensures.checks.told given here first at before h)
 
-pub returns-in-Ok-clause-archive : goal.returns-in-Ok-clause-archive
-returns-in-Ok-clause-archive g c = c.key.ensures.presses.archive
+pub returns-in-Ok-clause-met : goal.returns-in-Ok-clause-met
+returns-in-Ok-clause-met g c = λ all. stays_key _ _ _ _ _ _
+    (ap (λ (a : Held Letter). map plain_letter a.items) c.key.ensures.presses.archive)
+    (c.key.ensures.presses.pressed c.check.ensures.checks.room) (c.check.ensures.checks.met all)
 
 pub returns-in-Ok-clause-kept : goal.returns-in-Ok-clause-kept
-returns-in-Ok-clause-kept g c = c.key.ensures.presses.kept
+returns-in-Ok-clause-kept g c = keeps_on c.check.ensures.kept
+    (keeps_still _ _ c.key.ensures.presses.archive c.key.ensures.presses.kept)
+
+pub returns-in-Ok-clause-known : goal.returns-in-Ok-clause-known
+returns-in-Ok-clause-known g c = c.key.ensures.presses.known c.check.ensures.checks.known
 
 pub tell_and_show-requires-clause-fits : goal.tell_and_show-requires-clause-fits
 tell_and_show-requires-clause-fits g c = c.in-Ok.ensures.whole.fits

@@ -36,13 +36,14 @@ loop-waiting-preserved g c = record {
 pub returns-clause-over : goal.returns-clause-over
 returns-clause-over g c =
     over_still (map plain_letter c.args.archive.now.items) c.args.window c.loop-waiting.core
-    c.grant.new.self c.grant.ensures.rest c.grant.ensures.view c.loop-waiting.invariant.over
+    c.take_wanted.new.self c.take_wanted.ensures.rest c.take_wanted.ensures.view
+    c.loop-waiting.invariant.over
 
 pub returns-clause-settled : goal.returns-clause-settled
 returns-clause-settled g c = λ later keeps.
     none_waits (ground_of (map plain_letter c.args.archive.now.items) later c.args.window
-    c.args.moment.0) (plain_core c.loop-waiting.core) (plain_core c.grant.new.self)
+    c.args.moment.0) (plain_core c.loop-waiting.core) (plain_core c.take_wanted.new.self)
     c.loop-waiting.queue
     (none_is _ (sym c.loop-waiting.invariant.waits ∙ c.loop-waiting-test.false))
-    c.grant.ensures.core
+    c.take_wanted.ensures.core
     ∙ c.loop-waiting.invariant.went later keeps

@@ -1,8 +1,9 @@
 use Rattle.std.proofs.Common.{refl, rules}
+use Rattle.session_events.proofs.Looked.{opened_told, unopened_told}
 use Rattle.session_events.proofs.opening.open_event.Goals as goal
 
 pub returns-in-Ok-clause-tells : goal.returns-in-Ok-clause-tells
-returns-in-Ok-clause-tells g c = record {
+returns-in-Ok-clause-tells g c at empty = record {
   marks = record {
     mark_before = c.mark-mark_before.result;
     mark_after = c.mark.result;
@@ -15,14 +16,15 @@ returns-in-Ok-clause-tells g c = record {
   on = c.in-Ok.ensures.only.marks;
   faults = c.in-Ok.ensures.only.faults;
   cause = c.in-Ok.ensures.driver;
-  happened = rw c.requires.name c.in-Ok.ensures.looked;
+  happened = opened_told at c.args.empty _ c.args.path.now _ _ _ _ _ empty c.requires.name
+      c.in-Ok.ensures.fresh.1 c.in-Ok.ensures.looked;
   looks = c.in-Ok.ensures.only.looks;
   first = search rules;
   last = search rules;
 }
 
 pub returns-in-Err-clause-tells : goal.returns-in-Err-clause-tells
-returns-in-Err-clause-tells g c = record {
+returns-in-Err-clause-tells g c at empty = record {
   marks = record {
     mark_before = c.mark-mark_before.result;
     mark_after = c.mark.result;
@@ -35,7 +37,8 @@ returns-in-Err-clause-tells g c = record {
   on = c.in-Err.ensures.only.marks;
   faults = c.in-Err.ensures.only.faults;
   cause = rw (c.faults-faults_before.ensures, c.faults.ensures) c.in-Err.ensures.cause;
-  happened = rw c.requires.name c.in-Err.ensures.looked;
+  happened = unopened_told _ at c.args.empty c.args.path.now _ _ _ _ empty c.requires.name
+      c.in-Err.ensures.looked;
   looks = c.in-Err.ensures.only.looks;
   first = search rules;
   last = search rules;

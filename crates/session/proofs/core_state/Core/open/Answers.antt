@@ -44,7 +44,7 @@ returns-clause-core c =
     let mails = map plain_letter c.args.archive.now.items in
     let t = plain_core c.tune.new.self in
     let came = c.args.came.now.items in
-    let holds = c.in_ok-take_in.ensures in
+    let holds = c.in_ok-take_in.ensures.ok in
     let closes = c.close.ensures mails 0 (weeding_of c.args.self.now.rules) in
     let desk_is = holds.same ∙ taken_first mails c.in_ok-found.found came
     c.in_ok-found.ensures.gone c.in_ok-found.ensures.reflagged c.in_ok-found.ensures.came

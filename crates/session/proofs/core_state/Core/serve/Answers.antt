@@ -6,10 +6,11 @@ use Rattle.session.proofs.core_state.Core.serve.Goals as goal
 pub display_at_cursor-requires-clause-over : goal.display_at_cursor-requires-clause-over
 display_at_cursor-requires-clause-over g c =
     over_still (map plain_letter c.args.archive.now.items) c.args.window c.args.self.now
-    c.grant.new.self c.grant.ensures.rest c.grant.ensures.view c.requires.over
+    c.take_wanted.new.self c.take_wanted.ensures.rest c.take_wanted.ensures.view c.requires.over
 
 pub list_parts-requires : goal.list_parts-requires
 list_parts-requires g c =
     over_still (map plain_letter c.args.archive.now.items) c.args.window c.args.self.now
-    c.grant-in-ToList.new.self c.grant-in-ToList.ensures.rest c.grant-in-ToList.ensures.view
+    c.take_wanted-in-ToList.new.self c.take_wanted-in-ToList.ensures.rest
+    c.take_wanted-in-ToList.ensures.view
     c.requires.over

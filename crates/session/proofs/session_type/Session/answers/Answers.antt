@@ -1,5 +1,9 @@
-use Rattle.std.proofs.Common.{subst, sym}
+use Rattle.std.proofs.Common.{◌∙◌, ap, map, subst, sym}
 use Rattle.std.proofs.Math.Facts.{to_z-of_z}
+use Rattle.mail_base.specs.Series.{Held}
+use Rattle.folder_letters.specs.Letters.{plain_letter}
+use Rattle.folder_letters.specs.declared.letter.Letter.{Letter}
+use Rattle.session_events.proofs.MetLemmas.{met_none}
 use Rattle.session.specs.Runs.{plain_session}
 use Rattle.session_state.specs.Instants.{IsMoment}
 use Rattle.session.specs.Starting.{first_state, plain_setup}
@@ -45,3 +49,16 @@ sourced-requires-clause-window g c = c.requires.window
 pub sourced-requires-clause-moment : goal.sourced-requires-clause-moment
 sourced-requires-clause-moment g c =
     subst IsMoment (sym (to_z-of_z c.ranges.moment)) c.requires.moment
+
+pub returns-in_err-session-clause-met : goal.returns-in_err-session-clause-met
+returns-in_err-session-clause-met g c = met_none _ _
+    (ap (λ (a : Held Letter). map plain_letter a.items) c.sourced.ensures.archive
+    ∙ ap (map plain_letter) c.requires.archive) c.sourced.ensures.off.are
+
+pub returns-clause-met : goal.returns-clause-met
+returns-clause-met g c = met_none _ _
+    (ap (λ (a : Held Letter). map plain_letter a.items) c.sourced.ensures.archive
+    ∙ ap (map plain_letter) c.requires.archive) c.sourced.ensures.off.are
+
+pub sourced-requires-clause-archive : goal.sourced-requires-clause-archive
+sourced-requires-clause-archive g c = c.requires.archive

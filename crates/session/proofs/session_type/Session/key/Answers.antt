@@ -2,15 +2,16 @@ use Rattle.std.proofs.Common.{◌∙◌, ap, refl, ℤ}
 use Rattle.std.proofs.Math.Facts.{to_z-of_z}
 use Rattle.std.proofs.lemmas.Bool.{false≢true}
 use Rattle.session_events.specs.Events.{KeyPressed, plain_events}
-use Rattle.session.specs.Runs.{arrived, plain_session}
+use Rattle.session.specs.Runs.{arrived_by, plain_session}
 use Rattle.mail_base.specs.declared.kind.Kind.{Kind}
 use Rattle.session.proofs.CallsLemmas.{presses, presses_none, presses_off, presses_whole}
-use Rattle.session.proofs.StepsLemmas.{put_plain}
+use Rattle.session.proofs.StepsLemmas.{arrives_on, put_plain}
 use Rattle.session.proofs.session_type.Session.key.Goals as goal
 
 pub returns-in_err-push-clause-presses : goal.returns-in_err-push-clause-presses
 returns-in_err-push-clause-presses g c =
-    presses_none _ c.args.key c.args.moment c.args.self.now _ _ _ refl c.take-taken.ensures.kept
+    presses_none _ c.args.key c.args.moment c.args.self.now c.take-taken.new.self _ _ _ refl
+    c.take-taken.ensures.kept c.take-taken.ensures.folder
     (λ room. false≢true (c.in_err-push.ensures.has_room room))
     (ap plain_events c.in_err-push.ensures.err)
 
@@ -19,18 +20,21 @@ returns-in_err-taken-clause-presses g c =
     let is = c.pressed-event.ensures
     ∙ ap (λ (m : ℤ). KeyPressed c.args.key m) (to_z-of_z c.ranges.moment) in
     let put = put_plain _ _ _ _ c.in_ok-push.ensures.ok is in
-    presses_off _ c.args.key c.args.moment c.args.self.now _ _ _ refl c.take-taken.ensures.kept
-    c.requires.ready put
+    presses_off _ c.args.key c.args.moment c.args.self.now c.take-taken.new.self _ _ _ refl
+    c.take-taken.ensures.kept c.take-taken.ensures.folder c.requires.ready put
 
 pub returns-in_err-source_all-clause-presses : goal.returns-in_err-source_all-clause-presses
 returns-in_err-source_all-clause-presses g c =
     let is = c.pressed-event.ensures
     ∙ ap (λ (m : ℤ). KeyPressed c.args.key m) (to_z-of_z c.ranges.moment) in
     let put = put_plain _ _ _ _ c.in_ok-push.ensures.ok is in
-    presses _ c.args.key c.args.moment c.args.self.now _ _ _ refl c.take-taken.ensures.kept
-    c.requires.ready put c.take-taken.new.self c.source_all.new.self _ _
+    presses _ c.args.key c.args.moment c.args.self.now c.take-taken.new.self _ _ _ refl
+    c.take-taken.ensures.kept c.take-taken.ensures.folder c.requires.ready put
+    c.source_all.new.self _ _
+    (arrives_on (plain_session c.args.self.now c.args.trace.now.notes) _
+    (KeyPressed c.args.key c.args.moment) c.requires.fits.met
     (λ given h. c.in_ok-taken.ensures.arrived given h
-    ∙ ap (arrived given (plain_session c.args.self.now c.args.trace.now.notes)) is)
+    ∙ ap (arrived_by given (plain_session c.args.self.now c.args.trace.now.notes)) is))
     c.source_all.ensures.reads
 
 pub returns-clause-presses : goal.returns-clause-presses
@@ -38,10 +42,13 @@ returns-clause-presses g c =
     let is = c.pressed-event.ensures
     ∙ ap (λ (m : ℤ). KeyPressed c.args.key m) (to_z-of_z c.ranges.moment) in
     let put = put_plain _ _ _ _ c.in_ok-push.ensures.ok is in
-    presses _ c.args.key c.args.moment c.args.self.now _ _ _ refl c.take-taken.ensures.kept
-    c.requires.ready put c.take-taken.new.self c.source_all.new.self _ _
+    presses _ c.args.key c.args.moment c.args.self.now c.take-taken.new.self _ _ _ refl
+    c.take-taken.ensures.kept c.take-taken.ensures.folder c.requires.ready put
+    c.source_all.new.self _ _
+    (arrives_on (plain_session c.args.self.now c.args.trace.now.notes) _
+    (KeyPressed c.args.key c.args.moment) c.requires.fits.met
     (λ given h. c.in_ok-taken.ensures.arrived given h
-    ∙ ap (arrived given (plain_session c.args.self.now c.args.trace.now.notes)) is)
+    ∙ ap (arrived_by given (plain_session c.args.self.now c.args.trace.now.notes)) is))
     c.source_all.ensures.reads
 
 pub returns-clause-whole : goal.returns-clause-whole
@@ -49,9 +56,12 @@ returns-clause-whole g c =
     let is = c.pressed-event.ensures
     ∙ ap (λ (m : ℤ). KeyPressed c.args.key m) (to_z-of_z c.ranges.moment) in
     let put = put_plain _ _ _ _ c.in_ok-push.ensures.ok is in
-    presses_whole (λ (kind : Kind). ⊥) c.args.key c.args.moment c.args.self.now _ _ _ refl
-    c.take-taken.ensures.kept c.requires.ready put c.take-taken.new.self c.source_all.new.self _ _
+    presses_whole (λ (kind : Kind). ⊥) c.args.key c.args.moment c.args.self.now
+    c.take-taken.new.self _ _ _ refl c.take-taken.ensures.kept c.take-taken.ensures.folder
+    c.requires.ready put c.source_all.new.self _ _
+    (arrives_on (plain_session c.args.self.now c.args.trace.now.notes) _
+    (KeyPressed c.args.key c.args.moment) c.requires.fits.met
     (λ given h. c.in_ok-taken.ensures.arrived given h
-    ∙ ap (arrived given (plain_session c.args.self.now c.args.trace.now.notes)) is)
+    ∙ ap (arrived_by given (plain_session c.args.self.now c.args.trace.now.notes)) is))
     c.source_all.ensures.reads c.in_ok-source_all.ensures.whole _ c.next.ensures
     c.in_ok-source_all.ensures.read

@@ -9,5 +9,6 @@ returns-clause-rest g c = record {
   stage = ap (λ (s : Session). s.stage) c.tell.ensures.same;
   window = ap (λ (s : Session). s.window) c.tell.ensures.same;
   moment = ap (λ (s : Session). s.moment) c.tell.ensures.same;
+  folder = ap (λ (s : Session). s.folder) c.tell.ensures.same;
   replaced = ap (λ (s : Session). s.queue.replaced) c.tell.ensures.same;
 }

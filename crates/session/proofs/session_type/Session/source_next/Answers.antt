@@ -32,7 +32,8 @@ returns-in_err-happen-in-Some-clause-reads g c =
     (ap plain_events c.in_ok-reserve.ensures.items))
     (rw c.in-Some.is at c.in_ok-source.ensures.ok)
     ((rw c.in-Some.is at c.in_ok-source.ensures.wish) c.args.trace.now.notes)
-    c.happen.ensures.happens.window c.happen.ensures.happens.archive c.happen.ensures.happens.kept
+    c.happen.ensures.happens.window c.happen.ensures.happens.folder
+    c.happen.ensures.happens.archive c.happen.ensures.happens.kept
 
 pub returns-in_ok-happen-in-Some-clause-reads : goal.returns-in_ok-happen-in-Some-clause-reads
 returns-in_ok-happen-in-Some-clause-reads g c =
@@ -42,7 +43,8 @@ returns-in_ok-happen-in-Some-clause-reads g c =
     (ap plain_events c.in_ok-reserve.ensures.items))
     (rw c.in-Some.is at c.in_ok-source.ensures.ok)
     ((rw c.in-Some.is at c.in_ok-source.ensures.wish) c.args.trace.now.notes)
-    c.happen.ensures.happens.window c.happen.ensures.happens.archive c.happen.ensures.happens.kept
+    c.happen.ensures.happens.window c.happen.ensures.happens.folder
+    c.happen.ensures.happens.archive c.happen.ensures.happens.kept
 
 pub returns-in_ok-happen-in-Some-clause-whole : goal.returns-in_ok-happen-in-Some-clause-whole
 returns-in_ok-happen-in-Some-clause-whole g c =
@@ -53,3 +55,4 @@ returns-in_ok-happen-in-Some-clause-whole g c =
     (rw c.in-Some.is at c.in_ok-source.ensures.ok)
     ((rw c.in-Some.is at c.in_ok-source.ensures.wish) c.args.trace.now.notes)
     c.in_ok-happen-in-Some.ensures.taken.arrived_is c.in_ok-happen-in-Some.ensures.taken.left
+    c.requires.met c.happen.ensures.happens.folder c.happen.ensures.happens.archive

@@ -1,6 +1,8 @@
-use Rattle.std.proofs.Common.{◌∙◌, [], ap, map, refl, subst, sym}
+use Rattle.std.proofs.Common.{◌∙◌, [], List, ap, length, map, refl, subst, sym}
 use Rattle.std.proofs.Math.Facts.{to_z-of_z}
 use Rattle.folder_letters.specs.Letters.{plain_letter}
+use Rattle.folder_letters.specs.declared.letter.Letter.{Letter}
+use Rattle.session_events.specs.declared.open_folder.OpenFolder.{OpenFolder}
 use Rattle.mail_base.specs.Series.{plain_texts}
 use Rattle.session_events.specs.Events.{plain_events}
 use Rattle.session.specs.Core.{IsEmpty}
@@ -19,11 +21,14 @@ returns-in_err-session-clause-off g c =
 
 pub source_all-requires : goal.source_all-requires
 source_all-requires g c =
-    first_fits (map plain_letter c.args.trace.now.archive.items) c.in_ok-session.session
-    (plain_setup c.args.setup) c.args.moment c.in_ok-session.ensures.empty
-    (c.in_ok-session.ensures.state (record { items = []; room = 0 }) refl
-    ∙ ap (first_state (plain_setup c.args.setup)) (to_z-of_z c.ranges.moment)) c.requires.window
-    c.requires.moment
+    let is = c.in_ok-session.ensures.state (record { items = []; room = 0 }) refl in record {
+      fits = first_fits (map plain_letter c.args.trace.now.archive.items) c.in_ok-session.session
+          (plain_setup c.args.setup) c.args.moment c.in_ok-session.ensures.empty
+          (is ∙ ap (first_state (plain_setup c.args.setup)) (to_z-of_z c.ranges.moment))
+          c.requires.window c.requires.moment;
+      met = ap (λ (s : State). s.met) is
+          ∙ sym (ap (λ (l : List Letter). length (map plain_letter l)) c.requires.archive);
+    }
 
 pub returns-in_err-source_all-clause-off : goal.returns-in_err-source_all-clause-off
 returns-in_err-source_all-clause-off g c =
@@ -71,7 +76,9 @@ returns-clause-sourced g c =
         read = files_end _ _ unopened c.in_ok-source_all.ensures.read;
         empty = subst IsEmpty (sym (whole.view (ap (λ (s : State). s.turn.stage) is)))
             c.in_ok-session.ensures.empty;
-        fits = whole.fits.can;
+        none = ap (λ (f : OpenFolder). f.met) c.source_all.ensures.reads.folder
+            ∙ ap (λ (s : State). s.met) is;
+        fits = whole.fits.fits.can;
       };
     }
 

@@ -1,4 +1,7 @@
 use Rattle.std.proofs.Common.{ap, map, subst, sym, ◌∙◌}
+use Rattle.mail_base.specs.Series.{Held}
+use Rattle.folder_letters.specs.declared.letter.Letter.{Letter}
+use Rattle.session_events.proofs.MetLemmas.{met_none}
 use Rattle.std.proofs.Math.Facts.{to_z-of_z}
 use Rattle.folder_letters.specs.Letters.{plain_letter}
 use Rattle.session_state.specs.Instants.{IsMoment}
@@ -12,7 +15,6 @@ pub returns-in_err-session-clause-err : goal.returns-in_err-session-clause-err
 returns-in_err-session-clause-err g c =
     no_memory _ _ c.from_residual.ensures.1 (λ given is.
     fails_early _ given (first_state (plain_setup c.args.setup) c.args.moment) _ _ _ _ _
-    (is.mails_are ∙ rw c.sourced.ensures.archive (ap (map plain_letter) c.requires.archive))
     is.keeps (off_at (plain_setup c.args.setup) _ _ (to_z-of_z c.ranges.moment)
     c.sourced.ensures.off))
 
@@ -50,6 +52,29 @@ returns-in_err-session-clause-fits g c =
 pub returns-in_err-session-clause-ok : goal.returns-in_err-session-clause-ok
 returns-in_err-session-clause-ok g c =
     no_answer c.from_residual.result _ _ c.from_residual.ensures.1
+
+pub returns-in_err-open_wished-clause-known : goal.returns-in_err-open_wished-clause-known
+returns-in_err-open_wished-clause-known g c =
+    no_answer c.from_residual-in_err-open_wished.result _ _
+    c.from_residual-in_err-open_wished.ensures.1
+
+pub returns-in_err-session-clause-known : goal.returns-in_err-session-clause-known
+returns-in_err-session-clause-known g c =
+    no_answer c.from_residual.result _ _ c.from_residual.ensures.1
+
+pub returns-in_err-session-clause-met : goal.returns-in_err-session-clause-met
+returns-in_err-session-clause-met g c = met_none _ _
+    (ap (λ (a : Held Letter). map plain_letter a.items) c.sourced.ensures.archive
+    ∙ ap (map plain_letter) c.requires.archive) c.sourced.ensures.off.are
+
+pub returns-in_err-open_wished-clause-met : goal.returns-in_err-open_wished-clause-met
+returns-in_err-open_wished-clause-met g c = c.open_wished.ensures.met c.sourced.ensures.off.are
+
+pub returns-clause-met : goal.returns-clause-met
+returns-clause-met g c = c.open_wished.ensures.met c.sourced.ensures.off.are
+
+pub sourced-requires-clause-archive : goal.sourced-requires-clause-archive
+sourced-requires-clause-archive g c = c.requires.archive
 
 pub open_wished-requires-clause-ready : goal.open_wished-requires-clause-ready
 open_wished-requires-clause-ready g c = c.in_ok-session.ensures.sourced.ready

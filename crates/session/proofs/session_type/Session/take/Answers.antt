@@ -5,7 +5,7 @@ use Rattle.std.proofs.lemmas.Result.{on_ok_weaker}
 use Rattle.folder_letters.specs.Letters.{plain_letter}
 use Rattle.session_events.specs.Events.{plain_event}
 use Rattle.session_events.specs.declared.event.Event.{Event}
-use Rattle.session.specs.Runs.{arrived, plain_session, read_in, read_on, typed}
+use Rattle.session.specs.Runs.{arrived_by, plain_session, read_in, read_on, typed}
 use Rattle.session.proofs.FittingLemmas.{learn_in}
 use Rattle.session.proofs.GivenLemmas.{keeps_then}
 use Rattle.session.proofs.session_type.Session.take.Goals as goal
@@ -27,7 +27,7 @@ returns-in_ok-read-in-Sourced-clause-arrived g c =
     (keeps_then c.read_on.ensures.kept is.keeps)
     ∙ ap (λ (t : List ℕ). read_in given.verdicts t (plain_session c.args.self.now c.args.notes.now))
     c.as_slice.ensures)
-    ∙ ap (λ (e : Event). arrived given (plain_session c.args.self.now c.args.notes.now)
+    ∙ ap (λ (e : Event). arrived_by given (plain_session c.args.self.now c.args.notes.now)
     (plain_event e)) (sym c.in-Sourced.is))
     c.read_on.ensures.on
 
@@ -37,7 +37,7 @@ returns-in_ok-skip-in-NotSourced-clause-arrived g c =
     on_ok_weaker c.read_on-in-NotSourced.result (λ on given is. on given is c.skip.new.notes
     ∙ ap (read_on given) (c.in_ok-skip-in-NotSourced.ensures.skipped given.verdicts
     (keeps_then c.read_on-in-NotSourced.ensures.kept is.keeps))
-    ∙ ap (λ (e : Event). arrived given (plain_session c.args.self.now c.args.notes.now)
+    ∙ ap (λ (e : Event). arrived_by given (plain_session c.args.self.now c.args.notes.now)
     (plain_event e)) (sym c.in-NotSourced.is))
     c.read_on-in-NotSourced.ensures.on
 
@@ -54,6 +54,6 @@ returns-in-Pressed-clause-arrived g c =
     on_ok_weaker c.type_in.result (λ types given is. types given is c.args.notes.now
     ∙ ap (typed given c.in-Pressed.key c.in-Pressed.moment)
     (c.take_key.ensures.taken c.args.notes.now)
-    ∙ ap (λ (e : Event). arrived given (plain_session c.args.self.now c.args.notes.now)
+    ∙ ap (λ (e : Event). arrived_by given (plain_session c.args.self.now c.args.notes.now)
     (plain_event e)) (sym c.in-Pressed.is))
     (rw (to_z-of_z fits) at c.type_in.ensures.typed)

@@ -1,0 +1,301 @@
+-- What checks tell of the disk.
+use Rattle.std.proofs.Common.{◌≡◌, ◌≤◌, ◌+◌, ℕ, ℤ, List, Option, Some, None, Result, Ok, Err}
+use Rattle.std.proofs.Common.{refl, sym, ◌∙◌, ap, subst, arith, length, length-append, map, take}
+use Rattle.std.proofs.Math.Seq.{take-append_seam}
+use Rattle.std.proofs.lemmas.List.{take-take, take_all}
+use Rattle.std.specs.Prelude.{IfOk, IsErrOf}
+use Rattle.mail_base.specs.Faults.{Rose}
+use Rattle.mail_base.specs.declared.kind.Kind.{Kind}
+use Rattle.disk_model.specs.Journal.{Past}
+use Rattle.disk_model.specs.Judge.{GoesOn}
+use Rattle.disk_model.specs.Looking.{LooksOnly}
+use Rattle.disk_model.specs.Seen.{Seen}
+use Rattle.folder_core.proofs.RightLemmas.{right_same}
+use Rattle.folder_core.proofs.SeenLemmas.{goes_as}
+use Rattle.folder_core.specs.Keeping.{IsDifference}
+use Rattle.folder_core.specs.Known.{KnownFolder}
+use Rattle.folder_core.specs.Reads.{format_of}
+use Rattle.folder_core.specs.Right.{Right}
+use Rattle.folder_core.specs.Scanned.{IsFound, ListsFound, Saw}
+use Rattle.folder_core.specs.declared.error.ScanError.{ScanError}
+use Rattle.folder_core.specs.declared.error.ScanError.TheVariants as scan
+use Rattle.folder_letters.specs.Letters.{Mail, plain_letter}
+use Rattle.folder_letters.specs.declared.letter.Letter.{Letter}
+use Rattle.folder_letters.specs.declared.listing.Found.{Found}
+use Rattle.session_events.specs.Checking.{IsOpen, ScansFolder, standing_over}
+use Rattle.session_events.specs.Events.{Happening, FileRead, FileRefused, KeyPressed, FolderOpened}
+use Rattle.session_events.specs.Events.{FolderRefused, FolderChecked, CheckRefused, PlainFound}
+use Rattle.session_events.specs.Events.{held_found}
+use Rattle.session_events.specs.Happened.{Counts, Happened, HasCause, IsKnown, Standing}
+use Rattle.session_events.specs.Happened.{WasChecked}
+use Rattle.session_events.specs.Happened.{CheckWasRefused, WasNotChecked, WasOpened, met_after}
+use Rattle.session_events.specs.Telling.{Tells}
+use Rattle.session_events.specs.declared.checking.Scanned.{Scanned}
+use Rattle.session_events.specs.declared.open_folder.OpenFolder.{OpenFolder}
+
+-- the letters of an archive
+abbrev letters_of : List Letter → List Mail
+letters_of archive = map plain_letter archive
+
+-- what is known of the open folder stays so while the device only looks
+pub open_on : (mails : List Mail) (a b : Option Past) (folder : OpenFolder) → LooksOnly a b
+    → IsOpen mails a folder → IsOpen mails b folder
+open_on mails a b folder looks is = record {
+  right = right_same folder.known.kind mails folder.known a b looks is.right;
+  known = is.known;
+  within = is.within;
+  once = is.once;
+  met = is.met;
+}
+
+-- what a scan that found something lists
+pub scan_lists : (archive archive' : List Letter) (known new_known : KnownFolder)
+    (scanned : Scanned) (theirs : Found) (old new : Seen)
+    → ScansFolder archive archive' known new_known scanned old new → scanned.answer ≡ Ok theirs
+    → ListsFound theirs (letters_of archive) (letters_of archive') known new_known
+scan_lists archive archive' known new_known scanned theirs old new scans is =
+    subst (λ (r : Result Found ScanError). IfOk r (λ f. ListsFound f (letters_of archive)
+    (letters_of archive') known new_known)) is scans.scans.lists
+
+-- A scan of the open folder.
+module _ (Has : Kind → Type 0) (empty : Kind) (folder : OpenFolder) (archive archive' : List Letter)
+    (new_known : KnownFolder) (scanned : Scanned) (moment : ℤ) (old new : Seen)
+    (known : IsOpen (letters_of archive) old.told folder)
+    (scans : ScansFolder archive archive' folder.known new_known scanned old new) where
+  abbrev at : Standing
+  at = standing_over empty folder
+
+  -- it was refused for want of memory, also of that to take in what it found
+  pub tells_starved : (mails : List Mail)
+      → Tells Has at mails (CheckRefused moment scan.NoMemory scanned.marks) old new
+  tells_starved mails = record {
+    marks = scanned.marks;
+    marked = refl;
+    before = scans.before;
+    after = scans.behind;
+    on = scans.scans.only.marks;
+    faults = scans.scans.only.faults;
+    cause = tt;
+    happened = goes_as old.told new.told (λ p q saw. tt) scans.scans.saw;
+    looks = scans.scans.only.looks;
+    first = scans.first;
+    last = scans.last;
+  }
+
+  known_at : (mails : List Mail) (p : Past) → old.told ≡ Some p
+      → take folder.met mails ≡ letters_of archive → IsKnown at mails folder.known p
+  known_at mails p told first = record {
+    path = refl;
+    listed = known.known;
+    right = subst (λ (l : List Mail). Right folder.known.kind l folder.known (Some p)) (sym first)
+        (subst (λ (o : Option Past). Right folder.known.kind (letters_of archive) folder.known o)
+        told known.right);
+  }
+
+  -- It was refused.
+  module _ (why : ScanError) (is : scanned.answer ≡ Err why) where
+    here : take folder.met (letters_of archive) ≡ letters_of archive
+    here = take_all folder.met (letters_of archive) (omega (arith, known.met))
+
+    refused_at : (p q : Past) → old.told ≡ Some p
+        → Saw folder.known.kind (letters_of archive) (letters_of archive') folder.known new_known
+        scanned.answer p q → CheckWasRefused at (letters_of archive) why p q
+    refused_at p q told saw = record {
+      known = folder.known;
+      is = known_at (letters_of archive) p told here;
+      refused = subst (λ (l : List Mail). (format_of folder.known.kind).Refused l folder.known why
+          (length p.journal) (length q.journal) q) (sym here)
+          (subst (λ (r : Result Found ScanError). Saw folder.known.kind (letters_of archive)
+          (letters_of archive') folder.known new_known r p q) is saw);
+    }
+
+    refused_by : (w : ScanError) → (p q : Past)
+        → CheckWasRefused at (letters_of archive) w p q
+        → WasNotChecked at (letters_of archive) w p q
+    refused_by scan.Fault p q was = tt
+    refused_by scan.NoMemory p q was = tt
+    refused_by scan.Missing p q was = was
+    refused_by (scan.NotMailbox place) p q was = was
+    refused_by (scan.TooMany count) p q was = was
+    refused_by (scan.TooLarge bytes) p q was = was
+    refused_by scan.Unfinished p q was = was
+    refused_by scan.ArchiveFull p q was = was
+
+    refused_told : (a b : Option Past) → old.told ≡ a
+        → GoesOn (Saw folder.known.kind (letters_of archive) (letters_of archive') folder.known
+        new_known scanned.answer) a b
+        → GoesOn (λ (p q : Past). WasNotChecked at (letters_of archive) why p q) a b
+    refused_told None b told goes = goes
+    refused_told (Some p) None told goes = goes
+    refused_told (Some p) (Some q) told saw = refused_by why p q (refused_at p q told saw)
+
+    cause_of : (w : ScanError) → w ≡ why
+        → HasCause Has (CheckRefused moment w scanned.marks) scanned.marks
+    cause_of scan.Fault same =
+        subst (λ (n : ℕ). Rose n scanned.marks.faults_after)
+        (ap (λ (c : Counts). c.faults) scans.before)
+        (subst (λ (n : ℕ). Rose old.faults n) (ap (λ (c : Counts). c.faults) scans.behind)
+        (scans.scans.cause (subst (λ (r : Result Found ScanError). IsErrOf r scan.Fault)
+        (sym (is ∙ ap Err (sym same))) refl)))
+    cause_of _ same = tt
+
+    pub tells_refused : Tells Has at (letters_of archive) (CheckRefused moment why scanned.marks)
+        old new
+    tells_refused = record {
+      marks = scanned.marks;
+      marked = refl;
+      before = scans.before;
+      after = scans.behind;
+      on = scans.scans.only.marks;
+      faults = scans.scans.only.faults;
+      cause = cause_of why refl;
+      happened = refused_told old.told new.told refl scans.scans.saw;
+      looks = scans.scans.only.looks;
+      first = scans.first;
+      last = scans.last;
+    }
+
+  -- It found something or nothing, and so did the session.
+  module _ (theirs : Found) (is : scanned.answer ≡ Ok theirs) (found : PlainFound)
+      (difference : IsDifference folder.listing.items new_known.listing (held_found found))
+      (count : length found.came ≡ length theirs.came.items) where
+    lists : ListsFound theirs (letters_of archive) (letters_of archive') folder.known new_known
+    lists = scan_lists archive archive' folder.known new_known scanned theirs old new scans is
+
+    first_letters : take folder.met (letters_of archive') ≡ letters_of archive
+    first_letters = ap (λ (n : ℕ). take n (letters_of archive')) known.met
+        ∙ ap (λ (l : List Mail). take (length (letters_of archive)) l) lists.archived
+        ∙ take-append_seam (letters_of archive) lists.added
+
+    pub letters_count : length (letters_of archive') ≡ folder.met + length found.came
+    letters_count = omega (
+      arith,
+      ap length lists.archived,
+      length-append (letters_of archive) lists.added,
+      lists.each,
+      count,
+      known.met,
+    )
+
+    all_letters : take (folder.met + length found.came) (letters_of archive')
+        ≡ letters_of archive'
+    all_letters = take_all _ (letters_of archive') (omega (arith, letters_count))
+
+    found_at : (p q : Past) → old.told ≡ Some p
+        → Saw folder.known.kind (letters_of archive) (letters_of archive') folder.known new_known
+        scanned.answer p q → WasChecked at (letters_of archive') found p q
+    found_at p q told saw = record {
+      known = folder.known;
+      new_known = new_known;
+      is = known_at (letters_of archive') p told first_letters;
+      scanned = subst (λ (l : List Mail). IsFound (format_of folder.known.kind) l
+          (take (folder.met + length found.came) (letters_of archive')) folder.known new_known
+          (length p.journal) (length q.journal) q) (sym first_letters)
+          (subst (λ (l : List Mail). IsFound (format_of folder.known.kind) (letters_of archive) l
+          folder.known new_known (length p.journal) (length q.journal) q) (sym all_letters)
+          (subst (λ (r : Result Found ScanError). Saw folder.known.kind (letters_of archive)
+          (letters_of archive') folder.known new_known r p q) is saw));
+      difference = difference;
+    }
+
+    found_told : (a b : Option Past) → old.told ≡ a
+        → GoesOn (Saw folder.known.kind (letters_of archive) (letters_of archive') folder.known
+        new_known scanned.answer) a b
+        → GoesOn (λ (p q : Past). WasChecked at (letters_of archive') found p q) a b
+    found_told None b told goes = goes
+    found_told (Some p) None told goes = goes
+    found_told (Some p) (Some q) told saw = found_at p q told saw
+
+    pub tells_found : Tells Has at (letters_of archive')
+        (FolderChecked moment found scanned.marks) old new
+    tells_found = record {
+      marks = scanned.marks;
+      marked = refl;
+      before = scans.before;
+      after = scans.behind;
+      on = scans.scans.only.marks;
+      faults = scans.scans.only.faults;
+      cause = tt;
+      happened = found_told old.told new.told refl scans.scans.saw;
+      looks = scans.scans.only.looks;
+      first = scans.first;
+      last = scans.last;
+    }
+
+-- What an event says of letters that were met it says of more.
+module _ (mails more : List Mail) (first : take (length mails) more ≡ mails) where
+  pub takes_same : (n : ℕ) → n ≤ length mails → take n more ≡ take n mails
+  takes_same n low = sym (take-take n (length mails) more low) ∙ ap (take n) first
+
+  known_more : (at : Standing) (known : KnownFolder) (p : Past) → at.met ≤ length mails
+      → IsKnown at mails known p → IsKnown at more known p
+  known_more at known p low is = record {
+    path = is.path;
+    listed = is.listed;
+    right = subst (λ (l : List Mail). Right at.kind l known (Some p))
+        (sym (takes_same at.met low)) is.right;
+  }
+
+  refused_more : (at : Standing) (why : ScanError) (p q : Past) → at.met ≤ length mails
+      → CheckWasRefused at mails why p q → CheckWasRefused at more why p q
+  refused_more at why p q low was = record {
+    known = was.known;
+    is = known_more at was.known p low was.is;
+    refused = subst (λ (l : List Mail). (format_of at.kind).Refused l was.known why
+        (length p.journal) (length q.journal) q) (sym (takes_same at.met low)) was.refused;
+  }
+
+  pub happened_more : (Has : Kind → Type 0) (at : Standing) (event : Happening) (p q : Past)
+      → met_after at.met event ≤ length mails
+      → Happened Has at mails event p q → Happened Has at more event p q
+  happened_more Has at (FileRead path text marks) p q low was = was
+  happened_more Has at (FileRefused path why marks) p q low was = was
+  happened_more Has at (KeyPressed key moment) p q low was = was
+  happened_more Has at (FolderOpened path kind moment came marks) p q low was =
+      subst (λ (l : List Mail). WasOpened at.empty l path kind came (length p.journal)
+      (length q.journal) q) (sym (takes_same (length came) (omega (arith, low)))) was
+  happened_more Has at (FolderRefused path why marks) p q low was = was
+  happened_more Has at (FolderChecked moment found marks) p q low was = record {
+    known = was.known;
+    new_known = was.new_known;
+    is = known_more at was.known p (omega (arith, low)) was.is;
+    scanned = subst (λ (l : List Mail). IsFound (format_of at.kind) l
+        (take (at.met + length found.came) more) was.known was.new_known (length p.journal)
+        (length q.journal) q) (sym (takes_same at.met (omega (arith, low))))
+        (subst (λ (l : List Mail). IsFound (format_of at.kind) (take at.met mails) l was.known
+        was.new_known (length p.journal) (length q.journal) q)
+        (sym (takes_same (at.met + length found.came) low)) was.scanned);
+    difference = was.difference;
+  }
+  happened_more Has at (CheckRefused moment scan.Fault marks) p q low was = tt
+  happened_more Has at (CheckRefused moment scan.NoMemory marks) p q low was = tt
+  happened_more Has at (CheckRefused moment scan.Missing marks) p q low was =
+      refused_more at scan.Missing p q low was
+  happened_more Has at (CheckRefused moment (scan.NotMailbox place) marks) p q low was =
+      refused_more at (scan.NotMailbox place) p q low was
+  happened_more Has at (CheckRefused moment (scan.TooMany count) marks) p q low was =
+      refused_more at (scan.TooMany count) p q low was
+  happened_more Has at (CheckRefused moment (scan.TooLarge bytes) marks) p q low was =
+      refused_more at (scan.TooLarge bytes) p q low was
+  happened_more Has at (CheckRefused moment scan.Unfinished marks) p q low was =
+      refused_more at scan.Unfinished p q low was
+  happened_more Has at (CheckRefused moment scan.ArchiveFull marks) p q low was =
+      refused_more at scan.ArchiveFull p q low was
+
+  pub tells_more : {Has : Kind → Type 0} {at : Standing} {event : Happening} {old new : Seen}
+      → met_after at.met event ≤ length mails
+      → Tells Has at mails event old new → Tells Has at more event old new
+  tells_more {Has} {at} {event} {old} {new} low tells = record {
+    marks = tells.marks;
+    marked = tells.marked;
+    before = tells.before;
+    after = tells.after;
+    on = tells.on;
+    faults = tells.faults;
+    cause = tells.cause;
+    happened = goes_as old.told new.told (λ p q was. happened_more Has at event p q low was)
+        tells.happened;
+    looks = tells.looks;
+    first = tells.first;
+    last = tells.last;
+  }

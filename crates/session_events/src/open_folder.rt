@@ -1,0 +1,142 @@
+//! The open folder: what is known of it, and its listing.
+
+use crate::checking::Scanned;
+use crate::event::Marks;
+use disk_model::Device;
+use folder_core::{Archive, Drivers, Found, Known, Listing, difference_of};
+use mail_base::{Kind, NoMemory};
+use std::alloc::Global;
+
+/// The open folder.
+#[derive(Drop)]
+pub struct OpenFolder {
+    pub known: Known,
+    /// What the last check listed.
+    pub listing: Listing,
+    /// How many letters were met.
+    pub met: usize,
+    /// Whether only a part of the listing is known still.
+    pub forgot: bool,
+    /// The moment of its last check, in seconds since 1970 UTC: its opening at first.
+    pub checked: i64,
+}
+
+/// How the listing of a folder changed, and what it is now.
+#[derive(Drop)]
+pub struct News {
+    pub found: Found,
+    pub listing: Listing,
+}
+
+impl OpenFolder {
+    ghost use Rattle.std.specs.Prelude.{◌≡◌, ◌<◌, ◌≤◌, Any, IfOk, List, [], false, true};
+    ghost use Rattle.std.specs.Prelude.{Option, length, map, take};
+    ghost use Rattle.std.specs.List.{All};
+    ghost use Rattle.disk_model.specs.Journal.{Past};
+    ghost use Rattle.folder_core.specs.Keeping.{IsDifference, ids_differ};
+    ghost use Rattle.folder_core.specs.Known.{nothing_known, shortened};
+    ghost use Rattle.folder_core.specs.Right.{Right};
+    ghost use Rattle.folder_letters.specs.Letters.{Mail, plain_letter};
+    ghost use Rattle.mail_base.specs.declared.kind.Kind.TheVariants as kind;
+    ghost use Rattle.session_events.specs.Checking.{ScansFolder};
+
+    /// No folder, before one is open.
+    pub fn none(alloc: Global, moment: i64) -> Result<Self, NoMemory>
+        ensures known { IfOk result (λ f. f.known ≡ nothing_known [] kind.Mbox false) }
+        ensures listing { IfOk result (λ f. f.listing.items ≡ []) }
+        ensures met { IfOk result (λ f. f.met ≡ 0) }
+        ensures forgot { IfOk result (λ f. f.forgot ≡ false) }
+        ensures checked { IfOk result (λ f. f.checked ≡ moment) }
+    {
+        Ok(OpenFolder {
+            known: Known::new(alloc, "", Kind::Mbox)?,
+            listing: Listing::new(alloc),
+            met: 0,
+            forgot: false,
+            checked: moment,
+        })
+    }
+
+    /// Scans the folder, by the driver of its kind.
+    pub fn scan(
+        &mut self,
+        alloc: Global,
+        dev: &mut Device,
+        drivers: &Drivers,
+        archive: &mut Archive,
+    ) -> Scanned
+        requires has { Any (λ d. sort (d.vtable, d.value) ≡ self.old.known.kind)
+            drivers.now.list.items }
+        requires right { Right self.old.known.kind (map plain_letter archive.old.items)
+            self.old.known (seen (dev.old.disk.vtable, dev.old.disk.value)).told }
+        ensures scans { ScansFolder archive.old.items archive.new.items self.old.known
+            self.new.known result (seen (dev.old.disk.vtable, dev.old.disk.value))
+            (seen (dev.new.disk.vtable, dev.new.disk.value)) }
+        ensures rest { self.new ≡ record self.old { known = self.new.known } }
+    {
+        let mark_before = dev.mark();
+        let faults_before = dev.faults();
+        let kind = self.known.kind();
+        let answer = drivers.scan(alloc, kind, dev, &mut self.known, archive);
+        Scanned {
+            answer,
+            marks: Marks {
+                mark_before,
+                mark_after: dev.mark(),
+                faults_before,
+                faults_after: dev.faults(),
+            },
+        }
+    }
+
+    /// How the listing changes by a scan that found this, where there are so many letters now.
+    pub fn news(&self, alloc: Global, letters: usize, found: Found) -> Result<News, NoMemory>
+        requires within { All (λ l. l.id.0 < letters) self.now.listing.items }
+        requires once { ids_differ self.now.listing.items ≡ true }
+        requires found { self.now.forgot ≡ false
+            → IsDifference self.now.listing.items self.now.known.listing found }
+        ensures found { IfOk result (λ news.
+            IsDifference self.now.listing.items self.now.known.listing news.found) }
+        ensures listing { IfOk result (λ news. news.listing.items ≡ self.now.known.listing) }
+    {
+        let now = self.known.listing().as_slice();
+        let listing = Listing::from_vec(now.to_vec(alloc)?);
+        let found = if self.forgot {
+            difference_of(alloc, letters, self.listing.as_slice(), now)?
+        } else {
+            found
+        };
+        Ok(News { found, listing })
+    }
+
+    /// This is its listing now, and so many letters were met.
+    pub fn settle(&mut self, listing: Listing, letters: usize, moment: i64)
+        ensures known { self.new.known ≡ self.old.known }
+        ensures listing { self.new.listing ≡ listing }
+        ensures met { self.new.met ≡ letters }
+        ensures forgot { self.new.forgot ≡ false }
+        ensures checked { self.new.checked ≡ moment }
+    {
+        self.listing = listing;
+        self.met = letters;
+        self.forgot = false;
+        self.checked = moment;
+    }
+
+    /// Forgets what a scan met for the first time, and all that it listed behind that, so that the
+    /// next one meets it.
+    pub fn forget(&mut self, archive: &mut Archive)
+        requires met { self.old.met ≤ length archive.old.items }
+        ensures archive { archive.new.items ≡ take self.old.met archive.old.items }
+        ensures known { self.new.known ≡ shortened self.old.met self.old.known }
+        ensures right { (told : Option Past)
+            → Right self.old.known.kind (map plain_letter archive.old.items) self.old.known told
+            → Right self.old.known.kind (map plain_letter archive.new.items) self.new.known told }
+        ensures forgot { self.new.forgot ≡ true }
+        ensures rest { self.new ≡ record self.old { known = self.new.known; forgot = true } }
+    {
+        self.known.shorten(self.met);
+        archive.shorten(self.met);
+        self.forgot = true;
+    }
+}
