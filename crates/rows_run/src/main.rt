@@ -27,5 +27,6 @@ fn play_all(rt: &HostRuntime, report: &mut Report) -> Result<(), NoMemory> {
     play_file(rt, &WholeRuns, "runs_commands", report)?;
     play_file(rt, &WholeRuns, "runs_scores", report)?;
     play_file(rt, &WholeRuns, "runs_sources", report)?;
-    play_file(rt, &WholeRuns, "runs_pager", report)
+    play_file(rt, &WholeRuns, "runs_pager", report)?;
+    play_file(rt, &WholeRuns, "runs_checks", report)
 }
