@@ -45,17 +45,6 @@ impl Core {
         Ok(())
     }
 
-    // Keeps the text of a limit for the status line.
-    fn keep_limit(&mut self, asking: Asking, text: Line)
-        ensures core { plain_core self.new
-            ≡ spec.limit_kept asking text.items (plain_core self.old) }
-        ensures view { self.new.desk.view ≡ self.old.desk.view }
-    {
-        if let Asking::Limit = asking {
-            self.limit = Some(text);
-        }
-    }
-
     // Does what a text does that is this pattern.
     fn take_pattern(
         &mut self,
@@ -70,7 +59,9 @@ impl Core {
             (Some (plain_pattern pattern)) (plain_core self.old)) self.new) }
     {
         self.desk.answer(archive, asking, pattern)?;
-        self.keep_limit(asking, text);
+        if let Asking::Limit = asking {
+            self.limit = Some(text);
+        }
         Ok(())
     }
 
