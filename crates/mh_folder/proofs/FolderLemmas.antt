@@ -21,8 +21,8 @@ use Rattle.folder_core.specs.declared.looks.Content.TheVariants.{NoFile, Whole}
 use Rattle.folder_core.proofs.ListedSoFarLemmas.{none_seen, whole_seen}
 use Rattle.folder_core.proofs.SeenLemmas.{goes_as, longer_later}
 use Rattle.mh_folder.specs.Folder.{Finds, ReadsMarks}
-use Rattle.mh_folder.specs.Marks.{AreMarks}
-use Rattle.mh_folder.specs.declared.marks.Marks.{Marks}
+use Rattle.mh_sequences.specs.Marks.{AreMarks}
+use Rattle.mh_sequences.specs.declared.marks.Marks.{Marks}
 
 pub nothing_marked : (path at : List ℕ) (limit : ℕ) (content : Content) (marks : Marks)
     (a b : Option Past)

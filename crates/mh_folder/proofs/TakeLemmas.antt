@@ -49,7 +49,7 @@ use Rattle.mh_folder.specs.Walk.{LookSeen, MessageMet, NothingMet, Puts, Stays, 
 use Rattle.mh_folder.specs.Walk.{letter_as}
 use Rattle.mh_folder.specs.Walk.{message_as}
 use Rattle.mh_folder.specs.declared.known_file.KnownFile.{KnownFile}
-use Rattle.mh_folder.specs.declared.marks.Marks.{Marks}
+use Rattle.mh_sequences.specs.declared.marks.Marks.{Marks}
 use Rattle.mh_folder.specs.declared.look.Look.{Look}
 use Rattle.mh_folder.specs.declared.look.Look.TheVariants.{Nothing, Same}
 use Rattle.mh_folder.proofs.StoreLemmas.{nearly_from, nearly_same, refused_bytes, with_fresh}

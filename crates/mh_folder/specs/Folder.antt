@@ -16,9 +16,9 @@ use Rattle.folder_core.specs.Looked.{SawAt}
 use Rattle.folder_core.specs.Mh.{mh_format, sequences_at, sequences_path}
 use Rattle.folder_core.specs.declared.error.ScanError.{ScanError}
 use Rattle.folder_core.specs.declared.error.ScanError.TheVariants.{ArchiveFull, Fault}
-use Rattle.mh_folder.specs.Marks.{AreMarks}
+use Rattle.mh_sequences.specs.Marks.{AreMarks}
 use Rattle.mh_folder.specs.NumberedName.{AreInOrder}
-use Rattle.mh_folder.specs.declared.marks.Marks.{Marks}
+use Rattle.mh_sequences.specs.declared.marks.Marks.{Marks}
 use Rattle.mh_folder.specs.declared.numbered_name.NumberedName.{NumberedName}
 
 -- a directory with these names stood at the path

@@ -1,8 +1,3 @@
-pub mod Ranges
-pub mod SequenceLine
-pub mod Sequences
-pub mod Laws
-pub mod Marks
 pub mod NumberedName
 pub mod KnownFile
 pub mod Visit

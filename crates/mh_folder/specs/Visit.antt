@@ -9,9 +9,9 @@ use Rattle.folder_core.specs.Keeping.{ListedMail, mail_of, mails_of, stamped}
 use Rattle.folder_core.specs.Known.{KnownFolder}
 use Rattle.folder_core.specs.MhNumbers.{number_of}
 use Rattle.mh_folder.specs.KnownFile.{file_in, id_at}
-use Rattle.mh_folder.specs.Marks.{AreMarks}
+use Rattle.mh_sequences.specs.Marks.{AreMarks}
 use Rattle.mh_folder.specs.declared.known_file.KnownFile.{KnownFile}
-use Rattle.mh_folder.specs.declared.marks.Marks.{Marks}
+use Rattle.mh_sequences.specs.declared.marks.Marks.{Marks}
 use Rattle.mh_folder.specs.declared.visit.Visit.{Visit}
 
 -- The path of the folder, the bytes of its sequences, and the letters and the folder as they were

@@ -7,11 +7,11 @@ ghost use Rattle.folder_core.specs.Looked.{OnlyMeets};
 ghost use Rattle.folder_core.specs.Mh.{ReadsBeside};
 ghost use Rattle.mh_folder.specs.Folder as spec;
 
-use crate::marks::Marks;
 use crate::numbered_name::{NumberedName, numbered_names};
 use disk_model::Disk;
 use folder_core::{Content, Contents, ScanError, content_of, contents_of, path_in};
 use mail_base::NoMemory;
+use mh_sequences::Marks;
 use std::alloc::Global;
 
 /// The numbers in the folder at a path, the lowest first.

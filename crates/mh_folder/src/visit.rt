@@ -11,10 +11,10 @@ ghost use Rattle.mh_folder.specs.KnownFile.{files_of, rises_from};
 
 use crate::folder::read_marks;
 use crate::known_files::KnownFiles;
-use crate::marks::Marks;
 use disk_model::Disk;
 use folder_core::{Archive, Known, ScanError};
 use mail_base::NoMemory;
+use mh_sequences::Marks;
 use std::alloc::Global;
 
 /// What the sequences mark, and the messages that are listed.

@@ -13,19 +13,19 @@ ghost use Rattle.folder_core.specs.Costs.{RaisesAtMost};
 ghost use Rattle.folder_core.specs.Directory.{path_in as path_in_lem};
 ghost use Rattle.folder_core.specs.ListedSoFar.{IsEmpty, LooksWithin, store_of};
 ghost use Rattle.folder_core.specs.Looked.{FitsLimit, IsContent, Looked, content_read};
-ghost use Rattle.mh_folder.specs.Marks.{AreMarks};
+ghost use Rattle.mh_sequences.specs.Marks.{AreMarks};
 ghost use Rattle.mh_folder.specs.NumberedName.{IsNumbered, Rises, plain_names};
 ghost use Rattle.mh_folder.specs.Visit.{BeginsWell, Course, IsCourse, IsFileCourse};
 ghost use Rattle.mh_folder.specs.Walk as spec;
 
 use crate::known_file::KnownFile;
 use crate::look::{Look, look_for};
-use crate::marks::Marks;
 use crate::numbered_name::NumberedName;
 use crate::visit::Visit;
 use disk_model::{Disk, FileRead};
 use folder_core::{Archive, Content, Letter, ListedSoFar, ScanError, content_of, path_in};
 use mail_base::{Bytes, NoMemory, Stamps};
+use mh_sequences::Marks;
 use std::alloc::Global;
 
 /// What was found so far, and the stamps of the files that were read.

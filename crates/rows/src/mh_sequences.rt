@@ -3,7 +3,7 @@
 use case_files::{Answer, Case, CaseFault, Entry, Subject};
 use folder_core::read_number;
 use mail_base::split_once;
-use mh_folder::Sequences;
+use mh_sequences::Sequences;
 use std::alloc::Global;
 
 /// `file` holds the sequences. The other inputs come in their order: `put` and `take` are a name

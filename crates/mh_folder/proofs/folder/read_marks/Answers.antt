@@ -1,5 +1,5 @@
 use Rattle.std.proofs.Common.{◌∙◌, subst}
-use Rattle.mh_folder.specs.Marks.{AreMarks}
+use Rattle.mh_sequences.specs.Marks.{AreMarks}
 use Rattle.disk_model.proofs.Looking.{looks_same}
 use Rattle.folder_core.proofs.CostsLemmas.{raises_same}
 use Rattle.mh_folder.proofs.FolderLemmas.{no_content, nothing_marked, sequences_read}

@@ -1,5 +1,0 @@
-use Rattle.mh_folder.proofs.ChangeLemmas.{drop_takes}
-use Rattle.mh_folder.proofs.laws.drop_takes_one.Goals as goal
-
-pub returns : goal.returns
-returns c = drop_takes

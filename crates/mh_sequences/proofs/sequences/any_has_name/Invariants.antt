@@ -1,0 +1,11 @@
+use Rattle.std.proofs.Common.{◌≡◌, length}
+use Rattle.mh_sequences.specs.Sequences.{plain_lines}
+use Rattle.mh_sequences.specs.Sequences as spec
+use Rattle.mh_sequences.proofs.sequences.any_has_name.Given as goal
+
+abbrev pub invariant-loop-left : goal.invariant-loop-left
+invariant-loop-left l =
+    spec.any_has_name l.name (plain_lines l.left) ≡ spec.any_has_name l.name (plain_lines l.lines)
+
+abbrev pub decreases-loop-left : goal.decreases-loop-left
+decreases-loop-left l = length l.left

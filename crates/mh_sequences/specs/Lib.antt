@@ -1,0 +1,5 @@
+pub mod Ranges
+pub mod SequenceLine
+pub mod Sequences
+pub mod Laws
+pub mod Marks
