@@ -1,0 +1,9 @@
+pub mod StepLemmas
+pub mod CauseLemmas
+pub mod OrderLemmas
+pub mod MemberLemmas
+pub mod MaildirLemmas
+pub mod PathLemmas
+pub mod StateLemmas
+pub mod WorkLemmas
+pub mod CallLemmas

@@ -1,0 +1,4 @@
+pub mod Wanted
+pub mod Worked
+pub mod Maildir
+pub mod Laws

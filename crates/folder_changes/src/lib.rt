@@ -1,0 +1,10 @@
+//! What a call that writes does to the messages of a folder, step by step: definitions, and their
+//! laws as the contracts of functions that do nothing. No driver writes yet.
+#![tactic(auto)]
+
+mod laws;
+
+pub use laws::{
+    causes_are_found_or_made_by_others, own_removals_take_files, own_renames_rename_files,
+    renamed_files_change_one_message, steps_alone_do_what_is_wanted, taken_files_take_one_message,
+};
