@@ -6,3 +6,4 @@ pub mod IdsLemmas
 pub mod BodyLemmas
 pub mod SoughtLemmas
 pub mod AskingLemmas
+pub mod AllLemmas

@@ -9,6 +9,7 @@ pub mod Days
 pub mod Listings
 pub mod Satisfies
 pub mod Machine
+pub mod All
 pub mod Entries
 pub mod Sought
 pub mod Kept

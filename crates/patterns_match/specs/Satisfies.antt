@@ -1,6 +1,6 @@
 -- Which messages of a listing satisfy a pattern.
 use Rattle.std.specs.Prelude.{◌==◌, ◌&&◌, ◌||◌, ◌++◌, ℕ, ℤ, Bool, true, false, not, int_le, int_lt}
-use Rattle.std.specs.Prelude.{List, Option, Some, None, length, slice_get}
+use Rattle.std.specs.Prelude.{List, Option, Some, None, length, map, slice_get}
 use Rattle.std.specs.Ordering.{int_eq}
 use Rattle.std.specs.Option.{option_map_or}
 use Rattle.std.specs.List.{count_by, list_any, range_with_len}
@@ -130,3 +130,8 @@ satisfies people offset listing (Or a b) place =
 satisfies people offset listing (Group tree) place = satisfies people offset listing tree place
 satisfies people offset listing (Related relation tree) place =
     some_related listing relation place (satisfies people offset listing tree)
+
+-- which messages satisfy the pattern, in the order of the listing
+abbrev pub all_satisfying : PlainPeople → ℤ → List Message → Tree → List Bool
+all_satisfying people offset listing tree =
+    map (satisfies people offset listing tree) (range_with_len 0 (length listing))

@@ -24,7 +24,8 @@ use mail_base::NoMemory;
 use people::People;
 use std::alloc::Global;
 
-fn front(operations: &[Operation<Asked>], count: usize) -> &[Operation<Asked>]
+/// The first operations, so many.
+pub fn front(operations: &[Operation<Asked>], count: usize) -> &[Operation<Asked>]
     ensures { result.now ≡ take count operations.now }
 {
     let (front, _) = operations.split_at(count.min(operations.len()));

@@ -1,7 +1,9 @@
 //! Patterns that are asked of messages, and scores. Implement `Table` for a listing, call `matches`
-//! for whether one of its messages satisfies a pattern, and `Scores::score` for what it scores.
+//! for whether one of its messages satisfies a pattern, `all_matches` for which of them do, and
+//! `Scores::score` for what one scores.
 #![tactic(auto)]
 
+mod all;
 mod asked;
 mod asking;
 mod asks;
@@ -26,6 +28,7 @@ mod searched;
 mod table;
 mod tells;
 
+pub use all::all_matches;
 pub use asked::{Asked, Sought};
 pub use asking::matches;
 pub use laws::operations_answer;
