@@ -1,0 +1,12 @@
+pub mod Words
+pub mod Shape
+pub mod Messages
+pub mod Rows
+pub mod Reads
+pub mod Others
+pub mod Folder
+pub mod Along
+pub mod Does
+pub mod Syncs
+pub mod Appends
+pub mod Laws
