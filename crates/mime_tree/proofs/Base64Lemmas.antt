@@ -1,6 +1,15 @@
 -- How white space is left out of a text, run by run.
-use Rattle.std.proofs.Common.{◌≡◌, ℕ, suc, ◌+◌, Bool, true, false, not, List, [], ◌∷◌, ◌++◌, take}
-use Rattle.std.proofs.Common.{drop, Some, None, position, filter, refl, ap, ◌∙◌, arith}
+use Rattle.std.proofs.Common.{◌≡◌, ℕ, zero, suc, ◌+◌, ◌<◌, ◌==◌, Bool, true, false, not, List, []}
+use Rattle.std.proofs.Common.{◌∷◌, ◌++◌, length, take, drop, Option, Some, None, position, filter}
+use Rattle.std.proofs.Common.{refl, ap, sym, subst, ◌∙◌, arith, slice_index, option_map}
+use Rattle.std.proofs.Common.{MatchOption, nat_lt}
+use Rattle.std.specs.List.{list_all}
+use Rattle.std.specs.Str.{byte}
+use Rattle.std.proofs.lemmas.Bool.{and_parts, eqb-true}
+use Rattle.std.proofs.lemmas.Bool.Decides.{nat_tests}
+use Rattle.std.proofs.lemmas.List.Quantifiers.{position-Some}
+use Rattle.mail_base.specs.Places.{around, split_once}
+use Rattle.mime_tree.specs.Base64Body.{is_solid}
 use Rattle.std.specs.Prelude.{if◌then◌else◌}
 use Rattle.std.specs.List.{before_first, after_first, position_or_len}
 use Rattle.std.proofs.lemmas.List.{append-nil}
@@ -45,3 +54,47 @@ filter_none p xs none =
     (before_first_none (λ x. not (p x)) xs none)
     ∙ ap (λ l. xs ++ filter p l) (after_first_none (λ x. not (p x)) xs none)
     ∙ append-nil xs
+
+solid_above : (b : ℕ) → nat_lt 32 b ≡ true → is_solid b ≡ true
+solid_above b above = grind (arith, nat_tests)
+
+-- a text whose bytes are all above the blank has no white space
+pub filter_above : (s : List ℕ) → list_all (λ b. nat_lt 32 b) s ≡ true → filter is_solid s ≡ s
+filter_above [] above = refl
+filter_above (b ∷ rest) above =
+    let both = and_parts (nat_lt 32 b) (list_all (λ c. nat_lt 32 c) rest) above in
+    ap (λ t. if t then b ∷ filter is_solid rest else filter is_solid rest) (solid_above b both.0)
+    ∙ ap (λ l. b ∷ l) (filter_above rest both.1)
+
+solid_by : (b : ℕ) (rest front back : List ℕ) (t : Bool)
+    → filter is_solid rest ≡ filter is_solid front ++ back
+    → (if t then b ∷ filter is_solid rest else filter is_solid rest)
+    ≡ (if t then b ∷ filter is_solid front else filter is_solid front) ++ back
+solid_by b rest front back true more = ap (λ l. b ∷ l) more
+solid_by b rest front back false more = more
+
+cut_at_feed : (k : ℕ) (s : List ℕ) → k < length s → (slice_index s k == byte "\n") ≡ true
+    → filter is_solid s ≡ filter is_solid (take k s) ++ filter is_solid (drop (suc k) s)
+cut_at_feed k [] less at = absurd (omega arith)
+cut_at_feed zero (b ∷ rest) less at =
+    ap (λ c. filter is_solid (c ∷ rest)) (eqb-true b (byte "\n") at)
+cut_at_feed (suc k) (b ∷ rest) less at =
+    solid_by b rest (take k rest) (filter is_solid (drop (suc k) rest)) (is_solid b)
+    (cut_at_feed k rest (omega arith) at)
+
+abbrev IsCut : List ℕ → Option (List ℕ × List ℕ) → Type 0
+IsCut s o = MatchOption o Unit (λ p. filter is_solid s ≡ filter is_solid p.0 ++ filter is_solid p.1)
+
+cut_by : (s : List ℕ) (place : Option ℕ) → position (λ b. b == byte "\n") s ≡ place
+    → IsCut s (option_map (around s) place)
+cut_by s None none = tt
+cut_by s (Some k) found =
+    let first = position-Some (λ b. b == byte "\n") s k 0 found in
+    let next : suc k ≡ k + 1 = omega arith in
+    cut_at_feed k s first.0 first.1
+    ∙ ap (λ n. filter is_solid (take k s) ++ filter is_solid (drop n s)) next
+
+-- a text cut at its first line feed
+pub filter_cut : (s : List ℕ) (o : Option (List ℕ × List ℕ)) → o ≡ split_once (byte "\n") s
+    → MatchOption o Unit (λ p. filter is_solid s ≡ filter is_solid p.0 ++ filter is_solid p.1)
+filter_cut s o is = subst (IsCut s) (sym is) (cut_by s (position (λ b. b == byte "\n") s) refl)

@@ -1,10 +1,12 @@
 -- The lines of a pager, with and without those that quote.
 use Rattle.std.proofs.Common.{◌≡◌, ℕ, zero, suc, ◌+◌, ◌-◌, ◌<◌, Bool, true, false, not, List}
 use Rattle.std.proofs.Common.{[], ◌∷◌, ◌++◌, cond, length, get_or, take, drop, map, replicate, refl}
-use Rattle.std.proofs.Common.{ap}
+use Rattle.std.proofs.Common.{ap, ◌≤◌, ◌^◌, min, sum_by}
+use Rattle.std.proofs.lemmas.List.Sums.{sum_by-cons}
 use Rattle.std.proofs.Common.{sym, ◌∙◌, arith, append_assoc, length-append}
 use Rattle.std.proofs.lemmas.Bool.{and_parts, and_from}
-use Rattle.std.proofs.lemmas.List.{at_drop_more, get_or_at, length-replicate, length_push}
+use Rattle.std.proofs.lemmas.List.{at_drop_more, drop_all, get_or_at, length-replicate}
+use Rattle.std.proofs.lemmas.List.{length_push}
 use Rattle.std.proofs.lemmas.List.{map-append, take_more}
 use Rattle.std.proofs.lemmas.List.Folds.{list_all-append}
 use Rattle.std.specs.List.{list_all, range_with_len}
@@ -249,3 +251,27 @@ is_opened cols lines texts places rows all noted =
     ap (λ texts. pager_of cols texts places rows) all
     ∙ ap (λ places. pager_of cols (broken_lines cols lines) places rows) noted
     ∙ ap (with_unquoted (opened cols lines rows)) (unquoted_texts cols lines)
+
+-- the bytes of lines
+abbrev pub bytes_in : List (Held ℕ) → ℕ
+bytes_in lines = sum_by length (map (λ (l : Held ℕ). l.items) lines)
+
+-- one more line is counted
+pub size_turn : (size new len all : ℕ) (lines : List (Held ℕ)) (n : ℕ) (line : Held ℕ)
+    → n < length lines → line ≡ get_or lines n line → len ≡ length line.items
+    → new ≡ min (size + len) (2 ^ 64 - 1)
+    → min (size + bytes_in (drop n lines)) (2 ^ 64 - 1) ≡ all
+    → min (new + bytes_in (drop (n + 1) lines)) (2 ^ 64 - 1) ≡ all
+size_turn size new len all lines n line below is long more before =
+    let total : bytes_in (drop n lines) ≡ length line.items + bytes_in (drop (n + 1) lines) =
+    ap (sum_by length) (lines_next lines n line below is)
+    ∙ sum_by-cons length line.items (map (λ (l : Held ℕ). l.items) (drop (n + 1) lines)) in
+    omega arith
+
+-- all lines are counted
+pub size_all : (size all : ℕ) (lines : List (Held ℕ)) (n : ℕ) → length lines ≤ n
+    → size ≤ 2 ^ 64 - 1
+    → min (size + bytes_in (drop n lines)) (2 ^ 64 - 1) ≡ all → size ≡ all
+size_all size all lines n past fits before =
+    let none : bytes_in (drop n lines) ≡ 0 = ap bytes_in (drop_all n lines past) in
+    omega arith

@@ -3,19 +3,24 @@ use Rattle.std.proofs.Common.{◌≡◌, ℕ, ◌+◌, ◌-◌, ◌%◌, ◌<◌
 use Rattle.std.proofs.Common.{[], ◌∷◌}
 use Rattle.std.proofs.Common.{◌++◌, ◌==◌, cond, drop, get_or, length, nat_le, subst, take, refl, ap}
 use Rattle.std.proofs.Common.{sym, ◌∙◌, arith}
-use Rattle.std.proofs.Common.{append_assoc}
+use Rattle.std.proofs.Common.{append_assoc, not, position, Some, None}
+use Rattle.std.specs.Prelude.{encode_utf8}
 use Rattle.std.proofs.Math.Nat.{add-mod-mod, mod-add-mod}
 use Rattle.std.proofs.lemmas.Bool.{and_from, and_parts, eqb-true, cond-true, cond-false, le-leb}
 use Rattle.std.proofs.lemmas.Bool.{lt-leb}
 use Rattle.std.proofs.lemmas.Bool.Decides.{nat_tests}
 use Rattle.std.proofs.lemmas.List.{append-nil, length-take-le, take-append-drop}
-use Rattle.std.proofs.lemmas.Str.{chars-IsAscii, encode_ascii}
+use Rattle.std.proofs.lemmas.List.Quantifiers.{position-Some}
+use Rattle.std.proofs.lemmas.List.Sums.{fails_before_first}
+use Rattle.std.proofs.lemmas.Str.{IsCharBoundary-from_take, IsUtf8-from_ascii, chars-IsAscii}
+use Rattle.std.proofs.lemmas.Str.{chars-append, chars-nil, chars_past_char, encode_ascii}
 use Rattle.std.specs.List.{list_all}
-use Rattle.std.specs.Str.{chars}
+use Rattle.std.specs.Str.{IsCharBoundary, IsUtf8, chars}
+use Rattle.mail_base.proofs.PlacesLemmas.{place_none}
 use Rattle.expando.specs.Columns.{columns_of}
 use Rattle.unicode_width.specs.Width.{char_width}
-use Rattle.pager.specs.Inner.{PlainBreaker, PlainTexts, is_printable, put, put_all, put_text}
-use Rattle.pager.specs.Inner.{with_room}
+use Rattle.pager.specs.Inner.{PlainBreaker, PlainTexts, is_printable, put, put_all}
+use Rattle.pager.specs.Inner.{put_shown, put_text, with_room}
 use Rattle.pager.specs.Written.{shown}
 use Rattle.pager.proofs.BreakerLemmas.{put-cols, put_here, put_next}
 
@@ -234,3 +239,68 @@ pub printable_text : (line : PlainBreaker) (text : List ℕ) → list_all is_pri
 printable_text line text are wide =
     put_text-printable line text are wide
     ∙ ap (put_text line) (sym (chars-IsAscii text (λ i. ascii_at text i are)))
+
+true_of : (t : Bool) → not t ≡ false → t ≡ true
+true_of true is = refl
+true_of false is = absurd (cc)
+
+printable_front : (k : ℕ) (s : List ℕ) → k ≤ length s
+    → ((j : ℕ) → j < k → not (is_printable (get_or s j 0)) ≡ false)
+    → list_all is_printable (take k s) ≡ true
+printable_front zero s within are = refl
+printable_front (suc k) [] within are = absurd (omega arith)
+printable_front (suc k) (c ∷ s) within are =
+    and_from _ _ (true_of _ (are 0 (omega arith)))
+    (printable_front k s (omega arith) (λ j below. are (suc j) (omega arith)))
+
+-- what stands before the first byte that is not printable is
+pub printable_before : (s : List ℕ) (k : ℕ) → position (λ b. not (is_printable b)) s ≡ Some k
+    → list_all is_printable (take k s) ≡ true
+printable_before s k found =
+    let first = position-Some (λ b. not (is_printable b)) s k 0 found in
+    printable_front k s (omega (arith, first.0)) first.2
+
+-- a text with no such byte is printable
+pub printable_whole : (s : List ℕ) → position (λ b. not (is_printable b)) s ≡ None
+    → list_all is_printable (take (length s) s) ≡ true
+printable_whole s none =
+    let past = place_none (λ b. not (is_printable b)) s none in
+    printable_front (length s) s (omega arith)
+    (λ j below. fails_before_first (λ b. not (is_printable b)) s j 0 (omega arith))
+
+-- a text may be cut behind printable bytes
+pub printable_cut : (text : List ℕ) (k : ℕ) → IsUtf8 text → k ≤ length text
+    → list_all is_printable (take k text) ≡ true → IsCharBoundary text k
+printable_cut text k utf8 within are =
+    IsCharBoundary-from_take text k utf8 within
+    (IsUtf8-from_ascii (take k text) (λ i. ascii_at (take k text) i are))
+
+put_text-append : (line : PlainBreaker) (cs ds : List ℕ)
+    → put_text line (cs ++ ds) ≡ put_text (put_text line cs) ds
+put_text-append line [] ds = refl
+put_text-append line (c ∷ cs) ds = put_text-append (put_shown line c) cs ds
+
+-- the printable front of a text is put, and then the others
+pub front_turn : (line new : PlainBreaker) (run rest text : List ℕ)
+    → list_all is_printable run ≡ true → 1 ≤ line.cols → text ≡ run ++ rest
+    → new ≡ put_all line run → put_text new (chars rest) ≡ put_text line (chars text)
+front_turn line new run rest text are wide whole puts =
+    ap (λ l. put_text l (chars rest)) (puts ∙ printable_text line run are wide)
+    ∙ sym (put_text-append line (chars run) (chars rest))
+    ∙ ap (put_text line)
+    (sym (chars-append run rest (IsUtf8-from_ascii run (λ i. ascii_at run i are))))
+    ∙ ap (λ t. put_text line (chars t)) (sym whole)
+
+-- the first character of a text is put, and then the others
+pub char_turn : (line new : PlainBreaker) (c : ℕ) (text rest : List ℕ) → IsUtf8 text
+    → text ≡ encode_utf8 c ++ rest → new ≡ put_shown line c
+    → put_text new (chars rest) ≡ put_text line (chars text)
+char_turn line new c text rest utf8 first puts =
+    ap (λ l. put_text l (chars rest)) puts
+    ∙ ap (put_text line) (sym (chars_past_char text rest c utf8 first))
+
+-- nothing is left of a text
+pub all_put : (line whole : PlainBreaker) (rest : List ℕ) → length rest ≡ 0
+    → put_text line (chars rest) ≡ whole → line ≡ whole
+all_put line whole [] none puts = sym (ap (put_text line) chars-nil) ∙ puts
+all_put line whole (b ∷ rest) none puts = absurd (omega arith)

@@ -1,6 +1,6 @@
 -- For the code alone: texts in one buffer, and a line as it is broken character by character.
 use Rattle.std.specs.Prelude.{◌+◌, ◌-◌, ◌%◌, ◌==◌, ◌&&◌, ℕ, zero, suc, Bool, nat_le, List, [], ◌∷◌}
-use Rattle.std.specs.Prelude.{◌++◌, length}
+use Rattle.std.specs.Prelude.{◌++◌, ◌^◌, length, min, sum_by}
 use Rattle.std.specs.Prelude.{slice_range, encode_utf8, if◌then◌else◌}
 use Rattle.std.specs.Int.{is_in_range}
 use Rattle.std.specs.List.{range_with_len}
@@ -94,6 +94,10 @@ unquoted_places cols place [] = []
 unquoted_places cols place (line ∷ lines) =
     unquoted_at cols place line
     ++ unquoted_places cols (place + length (broken cols line)) lines
+
+-- how many bytes texts have in all, as far as a number of 64 bits goes
+abbrev pub size_in : List (List ℕ) → ℕ
+size_in texts = min (sum_by length texts) (2 ^ 64 - 1)
 
 -- where one of these texts begins
 abbrev pub start_at : ℕ → List ℕ → ℕ → ℕ

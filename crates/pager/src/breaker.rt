@@ -1,7 +1,7 @@
 //! A line that is broken at its columns as it is written out.
 
 ghost use Rattle.std.specs.Prelude.{◌≡◌, ◌++◌, ◌∷◌, ◌<◌, ◌≤◌, [], true, IfOk, OnOk, chars, drop};
-ghost use Rattle.std.specs.Prelude.{length};
+ghost use Rattle.std.specs.Prelude.{◌-◌, length, not, position, take, IfSome};
 ghost use Rattle.std.specs.Char.{is_control};
 ghost use Rattle.std.specs.List.{list_all};
 ghost use Rattle.expando.specs.Columns.{blanks};
@@ -17,6 +17,11 @@ use std::marker::Model;
 
 // A tab goes to the next multiple of these columns.
 const TAB: usize = 8;
+
+// So many bytes are tested at once, as many as most lines have, and before that a few, one by one.
+const RUN: usize = 128;
+
+const FEW: usize = 8;
 
 /// Lines that are broken, and the one that is being broken.
 #[derive(Drop)]
@@ -55,6 +60,13 @@ impl Breaker {
             left: cols,
             past: 0,
         }
+    }
+
+    /// Makes room for so many more pieces and bytes.
+    pub fn reserve(&mut self, pieces: usize, bytes: usize) -> Result<(), NoMemory>
+        ensures { self.new ≡ self.old }
+    {
+        self.texts.reserve(pieces, bytes)
     }
 
     /// How many pieces there are.
@@ -135,16 +147,6 @@ impl Breaker {
         Ok(())
     }
 
-    // Writes out a text, character by character.
-    fn put_chars(&mut self, text: &str) -> Result<(), NoMemory>
-        ensures { OnOk result (self.new ≡ spec.put_text self.old (chars text.now)) }
-    {
-        for c in text.chars() {
-            self.put_shown(c)?;
-        }
-        Ok(())
-    }
-
     // Ends a piece in which no column is left.
     fn make_room(&mut self) -> Result<(), NoMemory>
         ensures { OnOk result (self.new ≡ spec.with_room self.old) }
@@ -187,18 +189,42 @@ impl Breaker {
         Ok(())
     }
 
+    // Writes out the first character of a text, and gives the others.
+    fn put_first<'a>(&mut self, text: &'a str) -> Result<&'a str, NoMemory>
+        ensures shorter { IfOk result (λ rest. length rest.now ≤ length text.now - 1) }
+        ensures put { IfOk result (λ rest. spec.put_text self.new (chars rest.now)
+            ≡ spec.put_text self.old (chars text.now)) }
+    {
+        let mut left = text.chars();
+        let Some(c) = left.next() else {
+            return Ok("");
+        };
+        self.put_shown(c)?;
+        Ok(left.as_str())
+    }
+
+    // Writes out the printable characters at the front of a text and the one behind them, and gives
+    // the others.
+    fn put_front<'a>(&mut self, text: &'a str) -> Result<&'a str, NoMemory>
+        ensures shorter { IfOk result (λ rest. length rest.now ≤ length text.now - 1) }
+        ensures put { IfOk result (λ rest. spec.put_text self.new (chars rest.now)
+            ≡ spec.put_text self.old (chars text.now)) }
+    {
+        // A field that is read tells that a wide character has room in the columns.
+        let _ = &self.cols;
+        let (run, rest) = split_printable(text);
+        self.put_printable(run.as_bytes())?;
+        self.put_first(rest)
+    }
+
     // Writes out a text; printable characters of US-ASCII stand as they are.
     fn put_text(&mut self, text: &str) -> Result<(), NoMemory>
         ensures { OnOk result (self.new ≡ spec.put_text self.old (chars text.now)) }
     {
-        // A field that is read tells that a wide character has room in the columns.
-        let _ = &self.cols;
-        let bytes = text.as_bytes();
-        if is_printable(bytes) {
-            self.put_printable(bytes)?;
-            return Ok(());
+        let mut rest = text;
+        while !rest.is_empty() {
+            rest = self.put_front(rest)?;
         }
-        self.put_chars(text)?;
         Ok(())
     }
 
@@ -209,7 +235,7 @@ impl Breaker {
             ≡ spec.fresh self.old.cols (self.old.done ++ broken self.old.cols line.now)) }
         ensures shown { list_all (is_shown self.old.cols) (broken self.old.cols line.now) ≡ true }
     {
-        // As in `put_text`.
+        // As in `put_front`.
         let _ = &self.cols;
         self.put_text(line)?;
         self.end_line()?;
@@ -217,11 +243,69 @@ impl Breaker {
     }
 }
 
-// Whether each byte is a printable character of US-ASCII.
+// The place of the first byte that is no printable character of US-ASCII.
+fn unprintable_at(text: &[u8]) -> Option<usize>
+    ensures value { result ≡ position (λ b. not (spec.is_printable b)) text.now }
+    ensures within { IfSome result (λ at. at < length text.now) }
+{
+    text.iter().position(|b| !(*b >= b' ' && *b <= b'~'))
+}
+
+// Whether each byte is a printable character of US-ASCII. No byte ends the loop, so that many are
+// tested at once.
 fn is_printable(text: &[u8]) -> bool
     ensures { result ≡ list_all spec.is_printable text.now }
 {
-    text.iter().all(|b| *b >= b' ' && *b <= b'~')
+    let mut all = true;
+    for b in text {
+        all &= *b >= b' ' && *b <= b'~';
+    }
+    all
+}
+
+// The first so many bytes, or all.
+fn front_of(text: &[u8], count: usize) -> &[u8]
+    ensures front { result.now ≡ take (length result.now) text.now }
+    ensures within { length result.now ≤ length text.now }
+{
+    let (front, _) = text.split_at(count.min(text.len()));
+    front
+}
+
+// How many printable characters of US-ASCII stand at the front.
+fn run_len(text: &[u8]) -> usize
+    ensures within { result ≤ length text.now }
+    ensures printable { list_all spec.is_printable (take result text.now) ≡ true }
+{
+    match unprintable_at(text) {
+        Some(at) => at,
+        None => text.len(),
+    }
+}
+
+// How many printable characters of US-ASCII stand at the front; where there are many, some of them.
+fn printable_len(text: &[u8]) -> usize
+    ensures within { result ≤ length text.now }
+    ensures printable { list_all spec.is_printable (take result text.now) ≡ true }
+{
+    let few = front_of(text, FEW);
+    let short = run_len(few);
+    if short < few.len() {
+        return short;
+    }
+    let run = front_of(text, RUN);
+    if is_printable(run) {
+        return run.len();
+    }
+    run_len(text)
+}
+
+// The printable characters of US-ASCII at the front of a text, and what follows them.
+fn split_printable(text: &str) -> (&str, &str)
+    ensures whole { text.now ≡ result.0.now ++ result.1.now }
+    ensures printable { list_all spec.is_printable result.0.now ≡ true }
+{
+    text.split_at(printable_len(text.as_bytes()))
 }
 
 // The character that stands behind `^` for a control character.

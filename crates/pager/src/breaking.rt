@@ -3,7 +3,7 @@
 ghost use Rattle.std.specs.Prelude.{◌≡◌, ◌++◌, length, map, true, OnOk};
 ghost use Rattle.std.specs.List.{list_all};
 ghost use Rattle.pager.specs.Broken.{broken, is_shown};
-ghost use Rattle.pager.specs.Inner.{fresh, unquoted_at, unquoted_places};
+ghost use Rattle.pager.specs.Inner.{fresh, size_in, unquoted_at, unquoted_places};
 ghost use Rattle.pager.specs.Pager.{broken_lines};
 
 use crate::breaker::Breaker;
@@ -31,6 +31,30 @@ fn break_line(
     }
     push_places(unquoted, from, breaker.len())?;
     Ok(())
+}
+
+// How many bytes lines have in all, as far as a number goes.
+fn size_of(lines: &[Line]) -> usize
+    ensures { result ≡ size_in (map (λ line. line.items) lines.now) }
+{
+    let mut size: usize = 0;
+    for line in lines {
+        size = size.saturating_add(line.len());
+    }
+    size
+}
+
+/// Makes room for a piece of each line, and for all their bytes.
+pub fn make_room(
+    breaker: &mut Breaker,
+    unquoted: &mut Series<usize>,
+    lines: &[Line],
+) -> Result<(), NoMemory>
+    ensures breaker { breaker.new ≡ breaker.old }
+    ensures unquoted { unquoted.new.items ≡ unquoted.old.items }
+{
+    breaker.reserve(lines.len(), size_of(lines))?;
+    unquoted.reserve(lines.len())
 }
 
 /// Breaks lines, and notes where the pieces of those stand that quote nothing.

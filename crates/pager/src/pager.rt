@@ -10,7 +10,7 @@ ghost use Rattle.pager.specs.Broken.{is_shown};
 ghost use Rattle.pager.specs.Pager as spec;
 
 use crate::breaker::Breaker;
-use crate::breaking::break_lines;
+use crate::breaking::{break_lines, make_room};
 use crate::texts::Texts;
 use mail_base::{Line, Lines, NoMemory, Series};
 use people::Expr;
@@ -55,7 +55,9 @@ impl Pager {
     {
         let mut breaker = Breaker::new(alloc, cols);
         let mut unquoted = Series::new(alloc);
-        break_lines(&mut breaker, &mut unquoted, lines.as_slice())?;
+        let list = lines.as_slice();
+        make_room(&mut breaker, &mut unquoted, list)?;
+        break_lines(&mut breaker, &mut unquoted, list)?;
         Ok(Pager {
             texts: breaker.into_texts(),
             unquoted,

@@ -39,6 +39,15 @@ impl Texts {
         }
     }
 
+    /// Makes room for so many more texts and bytes, first for the bytes: they may take the place of
+    /// the text that was decoded.
+    pub fn reserve(&mut self, texts: usize, bytes: usize) -> Result<(), NoMemory>
+        ensures { self.new ≡ self.old }
+    {
+        self.bytes.reserve(bytes)?;
+        self.ends.reserve(texts)
+    }
+
     /// How many texts are ended.
     pub fn len(&self) -> usize
         ensures { result ≡ length self.now.done }

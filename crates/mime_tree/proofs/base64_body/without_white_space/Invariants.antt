@@ -2,8 +2,8 @@ use Rattle.std.proofs.Common.{◌≡◌, ◌++◌, filter, length}
 use Rattle.mime_tree.specs.Base64Body.{is_solid}
 use Rattle.mime_tree.proofs.base64_body.without_white_space.Given as goal
 
-abbrev pub invariant-loop-run : goal.invariant-loop-run
-invariant-loop-run l = l.solid.items ++ filter is_solid l.left ≡ filter is_solid l.text
+abbrev pub invariant-loop-line : goal.invariant-loop-line
+invariant-loop-line l = l.solid.items ++ filter is_solid l.left ≡ filter is_solid l.text
 
-abbrev pub decreases-loop-run : goal.decreases-loop-run
-decreases-loop-run l = length l.left
+abbrev pub decreases-loop-line : goal.decreases-loop-line
+decreases-loop-line l = length l.left
