@@ -1,13 +1,16 @@
 -- States of a tree that others have made.
-use Rattle.std.proofs.Common.{◌≡◌, ◌≤◌, ◌<◌, ◌+◌, ◌-◌, ◌⊎◌, ℕ, zero, suc, Bool, true, false, List, Some, inl, inr, length}
+use Rattle.std.proofs.Common.{◌≡◌, ◌≤◌, ◌<◌, ◌+◌, ◌-◌, ◌⊎◌, ℕ, zero, suc, Bool, true, false, List}
+use Rattle.std.proofs.Common.{Some, inl, inr, length}
 use Rattle.std.proofs.Common.{refl, sym, ◌∙◌, ap, subst, arith}
 use Rattle.disk_model.specs.Journal.{Past}
 use Rattle.disk_model.specs.State.{tree_at}
 use Rattle.disk_model.specs.Tree.{TreeNode}
 use Rattle.folder_changes.specs.Worked.{WasCause, others_at}
 
-module _ (is_so : List TreeNode → Bool) (past : Past) (i : ℕ) (not_yet : is_so (tree_at past i) ≡ false)
-    (becomes : (k : ℕ) → i ≤ k → is_so (tree_at past k) ≡ false → is_so (tree_at past (k + 1)) ≡ true
+module _ (is_so : List TreeNode
+    → Bool) (past : Past) (i : ℕ) (not_yet : is_so (tree_at past i) ≡ false)
+    (becomes : (k : ℕ) → i ≤ k → is_so (tree_at past k) ≡ false
+    → is_so (tree_at past (k + 1)) ≡ true
     → others_at k past ≡ true) where
   record Since (j : ℕ) : Type 0 where
     since : ℕ
@@ -18,7 +21,8 @@ module _ (is_so : List TreeNode → Bool) (past : Past) (i : ℕ) (not_yet : is_
     is : since ≡ before + 1
     others : others_at before past ≡ true
 
-  next_of : (j : ℕ) → i ≤ j → is_so (tree_at past (j + 1)) ≡ true → (b : Bool) → is_so (tree_at past j) ≡ b
+  next_of : (j : ℕ) → i ≤ j → is_so (tree_at past (j + 1)) ≡ true → (b : Bool)
+      → is_so (tree_at past j) ≡ b
       → (b ≡ true → Since j) → Since (j + 1)
   next_of j low so true was earlier = let e : Since j = earlier refl in record {
     since = e.since;
@@ -33,7 +37,8 @@ module _ (is_so : List TreeNode → Bool) (past : Past) (i : ℕ) (not_yet : is_
       at_last : (k : ℕ) → k ≤ j + 1 → (k ≤ j) ⊎ (k ≡ j + 1)
       at_last k to = grind (arith, to)
 
-      by : (k : ℕ) → (earlier refl).since ≤ k → (k ≤ j) ⊎ (k ≡ j + 1) → is_so (tree_at past k) ≡ true
+      by : (k : ℕ) → (earlier refl).since ≤ k → (k ≤ j) ⊎ (k ≡ j + 1)
+          → is_so (tree_at past k) ≡ true
       by k from (inl low) = (earlier refl).stands k from low
       by k from (inr last) = ap (λ (x : ℕ). is_so (tree_at past x)) last ∙ so
 
@@ -58,12 +63,14 @@ module _ (is_so : List TreeNode → Bool) (past : Past) (i : ℕ) (not_yet : is_
       zero_more : i + 0 ≡ i
       zero_more = omega arith
   since_at (suc d) so = subst Since (sym one_more) (next_of (i + d) (omega arith)
-      (ap (λ (x : ℕ). is_so (tree_at past x)) (sym one_more) ∙ so) (is_so (tree_at past (i + d))) refl (λ so. since_at d so))
+      (ap (λ (x : ℕ). is_so (tree_at past x)) (sym one_more) ∙ so) (is_so (tree_at past (i + d)))
+      refl (λ so. since_at d so))
     where
       one_more : i + suc d ≡ i + d + 1
       one_more = omega arith
 
-  pub was_cause : (m n j : ℕ) → m ≤ i → i ≤ j → j ≤ n → is_so (tree_at past j) ≡ true → WasCause is_so m n past
+  pub was_cause : (m n j : ℕ) → m ≤ i → i ≤ j → j ≤ n → is_so (tree_at past j) ≡ true
+      → WasCause is_so m n past
   was_cause m n j first low last so = record {
     since = s.since;
     mark = j;

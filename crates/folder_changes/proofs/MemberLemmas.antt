@@ -1,5 +1,6 @@
 -- Which messages a Maildir reads as: those of its names, in order.
-use Rattle.std.proofs.Common.{◌≡◌, ◌⊎◌, inl, inr, ◌++◌, ◌||◌, Bool, true, false, List, [], ◌∷◌, Option}
+use Rattle.std.proofs.Common.{◌≡◌, ◌⊎◌, inl, inr, ◌++◌, ◌||◌, Bool, true, false, List, [], ◌∷◌}
+use Rattle.std.proofs.Common.{Option}
 use Rattle.std.proofs.Common.{Some, None, is_some, map, refl, sym, ◌∙◌, ap, subst, if◌then◌else◌, ℕ}
 use Rattle.std.proofs.lemmas.Bool.{and_parts}
 use Rattle.std.proofs.lemmas.Cmp.{on_total, then_total, back_total, nat_cmp_total}
@@ -22,7 +23,8 @@ use Rattle.mail_base.proofs.OrderedLemmas.{in_order_held, text_same, then_equal}
 use Rattle.folder_core.specs.Directory.{file_at}
 use Rattle.folder_core.specs.Maildir.{MaildirFile, all_files, base_of, comes_before, directory}
 use Rattle.folder_core.specs.Maildir.{file_cmp, files_in, is_shown, is_taken, maildir_messages}
-use Rattle.folder_core.specs.Maildir.{message_at, message_of, messages_behind, path_of, with_message}
+use Rattle.folder_core.specs.Maildir.{message_at, message_of, messages_behind, path_of}
+use Rattle.folder_core.specs.Maildir.{with_message}
 use Rattle.folder_core.specs.MaildirNames.{order_of}
 use Rattle.folder_core.specs.Message.{Message, stands_before}
 use Rattle.folder_core.proofs.NamesIn.{file_held, holds_name}
@@ -377,7 +379,8 @@ behind_rise tree path last (file ∷ files) up =
 -- its messages are in order
 pub messages_rise : (tree : List TreeNode) (path : List ℕ)
     → Rise stands_before (maildir_messages tree path)
-messages_rise tree path = behind_rise tree path None (in_order_by comes_before (all_files tree path))
+messages_rise tree path = behind_rise tree path None (in_order_by comes_before (all_files tree
+    path))
     (ordered_up comes_before file_order (all_files tree path))
 
 -- each is that of a name

@@ -1,5 +1,6 @@
 -- Steps of a call, one behind the other, that do what is wanted of the messages of a Maildir.
-use Rattle.std.proofs.Common.{◌≡◌, ◌≢◌, ◌≤◌, ◌<◌, ◌+◌, ◌-◌, ◌==◌, ◌⊎◌, inl, inr, ◌++◌, ◌&&◌, ◌||◌, ℕ}
+use Rattle.std.proofs.Common.{◌≡◌, ◌≢◌, ◌≤◌, ◌<◌, ◌+◌, ◌-◌, ◌==◌, ◌⊎◌, inl, inr, ◌++◌, ◌&&◌, ◌||◌}
+use Rattle.std.proofs.Common.{ℕ}
 use Rattle.std.proofs.Common.{zero, suc, Bool, true, false, List, [], ◌∷◌, Option, Some, None}
 use Rattle.std.proofs.Common.{option_map, map, length, take, drop, refl, sym, ◌∙◌, ap, subst, arith}
 use Rattle.std.proofs.Common.{nat_lt, if◌then◌else◌, append_assoc, length-append, ltb-true}
@@ -101,7 +102,12 @@ module _ (path : List ℕ) (past : Past) where
     to_by : (key : List ℕ) (what : Option PlainChange) → a key ≡ what
         → option_or what (b key) ≢ None → step_by what key < n
     to_by key None is some = next.works.to key some
-    to_by key (Some change) is some = omega (arith, high, first.works.to key (some_is key change is))
+    to_by key (Some change) is some = omega (
+      arith,
+      high,
+      first.works.to key (some_is key change
+          is),
+    )
 
     -- what is due before the middle is what is due of the first table
     due_before : (mark : ℕ) → mark < k → (key : List ℕ) (what : Option PlainChange)
@@ -252,7 +258,8 @@ module _ (path : List ℕ) (past : Past) (before front rest : List Entry)
         step = λ key. length before;
         from = λ key some. absurd (some refl);
         to = λ key some. absurd (some refl);
-        does = λ mark from to own. by_place mark (mark - length before) (omega (arith, from)) to own;
+        does = λ mark from to own. by_place mark (mark - length before) (omega (arith, from)) to
+            own;
       };
       single = λ mark from to. subst (λ (i : ℕ). IsSingleNamed path (tree_at past i))
           (place_is mark from) (single_at (mark - length before) (omega (arith, from, to)));

@@ -7,9 +7,11 @@ use Rattle.std.proofs.lemmas.Slice.Eq.{bytes_eq-Decides}
 use Rattle.mh_sequences.specs.Laws.{DropTakesOne, PutChangesOne, are_upright, has_upright}
 use Rattle.mh_sequences.specs.Ranges.{any_holds, holds as range_holds, one}
 use Rattle.mh_sequences.specs.SequenceLine.{PlainLine, Kept, Named, has_name, line_holds}
-use Rattle.mh_sequences.specs.SequenceLine.{with_number as line_with, without_number as line_without}
+use Rattle.mh_sequences.specs.SequenceLine.{with_number as line_with}
+use Rattle.mh_sequences.specs.SequenceLine.{without_number as line_without}
 use Rattle.mh_sequences.specs.Sequences.{holds, line_without_member, with_member, without_member}
-use Rattle.mh_sequences.proofs.HoldingLemmas.{holds_with, holds_without, not_or, or_swapped, or_three}
+use Rattle.mh_sequences.proofs.HoldingLemmas.{holds_with, holds_without, not_or, or_swapped}
+use Rattle.mh_sequences.proofs.HoldingLemmas.{or_three}
 use Rattle.mh_sequences.proofs.HoldingLemmas.{one_holds, one_upright}
 
 -- the number of the name

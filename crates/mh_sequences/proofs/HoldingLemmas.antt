@@ -7,7 +7,8 @@ use Rattle.std.proofs.lemmas.Bool.Decides.{nat_tests}
 use Rattle.std.proofs.lemmas.List.Folds.{list_any-append}
 use Rattle.mh_sequences.specs.declared.range.Range.{Range}
 use Rattle.mh_sequences.specs.Laws.{is_upright}
-use Rattle.mh_sequences.specs.Ranges.{any_holds, holds as range_holds, is_before, joined, one, parts}
+use Rattle.mh_sequences.specs.Ranges.{any_holds, holds as range_holds, is_before, joined, one}
+use Rattle.mh_sequences.specs.Ranges.{parts}
 use Rattle.mh_sequences.specs.Ranges.{with_range, without}
 
 -- the bounds of ranges that meet hold what either holds

@@ -9,7 +9,8 @@ use Rattle.std.proofs.lemmas.Bool.{and_parts}
 use Rattle.std.proofs.lemmas.Bool.Decides.{nat_tests}
 use Rattle.mh_sequences.specs.declared.range.Range.{Range}
 use Rattle.mh_sequences.specs.Laws.{is_upright}
-use Rattle.mh_sequences.specs.Ranges.{any_holds, begins_by, holds as range_holds, in_order, rises_from}
+use Rattle.mh_sequences.specs.Ranges.{any_holds, begins_by, holds as range_holds, in_order}
+use Rattle.mh_sequences.specs.Ranges.{rises_from}
 use Rattle.mh_sequences.proofs.RisingLemmas.{all_up, le_true, none_below, ordered_rises, up_bounds}
 use Rattle.mh_sequences.proofs.UprightLemmas.{ordered_upright}
 

@@ -9,7 +9,8 @@ use Rattle.std.proofs.lemmas.Bool.Decides.{nat_tests}
 use Rattle.std.proofs.lemmas.List.Sorted.{list_any-IsPermutation}
 use Rattle.mh_sequences.specs.declared.range.Range.{Range}
 use Rattle.mh_sequences.specs.Laws.{is_upright}
-use Rattle.mh_sequences.specs.Ranges.{added_to, any_holds, holds as range_holds, in_order, is_before}
+use Rattle.mh_sequences.specs.Ranges.{added_to, any_holds, holds as range_holds, in_order}
+use Rattle.mh_sequences.specs.Ranges.{is_before}
 use Rattle.mh_sequences.specs.Ranges.{joined}
 use Rattle.mh_sequences.specs.Ranges.{joined_behind, joined_sorted, rises_from, with_range}
 use Rattle.mh_sequences.proofs.HoldingLemmas.{holds_with, joined_holds, joined_upright, or_three}

@@ -19,7 +19,8 @@ use Rattle.mh_sequences.specs.Ranges.{with_range, without}
 use Rattle.mh_sequences.specs.SequenceLine.{PlainLine, Kept, Named, empty_line, has_name}
 use Rattle.mh_sequences.specs.SequenceLine.{is_name, line_of, named_by}
 use Rattle.mh_sequences.specs.SequenceLine.{named_line, ranges_from, with_word}
-use Rattle.mh_sequences.specs.SequenceLine.{with_number as line_with, without_number as line_without}
+use Rattle.mh_sequences.specs.SequenceLine.{with_number as line_with}
+use Rattle.mh_sequences.specs.SequenceLine.{without_number as line_without}
 use Rattle.mh_sequences.specs.Sequences.{any_has_name, holds, line_without_member, lines_from, put}
 use Rattle.mh_sequences.specs.Sequences.{with_member, with_name, without_member}
 use Rattle.mh_sequences.proofs.HoldingLemmas.{joined_upright, one_upright}

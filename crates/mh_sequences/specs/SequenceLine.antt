@@ -10,7 +10,8 @@ use Rattle.mail_base.specs.Places.{split_once}
 use Rattle.mh_sequences.specs.declared.range.Range.{Range}
 use Rattle.mh_sequences.specs.declared.sequence_line.SequenceLine.{SequenceLine}
 use Rattle.mh_sequences.specs.declared.sequence_line.SequenceLine.TheVariants as line
-use Rattle.mh_sequences.specs.Ranges.{any_holds, in_order, one, range_of, text_of, with_range, without}
+use Rattle.mh_sequences.specs.Ranges.{any_holds, in_order, one, range_of, text_of, with_range}
+use Rattle.mh_sequences.specs.Ranges.{without}
 
 -- a sequence by its name and its ranges, or any other line as it is
 pub data PlainLine : Type 0 where

@@ -6,7 +6,8 @@ use Rattle.mh_sequences.specs.declared.range.Range.{Range}
 use Rattle.mh_sequences.specs.declared.sequence_line.SequenceLine.{SequenceLine}
 use Rattle.mh_sequences.specs.SequenceLine.{PlainLine, empty_line, has_name, line_holds, line_of}
 use Rattle.mh_sequences.specs.SequenceLine.{line_text, plain_line, ranges_named}
-use Rattle.mh_sequences.specs.SequenceLine.{with_number as line_with, without_number as line_without}
+use Rattle.mh_sequences.specs.SequenceLine.{with_number as line_with}
+use Rattle.mh_sequences.specs.SequenceLine.{without_number as line_without}
 
 -- lines as contracts see them
 abbrev pub plain_lines : List SequenceLine → List PlainLine
