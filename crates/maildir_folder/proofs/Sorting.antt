@@ -19,7 +19,8 @@ use Rattle.mail_base.proofs.OrderedLemmas.{NeverFalls, in_order_permutation, in_
 use Rattle.mail_base.proofs.OrderedLemmas.{sorted_falls, text_same}
 use Rattle.mail_base.proofs.OrderedLemmas.{then_equal}
 use Rattle.maildir_folder.specs.declared.candidates.Candidate.{Candidate}
-use Rattle.maildir_folder.specs.Candidates.{IsCandidate, Rises, base_cmp, plain_file}
+use Rattle.folder_shapes.specs.Maildir.{base_cmp}
+use Rattle.maildir_folder.specs.Candidates.{IsCandidate, Rises, plain_file}
 
 true_false : ◌≡◌ {A = Bool} true false → ⊥
 true_false e = cc

@@ -4,13 +4,11 @@ use Rattle.std.proofs.Common.{◌∷◌}
 use Rattle.std.proofs.Common.{Option, Some, None, length, is_some, if◌then◌else◌, refl, sym, ◌∙◌}
 use Rattle.std.proofs.Common.{ap, subst, arith, append_assoc, append-nil}
 use Rattle.std.specs.Prelude.{option_map}
-use Rattle.std.specs.Cmp.{IsTotalOrder}
 use Rattle.std.specs.Cmp.Lexicographic.{slice_cmp}
 use Rattle.std.specs.Ordering.{is_lt, nat_cmp, ordering_reverse, ordering_then}
 use Rattle.std.specs.Str.{bytes_eq}
 use Rattle.std.specs.declared.cmp.Ordering.{Ordering}
 use Rattle.std.specs.declared.cmp.Ordering.TheVariants.{Less, Equal, Greater}
-use Rattle.std.proofs.lemmas.Cmp.{on_total, then_total, nat_cmp_total, nat_list_cmp_total}
 use Rattle.std.proofs.lemmas.List.Sorted.{ranks_by}
 use Rattle.std.proofs.lemmas.Slice.Eq.{bytes_eq-Decides}
 use Rattle.disk_model.specs.Journal.{Past}
@@ -41,7 +39,9 @@ use Rattle.std.proofs.lemmas.List.{map-append}
 use Rattle.folder_core.proofs.MessageLemmas.{key_last, key_more, order_more}
 use Rattle.mail_base.proofs.OrderedLemmas.{text_same, then_equal}
 use Rattle.folder_core.proofs.SeenLemmas.{goes_as, goes_then, longer_later, tree_before}
-use Rattle.maildir_folder.specs.Candidates.{NotBefore, Rises, base_cmp}
+use Rattle.folder_shapes.specs.Maildir.{base_cmp}
+use Rattle.folder_shapes.proofs.MaildirLemmas.{base_total}
+use Rattle.maildir_folder.specs.Candidates.{NotBefore, Rises}
 use Rattle.maildir_folder.specs.Walk.{AreWalked, HoldsCore, IsWalked, NextSeen, TakesNext}
 use Rattle.maildir_folder.specs.Walk.{fresh_bytes, fresh_read, keep_of}
 
@@ -49,9 +49,6 @@ true_false : ◌≡◌ {A = Bool} true false → ⊥
 true_false e = cc
 
 -- The order of bases.
-
-base_total : IsTotalOrder base_cmp
-base_total = then_total (on_total order_of nat_cmp_total) nat_list_cmp_total
 
 -- a base that does not stand before another one nor is it stands behind it
 stands_behind : (last base : List ℕ) → is_lt (base_cmp base last) ≡ false

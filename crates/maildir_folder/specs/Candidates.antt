@@ -1,14 +1,13 @@
 -- The files of a folder that may be messages, in the order of their messages.
 use Rattle.std.specs.Prelude.{◌≡◌, ℕ, true, false, not, List, [], ◌∷◌, ◌++◌, Option, Some, None}
 use Rattle.std.specs.Prelude.{map}
-use Rattle.std.specs.Cmp.Lexicographic.{slice_cmp}
-use Rattle.std.specs.Ordering.{is_lt, nat_cmp, ordering_then}
-use Rattle.std.specs.declared.cmp.Ordering.{Ordering}
+use Rattle.std.specs.Ordering.{is_lt}
 use Rattle.std.specs.Str.{IsUtf8}
 use Rattle.std.specs.List.{All}
 use Rattle.folder_core.specs.Maildir.{MaildirFile, base_of, comes_before, files_in, is_shown}
 use Rattle.folder_core.specs.MaildirNames.{order_of}
 use Rattle.mail_base.specs.Ordered.{in_order_by}
+use Rattle.folder_shapes.specs.Maildir.{base_cmp}
 use Rattle.maildir_folder.specs.declared.candidates.Candidate.{Candidate}
 
 -- a candidate by its directory and its name
@@ -21,10 +20,6 @@ pub record IsCandidate (c : Candidate) : Type 0 where
   pub base : c.base.items ≡ base_of (plain_file c)
   pub text : IsUtf8 c.name.items
   pub shown : is_shown c.name.items ≡ true
-
--- bases by their orders, and by their bytes where these are the same
-abbrev pub base_cmp : List ℕ → List ℕ → Ordering
-base_cmp a b = ordering_then (nat_cmp (order_of a) (order_of b)) (slice_cmp nat_cmp a b)
 
 -- a base does not stand before another one, where there is one
 abbrev pub NotBefore : Option (List ℕ) → List ℕ → Type 0

@@ -60,7 +60,7 @@ use Rattle.mh_folder.specs.declared.visit.Visit.{Visit}
 use Rattle.mh_folder.proofs.FolderLemmas.{sequences_unread}
 use Rattle.mh_folder.proofs.KnownFileLemmas.{all_rise, all_risen, found_borne, found_keeps}
 use Rattle.mh_folder.proofs.KnownFileLemmas.{found_size}
-use Rattle.mh_folder.proofs.NumberedNameLemmas.{numbers_held}
+use Rattle.folder_shapes.proofs.NumberLemmas.{numbers_held}
 use Rattle.mh_folder.proofs.StoreLemmas.{nearly_refusal, nearly_whole}
 use Rattle.mh_folder.proofs.TakeLemmas.{some_later}
 use Rattle.mh_folder.proofs.WalkLemmas.{stood_as}

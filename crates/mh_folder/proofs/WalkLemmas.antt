@@ -35,12 +35,13 @@ use Rattle.folder_core.proofs.ListedSoFarLemmas.{fewer_none, held_refusal, holds
 use Rattle.folder_core.proofs.ListedSoFarLemmas.{keeps_with, messages_with}
 use Rattle.folder_core.proofs.MessageLemmas.{key_last, key_more, order_more}
 use Rattle.folder_core.proofs.SeenLemmas.{goes_as, goes_then, longer_later, tree_before}
-use Rattle.mh_folder.specs.NumberedName.{IsNumbered, Rises, plain_names}
+use Rattle.folder_shapes.specs.Mh.{Rises}
+use Rattle.mh_folder.specs.NumberedName.{IsNumbered, plain_names}
 use Rattle.mh_folder.specs.Visit.{Course, old_mails}
 use Rattle.mh_folder.specs.Walk.{AreKept, Finding, IsFile, IsNothing, IsStored, IsWalked}
 use Rattle.mh_folder.specs.Walk.{Keeps, Kept, MessageMet, Nearly, Takes, stamps_with}
 use Rattle.mh_folder.specs.declared.numbered_name.NumberedName.{NumberedName}
-use Rattle.mh_folder.proofs.NumberedNameLemmas.{Stands, rises_first, rises_skipped}
+use Rattle.folder_shapes.proofs.NumberLemmas.{Stands, rises_first, rises_skipped}
 use Rattle.mh_folder.proofs.StoreLemmas.{nearly_found, nearly_refusal, nearly_same, nearly_then}
 
 true_false : ◌≡◌ {A = Bool} true false → ⊥

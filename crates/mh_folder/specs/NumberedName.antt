@@ -1,8 +1,9 @@
 -- Names that are numbers of messages, in the order of the messages.
-use Rattle.std.specs.Prelude.{◌≡◌, ℕ, true, List, [], ◌∷◌, Option, Some, None, map}
+use Rattle.std.specs.Prelude.{◌≡◌, ℕ, List, Some, None, map}
 use Rattle.std.specs.List.{All}
 use Rattle.std.specs.Str.{IsUtf8}
-use Rattle.folder_core.specs.Mh.{comes_before, numbers_of}
+use Rattle.folder_core.specs.Mh.{numbers_of}
+use Rattle.folder_shapes.specs.Mh.{Rises}
 use Rattle.folder_core.specs.MhNumbers.{number_of}
 use Rattle.mh_folder.specs.declared.numbered_name.NumberedName.{NumberedName}
 
@@ -18,12 +19,6 @@ plain_name n = n.name.items
 -- numbered names as contracts see them
 abbrev pub plain_names : List NumberedName → List (List ℕ)
 plain_names files = map plain_name files
-
--- each name stands before the next, and the first behind this one
-abbrev pub Rises : Option (List ℕ) → List (List ℕ) → Type 0
-Rises last [] = Unit {0}
-Rises None (name ∷ names) = Rises (Some name) names
-Rises (Some last) (name ∷ names) = (comes_before last name ≡ true) × Rises (Some name) names
 
 -- The numbers among these names, in order.
 pub record AreInOrder (names : List (List ℕ)) (files : List NumberedName) : Type 0 where

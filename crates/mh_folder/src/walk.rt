@@ -14,7 +14,8 @@ ghost use Rattle.folder_core.specs.Directory.{path_in as path_in_lem};
 ghost use Rattle.folder_core.specs.ListedSoFar.{IsEmpty, LooksWithin, store_of};
 ghost use Rattle.folder_core.specs.Looked.{FitsLimit, IsContent, Looked, content_read};
 ghost use Rattle.mh_sequences.specs.Marks.{AreMarks};
-ghost use Rattle.mh_folder.specs.NumberedName.{IsNumbered, Rises, plain_names};
+ghost use Rattle.folder_shapes.specs.Mh.{Rises};
+ghost use Rattle.mh_folder.specs.NumberedName.{IsNumbered, plain_names};
 ghost use Rattle.mh_folder.specs.Visit.{BeginsWell, Course, IsCourse, IsFileCourse};
 ghost use Rattle.mh_folder.specs.Walk as spec;
 

@@ -1,0 +1,5 @@
+pub mod Nodes
+pub mod Sorting
+pub mod NumberLemmas
+pub mod MaildirLemmas
+pub mod MhLemmas

@@ -1,0 +1,4 @@
+pub mod Reading
+pub mod Maildir
+pub mod Mh
+pub mod Laws
