@@ -13,6 +13,5 @@ pub mod All
 pub mod Entries
 pub mod Sought
 pub mod Kept
-pub mod Joined
 pub mod Scores
 pub mod ScoreEntries

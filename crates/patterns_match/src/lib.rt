@@ -11,7 +11,6 @@ mod body;
 mod dates;
 mod entry;
 mod found;
-mod joined;
 mod kept;
 mod laws;
 mod letter;

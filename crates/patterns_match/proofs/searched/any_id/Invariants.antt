@@ -1,7 +1,7 @@
 use Rattle.std.proofs.Common.{◌≡◌, length}
 use Rattle.std.specs.List.{list_any}
 use Rattle.headers.specs.Ids.{ids}
-use Rattle.patterns_match.specs.Joined.{whole}
+use Rattle.joined_texts.specs.Joined.{whole}
 use Rattle.patterns_match.specs.Sought.{sought_found}
 use Rattle.patterns_match.proofs.searched.any_id.Given as goal
 

@@ -4,7 +4,7 @@ use Rattle.std.proofs.lemmas.Result.{IfOk-weaker}
 use Rattle.std.specs.Prelude.{codes}
 use Rattle.headers.specs.FoldedField.{continued}
 use Rattle.patterns_match.specs.Sought.{sought_found}
-use Rattle.patterns_match.proofs.JoinedLemmas.{no_lines}
+use Rattle.joined_texts.proofs.JoinedLemmas.{no_lines}
 use Rattle.patterns_match.proofs.searched.person_found.Goals as goal
 
 -- no line continues a person

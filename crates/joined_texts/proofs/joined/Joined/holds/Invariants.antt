@@ -1,6 +1,6 @@
 use Rattle.std.proofs.Common.{◌≡◌, length}
-use Rattle.patterns_match.specs.Joined.{holds, joined}
-use Rattle.patterns_match.proofs.joined.Joined.holds.Given as goal
+use Rattle.joined_texts.specs.Joined.{holds, joined}
+use Rattle.joined_texts.proofs.joined.Joined.holds.Given as goal
 
 -- it stands in what is left or nowhere
 abbrev pub invariant-loop-text : goal.invariant-loop-text

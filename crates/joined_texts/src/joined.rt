@@ -3,12 +3,11 @@
 ghost use Rattle.std.specs.Prelude.{◌≡◌, ◌∷◌, ◌<◌, [], Some, IfSome, IfNone, IfOk, length};
 ghost use Rattle.std.specs.Prelude.{option_map, if◌then◌else◌};
 ghost use Rattle.std.specs.Char.{to_ascii_lowercase};
-ghost use Rattle.people.specs.Expr.{is_folded, literal_found};
 ghost use Rattle.std.specs.List.{list_any};
 ghost use Rattle.std.specs.Char.{is_ascii_uppercase};
 ghost use Rattle.headers.specs.FoldedField.{plain_folded};
 ghost use Rattle.headers.specs.Ids.{ids};
-ghost use Rattle.patterns_match.specs.Joined as spec;
+ghost use Rattle.joined_texts.specs.Joined as spec;
 
 use headers::{FoldedField, next_continuation};
 use mail_base::{Bytes, NoMemory};
@@ -25,9 +24,9 @@ pub struct Joined<'a> {
     pub last: Option<u8>,
 }
 
-// Which bytes are equal in a search.
+/// Which bytes are equal in a search.
 #[derive(Clone, Copy)]
-enum Case {
+pub enum Case {
     Regarded,
     Folded,
 }
@@ -214,9 +213,10 @@ impl<'a> Joined<'a> {
         true
     }
 
-    /// Whether the literal stands in the text.
+    /// Whether the literal stands in the text; one without capital letters is found whatever the
+    /// case of the text's letters.
     pub fn holds(self, literal: &[u8]) -> bool
-        ensures { result ≡ literal_found literal.now (spec.joined self.entry) }
+        ensures { result ≡ spec.is_there literal.now (spec.joined self.entry) }
     {
         let case = Case::of(literal);
         let mut text = self;

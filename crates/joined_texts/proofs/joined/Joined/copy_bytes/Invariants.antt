@@ -1,6 +1,6 @@
 use Rattle.std.proofs.Common.{◌≡◌, ◌++◌, length}
-use Rattle.patterns_match.specs.Joined.{joined}
-use Rattle.patterns_match.proofs.joined.Joined.copy_bytes.Given as goal
+use Rattle.joined_texts.specs.Joined.{joined}
+use Rattle.joined_texts.proofs.joined.Joined.copy_bytes.Given as goal
 
 abbrev pub invariant-loop-byte : goal.invariant-loop-byte
 invariant-loop-byte l = l.text.items ++ joined l.left ≡ joined l.fn.self

@@ -1,13 +1,12 @@
--- For the code alone: texts in several pieces, and literals at their front.
+-- Texts in several pieces, and literals in them.
 use Rattle.std.specs.Prelude.{◌==◌, ◌&&◌, ◌||◌, ◌++◌, ℕ, Bool, true, false, List, [], ◌∷◌}
 use Rattle.std.specs.Prelude.{Option, Some, None, if◌then◌else◌}
-use Rattle.std.specs.Char.{to_ascii_lowercase}
-use Rattle.std.specs.List.{flat_map}
+use Rattle.std.specs.Char.{is_ascii_uppercase, to_ascii_lowercase}
+use Rattle.std.specs.List.{flat_map, list_any}
 use Rattle.headers.specs.FoldedField.{continued}
-use Rattle.people.specs.Expr.{is_folded}
-use Rattle.patterns_match.specs.declared.joined.Case.{Case}
-use Rattle.patterns_match.specs.declared.joined.Case.TheVariants.{Regarded, Folded}
-use Rattle.patterns_match.specs.declared.joined.Joined.{Joined}
+use Rattle.joined_texts.specs.declared.joined.Case.{Case}
+use Rattle.joined_texts.specs.declared.joined.Case.TheVariants.{Regarded, Folded}
+use Rattle.joined_texts.specs.declared.joined.Joined.{Joined}
 
 -- a text up to the byte that ends it, if there is one
 abbrev pub up_to : Option ℕ → List ℕ → List ℕ
@@ -43,9 +42,9 @@ abbrev pub are_equal : Case → ℕ → ℕ → Bool
 are_equal Regarded b c = b == c
 are_equal Folded b c = to_ascii_lowercase b == to_ascii_lowercase c
 
--- the case that a search for a literal regards
+-- a literal with a capital letter is searched for as it is written
 abbrev pub case_of : List ℕ → Case
-case_of literal = if is_folded literal then Folded else Regarded
+case_of literal = if list_any is_ascii_uppercase literal then Regarded else Folded
 
 -- the literal stands at the front
 abbrev pub begins : Case → List ℕ → List ℕ → Bool
@@ -57,3 +56,7 @@ begins case (b ∷ text) (c ∷ literal) = are_equal case b c && begins case tex
 abbrev pub holds : Case → List ℕ → List ℕ → Bool
 holds case [] literal = begins case [] literal
 holds case (b ∷ text) literal = begins case (b ∷ text) literal || holds case text literal
+
+-- the literal stands somewhere, by the case that a search for it regards
+abbrev pub is_there : List ℕ → List ℕ → Bool
+is_there literal text = holds (case_of literal) text literal

@@ -1,6 +1,6 @@
 use Rattle.std.proofs.Common.{◌≡◌, length}
-use Rattle.patterns_match.specs.Joined.{behind_first, whole}
-use Rattle.patterns_match.proofs.joined.Joined.behind_first.Given as goal
+use Rattle.joined_texts.specs.Joined.{behind_first, whole}
+use Rattle.joined_texts.proofs.joined.Joined.behind_first.Given as goal
 
 -- the byte stands in what is left or nowhere
 abbrev pub invariant-loop-first : goal.invariant-loop-first

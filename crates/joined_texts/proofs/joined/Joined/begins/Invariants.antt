@@ -1,6 +1,6 @@
 use Rattle.std.proofs.Common.{◌≡◌, length}
-use Rattle.patterns_match.specs.Joined.{begins, joined}
-use Rattle.patterns_match.proofs.joined.Joined.begins.Given as goal
+use Rattle.joined_texts.specs.Joined.{begins, joined}
+use Rattle.joined_texts.proofs.joined.Joined.begins.Given as goal
 
 -- what is left stands at the front of what is left
 abbrev pub invariant-loop-left : goal.invariant-loop-left

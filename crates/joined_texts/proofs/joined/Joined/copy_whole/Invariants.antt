@@ -1,8 +1,8 @@
 use Rattle.std.proofs.Common.{◌≡◌, ◌++◌, length}
 use Rattle.std.specs.List.{flat_map}
 use Rattle.headers.specs.FoldedField.{continued}
-use Rattle.patterns_match.specs.Joined.{whole}
-use Rattle.patterns_match.proofs.joined.Joined.copy_whole.Given as goal
+use Rattle.joined_texts.specs.Joined.{whole}
+use Rattle.joined_texts.proofs.joined.Joined.copy_whole.Given as goal
 
 abbrev pub invariant-loop-left : goal.invariant-loop-left
 invariant-loop-left l =

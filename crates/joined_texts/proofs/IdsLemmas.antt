@@ -9,7 +9,7 @@ use Rattle.std.specs.List.{position_or_len}
 use Rattle.mail_base.specs.Fronts.{◌>>=◌}
 use Rattle.mail_base.specs.Places.{around, split_once}
 use Rattle.headers.specs.Ids.{PlainFoundId, first_id, id_of, ids, ids_from, ids_with}
-use Rattle.patterns_match.specs.Joined.{before_first, behind_first, ends, up_to}
+use Rattle.joined_texts.specs.Joined.{before_first, behind_first, ends, up_to}
 
 -- a text behind its first byte
 pub up_to_next : (last : Option ℕ) (b : ℕ) (text : List ℕ)

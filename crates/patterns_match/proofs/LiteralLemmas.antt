@@ -1,24 +1,17 @@
 -- Literals in texts of several pieces.
 use Rattle.std.proofs.Common.{◌≡◌, ◌∙◌, ◌||◌, ◌&&◌, ◌+◌, ◌==◌, ℕ, zero, suc, Bool, true, false}
 use Rattle.std.proofs.Common.{List, [], ◌∷◌, length, refl, sym, ap, arith, take, drop, zero-add}
-use Rattle.std.specs.Prelude.{nat_le, if◌then◌else◌}
+use Rattle.std.specs.Prelude.{nat_le, not, if◌then◌else◌}
+use Rattle.std.specs.Char.{is_ascii_uppercase}
 use Rattle.std.proofs.Math.Bool.{or-false}
 use Rattle.std.proofs.lemmas.Bool.{le-leb}
 use Rattle.std.proofs.Math.Dec.{leb-suc-suc, leb-suc-zero}
 use Rattle.std.specs.List.{list_any, range_with_len}
 use Rattle.std.specs.Str.{bytes_eq, str_to_ascii_lowercase}
-use Rattle.bstr.specs.Text.{lines_from}
-use Rattle.headers.specs.FoldedField.{continued}
 use Rattle.memchr.specs.Find.{occurs_at}
-use Rattle.people.specs.Expr.{is_folded, literal_found, stands_in}
-use Rattle.patterns_match.specs.Joined.{are_equal, begins, case_of, holds}
-use Rattle.patterns_match.specs.declared.joined.Case.{Case}
-use Rattle.patterns_match.specs.declared.joined.Case.TheVariants.{Regarded, Folded}
-
--- no line stands in nothing
-pub no_lines : continued [] ≡ []
-unfolding lines_from
-no_lines = refl
+use Rattle.people.specs.Expr.{literal_found, stands_in}
+use Rattle.joined_texts.specs.Joined.{are_equal, begins, holds, is_there}
+use Rattle.joined_texts.specs.declared.joined.Case.TheVariants.{Regarded, Folded}
 
 and_swap : (a b c : Bool) → (a && (b && c)) ≡ (b && (a && c))
 and_swap true b c = refl
@@ -89,31 +82,11 @@ lower_holds (b ∷ t) l =
     (lower_holds t l)
 
 -- a literal is found by the case that it regards
-pub found_by_case : (t l : List ℕ) → holds (case_of l) t l ≡ literal_found l t
+pub found_by_case : (t l : List ℕ) → is_there l t ≡ literal_found l t
 found_by_case t l =
-    elim (is_folded l) as (λ b. holds (if b then Folded else Regarded) t l
-    ≡ (if b then stands_in (str_to_ascii_lowercase l) (str_to_ascii_lowercase t)
+    elim (list_any is_ascii_uppercase l) as (λ b. holds (if b then Regarded else Folded) t l
+    ≡ (if not b then stands_in (str_to_ascii_lowercase l) (str_to_ascii_lowercase t)
     else stands_in l t)) [
-      | true ↦ lower_holds t l ∙ somewhere (str_to_ascii_lowercase t) (str_to_ascii_lowercase l)
-      | false ↦ somewhere t l
+      | true ↦ somewhere t l
+      | false ↦ lower_holds t l ∙ somewhere (str_to_ascii_lowercase t) (str_to_ascii_lowercase l)
     ]
-
-begins_holds : (case : Case) (t l : List ℕ) → begins case t l ≡ true → holds case t l ≡ true
-begins_holds case [] l e = e
-begins_holds case (b ∷ t) l e = ap (λ r. r || holds case t l) e
-
--- what a search tells where the literal stands at the front of what is left, and at the end
-pub found_front : (case : Case) (left text literal : List ℕ) → case ≡ case_of literal
-    → holds case left literal ≡ holds case text literal → begins case left literal ≡ true
-    → true ≡ literal_found literal text
-found_front case left text literal is same here =
-    sym (begins_holds case left literal here) ∙ same
-    ∙ ap (λ k. holds k text literal) is ∙ found_by_case text literal
-
-pub found_nowhere : (case : Case) (left text literal : List ℕ) → case ≡ case_of literal
-    → holds case left literal ≡ holds case text literal → begins case left literal ≡ false
-    → left ≡ []
-    → false ≡ literal_found literal text
-found_nowhere case left text literal is same none ended =
-    sym none ∙ ap (λ t. begins case t literal) ended ∙ sym (ap (λ t. holds case t literal) ended)
-    ∙ same ∙ ap (λ k. holds k text literal) is ∙ found_by_case text literal

@@ -1,7 +1,7 @@
 use Rattle.std.proofs.Common.{◌∙◌, sym}
-use Rattle.patterns_match.specs.Joined.{joined}
-use Rattle.patterns_match.proofs.JoinedLemmas.{found_front, found_nowhere}
-use Rattle.patterns_match.proofs.joined.Joined.holds.Goals as goal
+use Rattle.joined_texts.specs.Joined.{joined}
+use Rattle.joined_texts.proofs.JoinedLemmas.{found_front, found_nowhere}
+use Rattle.joined_texts.proofs.joined.Joined.holds.Goals as goal
 
 pub returns-then-begins : goal.returns-then-begins
 returns-then-begins c =

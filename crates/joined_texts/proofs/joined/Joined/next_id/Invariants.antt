@@ -1,6 +1,6 @@
 use Rattle.std.proofs.Common.{◌≡◌, ◌≤◌, length}
-use Rattle.patterns_match.specs.Joined.{behind_first, whole}
-use Rattle.patterns_match.proofs.joined.Joined.next_id.Given as goal
+use Rattle.joined_texts.specs.Joined.{behind_first, whole}
+use Rattle.joined_texts.proofs.joined.Joined.next_id.Given as goal
 
 -- a bracket is opened in what is left or nowhere
 abbrev pub invariant-loop-first : goal.invariant-loop-first

@@ -1,8 +1,8 @@
 use Rattle.std.proofs.Common.{◌≡◌, ◌++◌, length}
 use Rattle.std.specs.List.{flat_map}
 use Rattle.headers.specs.FoldedField.{continued}
-use Rattle.patterns_match.specs.Joined.{whole}
-use Rattle.patterns_match.proofs.joined.Joined.next_byte.Given as goal
+use Rattle.joined_texts.specs.Joined.{whole}
+use Rattle.joined_texts.proofs.joined.Joined.next_byte.Given as goal
 
 abbrev pub invariant-loop-rest : goal.invariant-loop-rest
 invariant-loop-rest l =

@@ -1,8 +1,8 @@
 use Rattle.std.proofs.Common.{◌∙◌, ◌∷◌, length, sym, ap, arith}
 use Rattle.headers.specs.Ids.{ids}
-use Rattle.patterns_match.specs.Joined.{whole}
-use Rattle.patterns_match.proofs.IdsLemmas.{behind_shorter, ids_none, ids_open, ids_some}
-use Rattle.patterns_match.proofs.joined.Joined.next_id.Goals as goal
+use Rattle.joined_texts.specs.Joined.{whole}
+use Rattle.joined_texts.proofs.IdsLemmas.{behind_shorter, ids_none, ids_open, ids_some}
+use Rattle.joined_texts.proofs.joined.Joined.next_id.Goals as goal
 
 pub returns-then-first-eq60-clause-some : goal.returns-then-first-eq60-clause-some
 returns-then-first-eq60-clause-some c =
