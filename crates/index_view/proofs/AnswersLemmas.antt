@@ -10,7 +10,7 @@ use Rattle.index_view.specs.Answers.{Facts, links_of, ordered, rows_of, scored}
 use Rattle.index_view.specs.Ordering.{with_number}
 use Rattle.index_view.specs.Tables.{first_row_at, first_rows, no_row, scored_at, table}
 
-abbrev number : Row → ℕ
+abbrev pub number : Row → ℕ
 number r = r.id.0
 
 first_numbers : (ls : List PlainListed) (f : Facts)
@@ -19,7 +19,7 @@ first_numbers ls f =
     map-map number (first_row_at ls f.items (links_of ls f)) (range_with_len 0 (length ls))
     ∙ map_at (λ (l : PlainListed). l.id.0) ls no_listed
 
-scored_numbers : (ls : List PlainListed) (f : Facts) → map number (scored ls f) ≡ ids ls
+pub scored_numbers : (ls : List PlainListed) (f : Facts) → map number (scored ls f) ≡ ids ls
 scored_numbers ls f =
     let rows = first_rows ls f.items (links_of ls f) in
     map-map number (scored_at f.people f.scores (table ls rows (links_of ls f)) rows)

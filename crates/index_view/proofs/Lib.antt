@@ -13,3 +13,4 @@ pub mod JoinLemmas
 pub mod LinesLemmas
 pub mod LawLemmas
 pub mod JudgingLemmas
+pub mod FoldLemmas

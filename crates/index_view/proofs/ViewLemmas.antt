@@ -3,7 +3,7 @@ use Rattle.std.specs.Prelude.{if◌then◌else◌}
 use Rattle.std.proofs.Common.{Bool, false, true, ◌∷◌, []}
 use Rattle.index_items.specs.Alteration.{shut}
 use Rattle.index_view.specs.Shutting.{all_shut, is_root, shut_where}
-use Rattle.std.proofs.Common.{◌≡◌, ◌∙◌, ℕ, List, Some, length, nat_eq, refl}
+use Rattle.std.proofs.Common.{◌≡◌, ◌∙◌, ℕ, List, Some, ap, length, map, nat_eq, refl}
 use Rattle.std.proofs.Common.{subst, sym}
 use Rattle.std.proofs.lemmas.Simd.{map-map}
 use Rattle.std.specs.List.{IsDistinct}
@@ -32,6 +32,19 @@ listed_ids mails items =
     map-map (λ (l : PlainListed). l.id.0) (listed_with mails) (ids_of items)
     ∙ map-map (λ (id : Id). id.0) (λ (i : PlainItem). i.id) items
 
+abbrev id_of : ℕ → Id
+id_of n = record { 0 = n }
+
+-- messages with the same ids have the same letters
+pub same_listed : (mails : List Mail) (items others : List PlainItem)
+    → numbers items ≡ numbers others → all_listed mails items ≡ all_listed mails others
+same_listed mails items others same =
+    map-map (listed_with mails) (λ (i : PlainItem). i.id) items
+    ∙ sym (map-map (λ n. listed_with mails (id_of n)) (λ (i : PlainItem). i.id.0) items)
+    ∙ ap (map (λ n. listed_with mails (id_of n))) same
+    ∙ map-map (λ n. listed_with mails (id_of n)) (λ (i : PlainItem). i.id.0) others
+    ∙ sym (map-map (listed_with mails) (λ (i : PlainItem). i.id) others)
+
 keeps_id : (alteration : Alteration) (i : PlainItem) → (altered_by alteration i).id ≡ i.id
 keeps_id (Pending delta deleted) i = refl
 keeps_id (Tag mark) i = refl
@@ -39,7 +52,7 @@ keeps_id (Shut mark) i = refl
 
 -- an alteration leaves the ids as they are
 module _ (alteration : Alteration) (id : Id) (items : List PlainItem) where
-  same_numbers : numbers (alter_at id (altered_by alteration) items) ≡ numbers items
+  pub same_numbers : numbers (alter_at id (altered_by alteration) items) ≡ numbers items
   same_numbers = altered_numbers (altered_by alteration) (keeps_id alteration) id items
 
   pub altered_within : (count : ℕ) → AreWithin count (numbers items)
@@ -58,16 +71,9 @@ module _ (mark : Bool) (a : PlainAnswers) where
       by_root true = refl
       by_root false = refl
 
-  shut_numbers : (items : List PlainItem) → numbers (all_shut mark a items) ≡ numbers items
+  pub shut_numbers : (items : List PlainItem) → numbers (all_shut mark a items) ≡ numbers items
   shut_numbers [] = refl
   shut_numbers (i ∷ items) = λ k. same_id i k ∷ shut_numbers items k
-
-  pub shut_within : (count : ℕ) (items : List PlainItem) → AreWithin count (numbers items)
-      → AreWithin count (numbers (all_shut mark a items))
-  shut_within count items within = subst (AreWithin count) (sym (shut_numbers items)) within
-
-  pub shut_apart : (items : List PlainItem) → AreApart items → AreApart (all_shut mark a items)
-  shut_apart items apart = subst (IsDistinct nat_eq) (sym (shut_numbers items)) apart
 
 -- a view that was given others than another one, and answers what is worked out of them
 pub turned_over : (mails : List Mail) (old new : PlainView) (all : PlainAnswers)

@@ -160,6 +160,11 @@ picked people pattern messages a =
 
 -- For the code alone.
 
+-- What was answered of the same listed messages, by the same facts but for what the user changed.
+pub record WereAnswered (ls : List PlainListed) (f : Facts) (a : PlainAnswers) : Type 0 where
+  pub items : List PlainItem
+  pub are : a ≡ answers ls (record f { items = items })
+
 -- facts by what the code has of them
 abbrev pub facts : ViewOptions → List Item → Tables → Facts
 facts options items tables = record {

@@ -1,5 +1,5 @@
 -- The listed messages as patterns see them.
-use Rattle.std.specs.Prelude.{ℕ, pos, Bool, false, List, length, map, slice_index_or}
+use Rattle.std.specs.Prelude.{◌≡◌, ◌<◌, ℕ, pos, Bool, false, List, length, map, slice_index_or}
 use Rattle.std.specs.List.{range_with_len}
 use Rattle.people.specs.People.{PlainPeople}
 use Rattle.patterns_match.specs.Listings.{Message}
@@ -95,3 +95,16 @@ scored_rows people entries messages rows =
 -- the messages of the code as patterns see them
 abbrev pub seen_of : Messages → List Message
 seen_of m = table (map plain_listed m.listed.now) m.rows.now m.links.now
+
+-- the message at a place scores the same by two lists of rows
+abbrev pub ScoreAlike : List Row → List Row → Type 0
+ScoreAlike rows others = (p : ℕ) → p < length rows
+    → (row_at rows p).score ≡ (row_at others p).score
+
+-- the message at a place with its score and with the number that it had
+abbrev pub renumbered_at : List Row → List Row → ℕ → Row
+renumbered_at rows scored p = record (row_at scored p) { number = (row_at rows p).number }
+
+-- the messages with their scores and with the numbers that they had
+abbrev pub renumbered : List Row → List Row → List Row
+renumbered rows scored = map (renumbered_at rows scored) (range_with_len 0 (length scored))

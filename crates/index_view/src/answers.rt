@@ -29,11 +29,12 @@ use crate::limiting::all_within;
 use crate::marks::marks;
 use crate::messages::Messages;
 use crate::ordering::{keys, numbered};
-use crate::rows::{first_rows, scored_rows};
+use crate::rows::{first_rows, renumbered, score_alike, scored_rows};
 use crate::tables::Tables;
 use index_items::Item;
 use index_listed::{
-    Links, Listed, Places, Sight, Stance, Threaded, in_threads, places_of, stances,
+    Links, Listed, Places, Sight, Stance, Threaded, in_threads, moved_by_shutting, places_of,
+    stances,
 };
 use index_order::{ViewOptions, order};
 use index_rows::{Shut, Ties};
@@ -257,8 +258,9 @@ fn tell_unread(sight: &mut Sight, rows: &[Row], stances: &[Stance])
 
 impl Answers {
     ghost use Rattle.std.specs.Prelude.{◌≡◌, ◌<◌, length, map, option_map, slice_index_or, IfOk};
-    ghost use Rattle.std.specs.Prelude.{find, slice_set, IfSome};
+    ghost use Rattle.std.specs.Prelude.{find, slice_set, IfSome, OnErr, OnOk};
     ghost use Rattle.index_items.specs.Items.{plain_item};
+    ghost use Rattle.index_listed.specs.Cursor.{moved_by_shutting};
     ghost use Rattle.index_listed.specs.Listed.{plain_listed};
     ghost use Rattle.index_listed.specs.Seen.{sight, visible_ids};
     ghost use Rattle.index_listed.specs.Threading as threading;
@@ -327,17 +329,19 @@ impl Answers {
         })
     }
 
-    /// What of the messages is seen under another limit, which stands in the tables.
-    pub fn limited(
+    /// What of the messages is seen with these rows, and under the limit that stands in the tables.
+    pub fn seen_with(
         &self,
         alloc: Global,
         tables: &mut Tables,
         listed: &[Listed<'_>],
+        rows: &[Row],
     ) -> Result<Sight, NoMemory>
-        requires { length self.now.rows ≡ length listed.now }
-        ensures value { IfOk result (λ s. s ≡ sight (marks_of self.now.rows
+        requires listed { length self.now.rows ≡ length listed.now }
+        requires rows { length rows.now ≡ length listed.now }
+        ensures value { IfOk result (λ s. s ≡ sight (marks_of rows.now
             (all_within tables.old.people (option_map plain_pattern tables.old.limit)
-            (table (map plain_listed listed.now) self.now.rows self.now.links)))
+            (table (map plain_listed listed.now) rows.now self.now.links)))
             self.now.sight.order self.now.stances) }
         ensures same { tables.new ≡ tables.old }
     {
@@ -347,10 +351,48 @@ impl Answers {
             tables,
             listed,
             &self.links,
-            &self.rows,
+            rows,
             order,
             &self.stances,
         )
+    }
+
+    /// Puts in what is answered now that threads were shut or opened, and says where the cursor
+    /// goes. Threads, parents, links and ties stay, and so does the order where each message scores
+    /// what it did.
+    pub fn fold(
+        &mut self,
+        alloc: Global,
+        options: ViewOptions,
+        tables: &mut Tables,
+        items: &[Item],
+        listed: &[Listed<'_>],
+        cursor: Option<Id>,
+    ) -> Result<Option<Id>, NoMemory>
+        requires items { length items.now ≡ length listed.now }
+        requires apart { threading.AreApart (map plain_listed listed.now) }
+        requires were { spec.WereAnswered (map plain_listed listed.now)
+            (spec.facts options items.now tables.old) self.old }
+        ensures ok { OnOk result (self.new ≡ spec.answers (map plain_listed listed.now)
+            (spec.facts options items.now tables.old)) }
+        ensures err { OnErr result (self.new ≡ self.old) }
+        ensures cursor { IfOk result (λ c. c ≡ moved_by_shutting self.new.sight
+            (visible_ids self.old.sight) (visible_ids self.new.sight) cursor) }
+        ensures same { tables.new ≡ tables.old }
+    {
+        let scored = scored(alloc, tables, items, listed, &self.links)?;
+        if !score_alike(&self.rows, &scored) {
+            let answers = Answers::of(alloc, options, tables, items, listed)?;
+            let cursor = moved_by_shutting(&self.sight, &answers.sight, cursor);
+            *self = answers;
+            return Ok(cursor);
+        }
+        let rows = renumbered(alloc, &self.rows, &scored)?;
+        let sight = self.seen_with(alloc, tables, listed, &rows)?;
+        let cursor = moved_by_shutting(&self.sight, &sight, cursor);
+        self.rows = rows;
+        self.sight = sight;
+        Ok(cursor)
     }
 
     /// What is seen.

@@ -1,7 +1,7 @@
 //! What is shown of the listed messages.
 
-ghost use Rattle.std.specs.Prelude.{◌≡◌, ◌<◌, length, map, IfOk};
-ghost use Rattle.index_items.specs.Items.{plain_item, plain_items};
+ghost use Rattle.std.specs.Prelude.{◌≡◌, ◌<◌, length, map, true, IfOk};
+ghost use Rattle.index_items.specs.Items.{plain_items};
 ghost use Rattle.index_listed.specs.Listed.{plain_listed};
 ghost use Rattle.index_view.specs.Tables as spec;
 ghost use Rattle.patterns_match.specs.ScoreEntries.{held_entries};
@@ -14,23 +14,7 @@ use patterns_match::{Row, Scores};
 use people::People;
 use std::alloc::Global;
 
-// What is shown of a message but for its number and score.
-fn first_row(listed: &Listed<'_>, item: Item, collapsed: bool) -> Row
-    ensures { result ≡ spec.first_row (plain_listed listed.now) (plain_item item) collapsed }
-{
-    Row {
-        id: listed.id,
-        number: 0,
-        flags: item.shown(),
-        deleted: item.pending.deleted,
-        tagged: item.tagged,
-        collapsed,
-        score: 0,
-        received: listed.letter.received,
-        size: listed.text().len() as u64,
-    }
-}
-
+// What is shown of the message at a place but for its number and score.
 fn first_row_at(listed: &[Listed<'_>], items: &[Item], links: &[Links], place: usize) -> Row
     requires listed { place < length listed.now }
     requires items { place < length items.now }
@@ -39,8 +23,19 @@ fn first_row_at(listed: &[Listed<'_>], items: &[Item], links: &[Links], place: u
         links.now place }
 {
     let root = links[place].root;
-    let collapsed = root < items.len() && items[root].shut;
-    first_row(&listed[place], items[place], collapsed)
+    let item = items[place];
+    let message = &listed[place];
+    Row {
+        id: message.id,
+        number: 0,
+        flags: item.shown(),
+        deleted: item.pending.deleted,
+        tagged: item.tagged,
+        collapsed: root < items.len() && items[root].shut,
+        score: 0,
+        received: message.letter.received,
+        size: message.text().len() as u64,
+    }
 }
 
 /// What is shown of the messages but for numbers and scores.
@@ -102,6 +97,33 @@ pub fn scored_rows(
     let mut all = Vec::with_capacity(alloc, rows.len())?;
     for place in 0..rows.len() {
         all.push(scored_at(alloc, scores, people, messages, rows, place)?)?;
+    }
+    Ok(all)
+}
+
+/// Whether messages score what they did.
+pub fn score_alike(rows: &[Row], scored: &[Row]) -> bool
+    requires { length rows.now ≡ length scored.now }
+    ensures { result ≡ true → spec.ScoreAlike rows.now scored.now }
+{
+    for place in 0..rows.len() {
+        if rows[place].score != scored[place].score {
+            return false;
+        }
+    }
+    true
+}
+
+/// The messages with their scores and with the numbers that they had.
+pub fn renumbered(alloc: Global, rows: &[Row], scored: &[Row]) -> Result<Vec<Row>, NoMemory>
+    requires { length rows.now ≡ length scored.now }
+    ensures { IfOk result (λ all. all.items ≡ spec.renumbered rows.now scored.now) }
+{
+    let mut all = Vec::with_capacity(alloc, scored.len())?;
+    for place in 0..scored.len() {
+        let mut row = scored[place];
+        row.number = rows[place].number;
+        all.push(row)?;
     }
     Ok(all)
 }

@@ -16,7 +16,7 @@ use crate::tables::Tables;
 use folder_letters::{Archive, Changes, Found, Letter};
 use headers::Header;
 use index_items::{Act, Alteration, Item, Items, altered, ids_of, joined, settled};
-use index_listed::{Listed, all_listed as with_letters, moved, moved_by_shutting, read_heads};
+use index_listed::{Listed, all_listed as with_letters, moved, read_heads};
 use index_order::ViewOptions;
 use mail_base::{Delta, Id, Kind, NoMemory};
 use patterns_match::{Pattern, Scores};
@@ -26,7 +26,7 @@ use std::marker::Model;
 
 /// A view of a folder's listed messages: what the user changed of them, how they stand in threads
 /// and in order, what of them is seen under a limit and shut threads, and where the cursor stands.
-/// Each call that changes something works all out from scratch beside what stands; one that is
+/// Each call that changes something works out beside what stands what hangs on it; one that is
 /// refused leaves all as before.
 #[derive(Drop)]
 pub struct View {
@@ -194,26 +194,24 @@ impl View {
         Ok(())
     }
 
-    // Puts in what is answered now that a thread was shut or opened.
-    fn fold(&mut self, answers: Answers)
-        ensures { self.new ≡ spec.folded self.old answers }
-    {
-        self.cursor = moved_by_shutting(self.answers.sight(), answers.sight(), self.cursor);
-        self.answers = answers;
-    }
-
-    // Puts in messages of which threads were shut or opened, with the same headers.
+    // Puts in the same messages, of which threads were shut or opened.
     fn put_folded(&mut self, archive: &Archive, items: Vec<Item>) -> Result<(), NoMemory>
-        requires heads { AreHeads self.old.heads (map plain_letter archive.now.items) }
-        requires within { AreWithin (length self.old.heads) (numbers (plain_items items.items)) }
-        requires apart { spec.AreApart (plain_items items.items) }
+        requires is_of { spec.IsOf (map plain_letter archive.now.items) self.old }
+        requires same { numbers (plain_items items.items) ≡ numbers self.old.items }
         ensures ok { OnOk result (spec.Folded (map plain_letter archive.now.items) self.old self.new
             (record (spec.facts_of self.old) { items = plain_items items.items })) }
         ensures err { OnErr result (self.new ≡ self.old) }
     {
-        let answers = self.answers_for(archive, &items)?;
+        let listed = all_listed(self.alloc, archive.as_slice(), &self.heads, &items)?;
+        self.cursor = self.answers.fold(
+            self.alloc,
+            self.options,
+            &mut self.tables,
+            &items,
+            &listed,
+            self.cursor,
+        )?;
         self.items = Items::from_vec(items);
-        self.fold(answers);
         Ok(())
     }
 
@@ -227,7 +225,11 @@ impl View {
         let letters = archive.as_slice();
         let listed = all_listed(self.alloc, letters, &self.heads, self.items.as_slice())?;
         let old = std::mem::replace(&mut self.tables.limit, limit);
-        match self.answers.limited(self.alloc, &mut self.tables, &listed) {
+        let rows = self.answers.rows();
+        match self
+            .answers
+            .seen_with(self.alloc, &mut self.tables, &listed, rows)
+        {
             Ok(sight) => {
                 self.cursor = moved(self.answers.sight(), &sight, self.cursor);
                 self.answers.put_sight(sight);

@@ -1,30 +1,14 @@
-use Rattle.std.proofs.Common.{◌≡◌, ◌∙◌, ap, length, subst, sym}
-use Rattle.std.proofs.Common.{List}
+use Rattle.std.proofs.Common.{◌∙◌, ap}
 use Rattle.index_items.specs.Alteration.{alter_at, altered_by}
-use Rattle.index_items.specs.Items.{PlainItem, numbers, plain_items}
-use Rattle.index_listed.specs.Heads.{AreWithin}
-use Rattle.index_view.specs.View.{AreApart, PlainView}
+use Rattle.index_items.specs.Items.{numbers}
+use Rattle.index_view.specs.View.{PlainView}
 use Rattle.index_items.specs.declared.alteration.Alteration.TheVariants.{Shut}
-use Rattle.index_view.proofs.ViewLemmas.{altered_apart, altered_within}
+use Rattle.index_view.proofs.ViewLemmas.{same_numbers}
 use Rattle.index_view.proofs.view.View.collapse.Goals as goal
 
-pub put_folded-requires-clause-within : goal.put_folded-requires-clause-within
-put_folded-requires-clause-within c =
+pub put_folded-requires-clause-same : goal.put_folded-requires-clause-same
+put_folded-requires-clause-same c =
     let alteration = Shut c.args.shut in
-    let items : plain_items c.in_ok-items.items.items
-    ≡ alter_at c.args.root (altered_by alteration) c.args.self.now.items = c.in_ok-items.ensures
-    ∙ ap (alter_at c.args.root (altered_by alteration))
-    (c.as_slice.ensures ∙ ap (λ (v : PlainView). v.items) c.self.view_is) in
-    subst (λ (l : List PlainItem). AreWithin (length c.args.self.now.heads) (numbers l))
-    (sym items) (altered_within alteration c.args.root c.args.self.now.items
-    (length c.args.self.now.heads) c.requires.within)
-
-pub put_folded-requires-clause-apart : goal.put_folded-requires-clause-apart
-put_folded-requires-clause-apart c =
-    let alteration = Shut c.args.shut in
-    let items : plain_items c.in_ok-items.items.items
-    ≡ alter_at c.args.root (altered_by alteration) c.args.self.now.items = c.in_ok-items.ensures
-    ∙ ap (alter_at c.args.root (altered_by alteration))
-    (c.as_slice.ensures ∙ ap (λ (v : PlainView). v.items) c.self.view_is) in
-    subst AreApart (sym items)
-    (altered_apart alteration c.args.root c.args.self.now.items c.requires.apart)
+    let items = c.as_slice.ensures ∙ ap (λ (v : PlainView). v.items) c.self.view_is in
+    ap numbers (c.in_ok-items.ensures ∙ ap (alter_at c.args.root (altered_by alteration)) items)
+    ∙ same_numbers alteration c.args.root c.args.self.now.items
