@@ -3,6 +3,7 @@ use Rattle.std.proofs.Common.{◌≡◌, ◌≢◌, ◌≤◌, ◌<◌, ◌+◌,
 use Rattle.std.proofs.Common.{[]}
 use Rattle.std.proofs.Common.{◌∷◌, Option, Some, None, option_map, map, length, refl, sym, ◌∙◌, ap}
 use Rattle.std.proofs.Common.{subst, arith, append_assoc, length-append, is_none, Result, Ok, take}
+use Rattle.std.proofs.Common.{Err}
 use Rattle.std.proofs.Common.{if◌then◌else◌}
 use Rattle.std.proofs.lemmas.Bool.{and_parts}
 use Rattle.std.proofs.lemmas.Slice.Eq.{bytes_eq-Decides}
@@ -13,13 +14,16 @@ use Rattle.mail_base.specs.declared.flags.Flags.{Flags}
 use Rattle.mail_base.specs.declared.kind.Kind.TheVariants.{Maildir}
 use Rattle.disk_model.specs.Journal.{Action, Answer, Call, Done, Entry, ListDir, MakeDir, Others}
 use Rattle.disk_model.specs.Journal.{Own, Past, Refused, Remove, Rename, SyncDir}
-use Rattle.disk_model.specs.Judge.{IsLonger, OneStep, answer_by, done_by}
+use Rattle.disk_model.specs.Judge.{IsLonger, OneStep, StepBy, answer_by, done_by}
 use Rattle.disk_model.specs.Looking.{HasLooked, all_look, looks}
 use Rattle.disk_model.specs.Refusals.{refusal}
 use Rattle.disk_model.specs.State.{State, after_done, after_entry, name_in, run_entries, state_at}
 use Rattle.disk_model.specs.State.{state_of, tree_at, tree_of, with_folder}
 use Rattle.disk_model.specs.Tree.{TreeNode, is_folder_node, is_root, node_at}
 use Rattle.disk_model.specs.declared.answers.DiskError.{DiskError}
+use Rattle.disk_model.specs.declared.answers.DiskError.TheVariants.{Missing, WrongNode, Exists}
+use Rattle.disk_model.specs.declared.answers.DiskError.TheVariants.{Long, Fault, NoMemory}
+use Rattle.disk_model.proofs.Looking.{looked_same}
 use Rattle.disk_model.proofs.Marks.{length_longer, look_keeps, refusal_keeps}
 use Rattle.disk_model.proofs.Trees.{node_at-tree_of, node_by}
 use Rattle.index_items.specs.Changes.{PlainChange, Alters, Discards}
@@ -364,3 +368,29 @@ removed_does path file old new shown step =
       taken_single path (base_of file) (tree_of state) next single takes,
       taken_reads path (base_of file) (tree_of state) next single takes,
     )) step
+
+-- a refused call that leaves the messages, whatever it wrote
+pub refused_does : {A : Type 0} (path : List ℕ) (why : DiskError) (call : Call)
+    (asked : List TreeNode → Result A DiskError) (old new : Past)
+    → ((w : DiskError) (wrote : ℕ) → LeavesMessages path (Own call (Refused w wrote)))
+    → StepBy (Err why) call asked old new → DoesWanted path nothing_wanted old new
+refused_does {A} path why call asked old new leaves step = by why step
+  where
+    by_answer : (w v : DiskError) (wrote : ℕ) (step : OneStep {A = A} (Err w) call asked old new)
+        → step.answer ≡ Refused v wrote → DoesWanted path nothing_wanted old new
+    by_answer w v wrote step is = segment_does path old new (record {
+      same_first = step.same_first;
+      more = map Others step.actions ++ Own call step.answer ∷ [];
+      journal = step.journal;
+    }) (step_leaves path step.actions (Own call step.answer)
+        (subst (λ (a : Answer). LeavesMessages path (Own call a)) (sym is) (leaves v wrote)))
+
+    by : (w : DiskError) → StepBy {A = A} (Err w) call asked old new
+        → DoesWanted path nothing_wanted old new
+    by NoMemory same = subst (λ (p : Past). DoesWanted path nothing_wanted old p) (sym same)
+        (looked_does path old old (looked_same old))
+    by Fault step = by_answer Fault Fault step.answered.0 step step.answered.1
+    by Missing step = by_answer Missing Missing 0 step step.answered
+    by WrongNode step = by_answer WrongNode WrongNode 0 step step.answered
+    by Exists step = by_answer Exists Exists 0 step step.answered
+    by (Long size) step = by_answer (Long size) (Long size) 0 step step.answered

@@ -1,10 +1,12 @@
 //! What a call that writes does to the messages of a folder, step by step: definitions, and their
-//! laws as the contracts of functions that do nothing. No driver writes yet.
+//! laws as the contracts of functions that do nothing; and why such a call is refused.
 #![tactic(auto)]
 
 mod laws;
+mod sync_error;
 
 pub use laws::{
     causes_are_found_or_made_by_others, own_removals_take_files, own_renames_rename_files,
     renamed_files_change_one_message, steps_alone_do_what_is_wanted, taken_files_take_one_message,
 };
+pub use sync_error::{Spot, SyncError};

@@ -49,8 +49,8 @@ pub fn changes(alloc: Global, kind: Kind, purge: bool, items: &[Item]) -> Result
     Ok(changes)
 }
 
-// The first change of each number below a bound.
-fn table_of(alloc: Global, bound: usize, changes: &[Changed1]) -> Result<ById<Change>, NoMemory>
+/// The first change of each number below a bound.
+pub fn table_of(alloc: Global, bound: usize, changes: &[Changed1]) -> Result<ById<Change>, NoMemory>
     requires { spec.AreBelow bound changes.now }
     ensures { IfOk result (λ t. spec.Tells t (spec.plain_changes changes.now)) }
 {

@@ -19,7 +19,7 @@ mod tally;
 pub use act::{Act, Mark};
 pub use alteration::{Alteration, altered};
 pub use by_id::ById;
-pub use change::{changes, settled};
+pub use change::{changes, settled, table_of};
 pub use found::joined;
 pub use item::{Item, ids_of};
 pub use items::Items;

@@ -8,3 +8,10 @@ pub mod Walking
 pub mod WalkSteps
 pub mod Finding
 pub mod Driving
+pub mod RenamingLemmas
+pub mod NamedFileLemmas
+pub mod StepLemmas
+pub mod PlanLemmas
+pub mod ChangingLemmas
+pub mod ApartLemmas
+pub mod SyncedLemmas

@@ -51,7 +51,7 @@ true_false e = cc
 -- The order of bases.
 
 -- a base that does not stand before another one nor is it stands behind it
-stands_behind : (last base : List ℕ) → is_lt (base_cmp base last) ≡ false
+pub stands_behind : (last base : List ℕ) → is_lt (base_cmp base last) ≡ false
     → bytes_eq last base ≡ false
     → is_lt (base_cmp last base) ≡ true
 stands_behind last base above other = by_cmp (base_cmp base last) refl above

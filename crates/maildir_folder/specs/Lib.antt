@@ -2,7 +2,13 @@ pub mod MaildirName
 pub mod BaseOrder
 pub mod Candidates
 pub mod Files
+pub mod NamedFile
 pub mod KnownBase
+pub mod Renaming
+pub mod Steps
+pub mod Plan
+pub mod Changing
+pub mod Synced
 pub mod Walk
 pub mod Scan
 pub mod Laws

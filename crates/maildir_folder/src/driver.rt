@@ -10,22 +10,50 @@ ghost use Rattle.folder_core.specs.MaildirNames.{order_of};
 ghost use Rattle.folder_core.specs.Right.{Right};
 ghost use Rattle.folder_core.specs.Scanned.{Scans};
 ghost use Rattle.maildir_folder.specs.KnownBase.{CanSearch};
+ghost use Rattle.index_items.specs.Changes.{plain_changes};
 ghost use Rattle.maildir_folder.specs.Scan as spec;
+ghost use Rattle.maildir_folder.specs.Synced.{AreListed, AreOnce, Syncs};
 
 use crate::files::list_files;
+use crate::syncing::sync_folder;
 use crate::walk::take_all;
 use disk_model::{Device, Disk};
+use folder_changes::SyncError;
 use folder_core::{Archive, Driver, Found, Known, ListedSoFar, Listing, ScanError, put_listing};
+use folder_letters::Changes;
 use mail_base::{Bytes, Kind, NoMemory, Stamps};
 use std::alloc::Global;
 
-/// Reads folders of a file a message (maildir(5)).
+/// Reads folders of a file a message (maildir(5)), and does changes to their files.
 #[derive(Drop)]
 pub struct MaildirDriver;
 
 impl MaildirDriver {
     pub fn new() -> Self {
         MaildirDriver
+    }
+
+    /// Renames the files of messages whose flags change, and removes those of discarded ones. All
+    /// files are looked for before the first of them is touched. After Ok the known listing is the
+    /// old one with the changes; after a refusal it is as before, and the folder may have a part of
+    /// the changes.
+    pub fn sync(
+        &self,
+        alloc: Global,
+        dev: &mut Device,
+        known: &mut Known,
+        archive: &Archive,
+        changes: &Changes,
+    ) -> Result<(), SyncError>
+        requires right { Right Maildir (map plain_letter archive.now.items) known.old
+            (seen (dev.old.disk.vtable, dev.old.disk.value)).told }
+        requires listed { AreListed known.old.listing (plain_changes changes.now.items) }
+        requires once { AreOnce (plain_changes changes.now.items) }
+        ensures { Syncs (map plain_letter archive.now.items) (plain_changes changes.now.items)
+            known.old known.new result (seen (dev.old.disk.vtable, dev.old.disk.value))
+            (seen (dev.new.disk.vtable, dev.new.disk.value)) }
+    {
+        sync_folder(alloc, &mut *dev.disk, known, archive, changes.as_slice())
     }
 }
 

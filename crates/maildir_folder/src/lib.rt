@@ -1,15 +1,22 @@
 //! Folders of a file a message (maildir(5)): what the names of their files tell, and the driver
-//! that scans a folder, `MaildirDriver`. `read_name` takes a name apart, `make_name` puts it
-//! together, `order_of` gives the place of a message in its folder.
+//! that scans a folder and changes its files, `MaildirDriver`. `read_name` takes a name apart,
+//! `make_name` puts it together, `order_of` gives the place of a message in its folder.
 #![tactic(auto)]
 
 mod base_order;
 mod candidates;
+mod changing;
 mod driver;
 mod files;
+mod gone;
 mod known_base;
 mod laws;
 mod maildir_name;
+mod named_file;
+mod plan;
+mod renaming;
+mod steps;
+mod syncing;
 mod walk;
 
 pub use base_order::order_of;

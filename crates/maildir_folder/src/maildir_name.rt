@@ -73,7 +73,7 @@ fn is_other(letter: u8) -> bool
 }
 
 // The letters that stand for no flag.
-fn other_letters(alloc: Global, letters: &[u8]) -> Result<Bytes, NoMemory>
+pub fn other_letters(alloc: Global, letters: &[u8]) -> Result<Bytes, NoMemory>
     ensures { IfOk result (λ b. b.items ≡ filter spec.is_other letters.now) }
 {
     let mut others = Bytes::new(alloc);

@@ -270,8 +270,8 @@ fn is_taken(last: Option<&[u8]>, base: &[u8]) -> bool
     }
 }
 
-// The path of a file.
-fn file_path(alloc: Global, path: &str, file: &Candidate) -> Result<String, NoMemory>
+/// The path of a file.
+pub fn file_path(alloc: Global, path: &str, file: &Candidate) -> Result<String, NoMemory>
     requires { IsCandidate file.now }
     ensures { IfOk result (λ at. string_bytes at ≡ path_of path.now (plain_file file.now)) }
 {

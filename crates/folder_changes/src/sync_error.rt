@@ -1,0 +1,44 @@
+//! Why a folder was not written.
+
+use mail_base::{Bytes, NoMemory};
+
+/// What in a folder is not as it is known.
+#[derive(Drop)]
+pub enum Spot {
+    /// A file, or a folder of files, at this path.
+    Name(Bytes),
+    /// The folder's file, from this place on.
+    At(u64),
+}
+
+/// Why a folder was not written.
+#[derive(Drop)]
+pub enum SyncError {
+    /// The folder's lock is that of others.
+    Locked,
+    /// A write to the folder was begun and not finished, and is not ours to finish.
+    Unfinished,
+    /// The folder is not as it is known.
+    Changed(Spot),
+    /// The folder holds so many messages, or would, more than are listed.
+    TooMany(u64),
+    /// The folder holds so many bytes, or would, more than are read.
+    TooLarge(u64),
+    /// The disk failed, and has counted it.
+    Fault,
+    /// Memory ran out.
+    NoMemory,
+    /// What stands at the path is no folder.
+    NotFolder,
+}
+
+impl From<NoMemory> for SyncError {
+    ghost use Rattle.std.specs.Prelude.{◌≡◌};
+    ghost use Rattle.folder_changes.specs.declared.sync_error.SyncError.TheVariants.{NoMemory};
+
+    ghost from_gives = { λ _ e. e ≡ NoMemory };
+
+    fn from(_: NoMemory) -> Self {
+        SyncError::NoMemory
+    }
+}

@@ -1,0 +1,195 @@
+-- What a sync did, by its parts.
+use Rattle.std.proofs.Common.{◌≡◌, ◌<◌, ℕ, List, [], Result, Ok, Err, length, map, sym, ◌∙◌, ap}
+use Rattle.std.proofs.Common.{subst}
+use Rattle.std.proofs.lemmas.List.{length-map}
+use Rattle.mail_base.specs.declared.kind.Kind.TheVariants.{Maildir}
+use Rattle.disk_model.specs.Journal.{Past}
+use Rattle.disk_model.specs.Looking.{OnlyLooks}
+use Rattle.disk_model.specs.Seen.{Seen}
+use Rattle.disk_model.proofs.Looking.{looks_grows, looks_same}
+use Rattle.folder_core.proofs.SeenLemmas.{only_same}
+use Rattle.folder_changes.specs.declared.sync_error.SyncError.TheVariants.{NoMemory}
+use Rattle.maildir_folder.proofs.StepLemmas.{did_none, looks_did}
+use Rattle.std.specs.Prelude.{IsErrOf, Option}
+use Rattle.mail_base.specs.Faults.{Rose}
+use Rattle.mail_base.specs.declared.kind.Id.{Id}
+use Rattle.index_items.specs.Changes.{AreBelow, Changed, plain_changes}
+use Rattle.folder_letters.specs.Letters.{Mail, plain_letter}
+use Rattle.folder_letters.specs.declared.change.Changed1.{Changed1}
+use Rattle.folder_letters.specs.declared.letter.Letter.{Letter}
+use Rattle.folder_letters.specs.declared.listing.Listed.{Listed}
+use Rattle.folder_core.specs.Known.{KnownFolder}
+use Rattle.folder_core.specs.Right.{Right}
+use Rattle.folder_changes.specs.declared.sync_error.SyncError.{SyncError}
+use Rattle.folder_changes.specs.declared.sync_error.SyncError.TheVariants.{Fault}
+use Rattle.folder_core.specs.Maildir.{MaildirFile}
+use Rattle.folder_core.specs.declared.error.ScanError.{ScanError}
+use Rattle.folder_core.specs.declared.error.ScanError.TheVariants.{Fault as ScanFault}
+use Rattle.maildir_folder.specs.Changing.{listing_synced}
+use Rattle.maildir_folder.specs.Plan.{IsPlanRefusal, ids_changed}
+use Rattle.maildir_folder.specs.Steps.{DidWanted, IsSyncError, Serves, ids_of, what_of}
+use Rattle.maildir_folder.specs.Steps.{IsErrorAt}
+use Rattle.maildir_folder.specs.Synced.{AreListed, Syncs, file_known}
+use Rattle.maildir_folder.proofs.NameLemmas.{made_is_split}
+use Rattle.maildir_folder.proofs.StepLemmas.{error_among, error_file}
+use Rattle.mail_base.specs.declared.flags.Flags.{Flags}
+use Rattle.folder_core.specs.Keeping.{mail_of}
+use Rattle.std.proofs.Common.{◌∷◌, inl, refl}
+use Rattle.folder_core.specs.Maildir.{path_of}
+use Rattle.maildir_folder.specs.declared.plan.PlanError.{PlanError}
+use Rattle.maildir_folder.specs.declared.plan.PlanError.TheVariants.{Gone}
+use Rattle.maildir_folder.proofs.ApartLemmas.{below_in, right_below}
+use Rattle.maildir_folder.proofs.ChangingLemmas.{synced_right}
+
+-- a part that only looked
+pub serves_looked : {A : Type 0} (result : Result A SyncError) (old new : Seen) → OnlyLooks old new
+    → (IsErrOf result Fault → Rose old.faults new.faults) → Serves result old new
+serves_looked result old new only cause = record {
+  grows = looks_grows old.told new.told only.looks;
+  marks = only.marks;
+  faults = only.faults;
+  cause = cause;
+}
+
+-- what was right of a Maildir is right whatever its past
+right_told : (mails : List Mail) (known : KnownFolder) (old new : Option Past)
+    → Right Maildir mails known old → Right Maildir mails known new
+right_told mails known old new right = record {
+  within = right.within;
+  ordered = right.ordered;
+  few = right.few;
+  read = right.read;
+}
+
+-- a sync that was refused
+pub syncs_not : (mails : List Mail) (changes : List Changed) (known new_known : KnownFolder)
+    (why : SyncError) (old new : Seen) → new_known ≡ known → Right Maildir mails known old.told
+    → DidWanted known.path (what_of mails changes) (Err why) old.told new.told
+    → IsSyncError known.path mails (ids_of changes) why → Serves {A = Unit {0}} (Err why) old new
+    → Syncs mails changes known new_known (Err why) old new
+syncs_not mails changes known new_known why old new same right does names serves = record {
+  does = does;
+  ok_known = tt;
+  err_known = same;
+  right = subst (λ (k : KnownFolder). Right Maildir mails k new.told) (sym same)
+      (right_told mails known old.told new.told right);
+  names = names;
+  serves = serves;
+}
+
+-- a sync that was done
+pub syncs_done : (mails : List Mail) (changes : List Changed) (known new_known : KnownFolder)
+    (listing : List Listed) (bytes stamps : List ℕ) (old new : Seen)
+    → listing ≡ listing_synced changes known.listing → bytes ≡ [] → stamps ≡ []
+    → new_known ≡ record known { listing = listing; bytes = bytes; stamps = stamps }
+    → Right Maildir mails known old.told
+    → DidWanted known.path (what_of mails changes) (Ok tt) old.told new.told
+    → Serves {A = Unit {0}} (Ok tt) old new → Syncs mails changes known new_known (Ok tt) old new
+syncs_done mails changes known new_known listing bytes stamps old new is no_bytes no_stamps put
+    right does serves = record {
+      does = does;
+      ok_known = whole ∙ (λ i. record known {
+        listing = listing_synced changes known.listing;
+        bytes = sym right.read.bytes i;
+        stamps = sym right.read.stamps i;
+      });
+      err_known = tt;
+      right = subst (λ (k : KnownFolder). Right Maildir mails k new.told) (sym whole)
+          (synced_right changes mails known old.told new.told right);
+      names = tt;
+      serves = serves;
+    }
+  where
+    whole : new_known ≡ record known {
+      listing = listing_synced changes known.listing;
+      bytes = [];
+      stamps = [];
+    }
+    whole = put ∙ (λ i. record known {
+      listing = is i;
+      bytes = no_bytes i;
+      stamps = no_stamps i;
+    })
+
+err_same : {A : Type 0} (a b : SyncError) → ◌≡◌ {A = Result A SyncError} (Err a) (Err b) → a ≡ b
+err_same a b e = cc
+
+-- looks that were refused
+pub serves_unlisted : {A : Type 0} (why : ScanError) (told : SyncError)
+    (old new : Seen) → OnlyLooks old new
+    → (told ≡ Fault → why ≡ ScanFault)
+    → (IsErrOf {T = A} {E = ScanError} (Err why) ScanFault → Rose old.faults new.faults)
+    → Serves {A = A} (Err told) old new
+serves_unlisted {A} why told old new only fault cause =
+    serves_looked {A = A} (Err told) old new only
+    (λ is. cause (ap Err (fault (err_same {A = A} told Fault is))))
+
+-- a message of which no file is there has an id below those of new letters
+pub gone_below : (bound : ℕ) (files : List MaildirFile) (mails : List Mail)
+    (changes : List Changed1) (why : PlanError) (id : Id) → why ≡ Gone id
+    → IsPlanRefusal files mails (ids_changed changes) why → AreBelow bound changes → id.0 < bound
+gone_below bound files mails changes why id is refusal below =
+    below_in bound id changes below
+    (subst (IsPlanRefusal files mails (ids_changed changes)) is refusal).0
+
+-- the ids of the changes are below the number of letters
+pub letters_below : (letters : List Letter) (bound : ℕ) (known : KnownFolder)
+    (told : Option Past) (changes : List Changed1) → bound ≡ length letters
+    → Right Maildir (map plain_letter letters) known told
+    → AreListed known.listing (plain_changes changes) → AreBelow bound changes
+letters_below letters bound known told changes is right listed =
+    subst (λ (n : ℕ). AreBelow n changes) (length-map letters plain_letter ∙ sym is)
+    (right_below (map plain_letter letters) known told changes right listed)
+
+-- what was done of changes, by the letters as a slice
+pub did_letters : (slice letters : List Letter) (changes : List Changed) (path : List ℕ)
+    (result : Result (Unit {0}) SyncError) (old new : Option Past) → slice ≡ letters
+    → DidWanted path (what_of (map plain_letter slice) changes) result old new
+    → DidWanted path (what_of (map plain_letter letters) changes) result old new
+did_letters slice letters changes path result old new is did =
+    subst (λ (l : List Letter). DidWanted path (what_of (map plain_letter l) changes) result old
+    new) is did
+
+-- a message of which no file is there is refused among all that change
+pub gone_named : (path : List ℕ) (files : List MaildirFile) (mails : List Mail)
+    (changes : List Changed1) (why : PlanError) (id : Id) (told : SyncError) → why ≡ Gone id
+    → IsPlanRefusal files mails (ids_changed changes) why → IsSyncError path mails (id ∷ []) told
+    → IsSyncError path mails (ids_of (plain_changes changes)) told
+gone_named path files mails changes why id told is refusal names =
+    error_among path mails id (ids_of (plain_changes changes)) told
+    (subst (IsPlanRefusal files mails (ids_changed changes)) is refusal).0 names
+
+-- a refusal of the message whose file is gone
+pub gone_file : (path base : List ℕ) (mails : List Mail) (id : Id) (flags : Flags)
+    (why : SyncError) → base ≡ (mail_of mails id.0).key
+    → IsErrorAt (path_of path (file_known base flags)) why → IsSyncError path mails (id ∷ []) why
+gone_file path base mails id flags why key is =
+    error_file (path_of path (file_known base flags)) path mails (id ∷ []) why (record {
+      id = id;
+      among = inl refl;
+      file = file_known base flags;
+      base = ap (λ (p : List ℕ × List ℕ). p.0)
+          (made_is_split (record { base = base; flags = flags; others = [] })) ∙ key;
+      at = refl;
+    }) is
+
+-- a refusal by the letters as a slice
+pub names_letters : (slice letters : List Letter) (ids : List Id) (path : List ℕ)
+    (why : SyncError) → slice ≡ letters → IsSyncError path (map plain_letter slice) ids why
+    → IsSyncError path (map plain_letter letters) ids why
+names_letters slice letters ids path why is names =
+    subst (λ (l : List Letter). IsSyncError path (map plain_letter l) ids why) is names
+
+no_fault : {A : Type 0} → ◌≡◌ {A = Result A SyncError} (Err NoMemory) (Err Fault) → ⊥
+no_fault e = cc
+
+-- a sync for which memory ran out before its first call
+pub syncs_none : (mails : List Mail) (changes : List Changed) (known : KnownFolder) (seen : Seen)
+    → Right Maildir mails known seen.told
+    → Syncs mails changes known known (Err NoMemory) seen seen
+syncs_none mails changes known seen right =
+    syncs_not mails changes known known NoMemory seen seen refl right
+    (did_none known.path (what_of mails changes) NoMemory seen.told seen.told
+    (looks_did known.path seen.told seen.told (looks_same seen.told))) tt
+    (serves_looked {A = Unit {0}} (Err NoMemory) seen seen (only_same seen)
+    (λ is. absurd (no_fault {A = Unit {0}} is)))

@@ -1,0 +1,61 @@
+use Rattle.std.proofs.Common.{Err, List, map, subst, sym}
+use Rattle.folder_letters.specs.Letters.{plain_letter}
+use Rattle.index_items.specs.Changes.{plain_changes}
+use Rattle.maildir_folder.specs.Steps.{AreSteps, ids_of, plain_step, what_of}
+use Rattle.maildir_folder.specs.declared.steps.Step.{Step}
+use Rattle.maildir_folder.proofs.StepLemmas.{did_after, did_end, did_none, errors_folder}
+use Rattle.maildir_folder.proofs.StepLemmas.{nothing_at, serves_then}
+use Rattle.maildir_folder.proofs.syncing.change_files.Goals as goal
+
+pub returns-in-Err-take_steps-clause-serves : goal.returns-in-Err-take_steps-clause-serves
+returns-in-Err-take_steps-clause-serves g c =
+    serves_then c.in-Ok.steps (Err c.in-Err-take_steps.why) _ _ _ c.in-Ok.ensures.serves
+    c.in-Err-take_steps.ensures.serves
+
+pub returns-clause-serves : goal.returns-clause-serves
+returns-clause-serves g c =
+    serves_then c.in-Ok.steps c.keep_names.result _ _ _ c.in-Ok.ensures.serves
+    (serves_then tt c.keep_names.result _ _ _ c.in-Ok-take_steps.ensures.serves
+    c.keep_names.ensures.serves)
+
+pub returns-clause-does : goal.returns-clause-does
+returns-clause-does g c =
+    let mails = map plain_letter c.args.archive.now in
+    let changes = plain_changes c.args.changes.now in
+    let path = c.args.known.now.path in
+    did_after path (what_of mails changes) c.keep_names.result _ _ _ c.in-Ok.ensures.does
+    (did_end path (what_of mails changes) c.keep_names.result _ _ _
+    (c.in-Ok-take_steps.ensures.does path mails changes c.requires.apart
+    (subst (λ (l : List Step). AreSteps path mails changes (map plain_step l))
+    (sym c.as_slice.ensures.value) c.in-Ok.ensures.steps))
+    (nothing_at c.path.result.now path _ _ c.path.ensures c.keep_names.ensures.does))
+
+pub returns-in-Err-clause-does : goal.returns-in-Err-clause-does
+returns-in-Err-clause-does g c =
+    did_none c.args.known.now.path _ c.in-Err.why _ _ c.in-Err.ensures.does
+
+pub returns-in-Err-take_steps-clause-does : goal.returns-in-Err-take_steps-clause-does
+returns-in-Err-take_steps-clause-does g c =
+    let mails = map plain_letter c.args.archive.now in
+    let changes = plain_changes c.args.changes.now in
+    let path = c.args.known.now.path in
+    did_after path (what_of mails changes) (Err c.in-Err-take_steps.why) _ _ _
+    c.in-Ok.ensures.does
+    (c.in-Err-take_steps.ensures.does path mails changes c.requires.apart
+    (subst (λ (l : List Step). AreSteps path mails changes (map plain_step l))
+    (sym c.as_slice.ensures.value) c.in-Ok.ensures.steps))
+
+pub returns-in-Err-take_steps-clause-names : goal.returns-in-Err-take_steps-clause-names
+returns-in-Err-take_steps-clause-names g c =
+    let mails = map plain_letter c.args.archive.now in
+    let changes = plain_changes c.args.changes.now in
+    let path = c.args.known.now.path in
+    c.in-Err-take_steps.ensures.names path mails changes c.requires.apart
+    (subst (λ (l : List Step). AreSteps path mails changes (map plain_step l))
+    (sym c.as_slice.ensures.value) c.in-Ok.ensures.steps)
+
+pub returns-clause-names : goal.returns-clause-names
+returns-clause-names g c =
+    errors_folder c.path.result.now c.args.known.now.path (map plain_letter c.args.archive.now)
+    (ids_of (plain_changes c.args.changes.now)) c.keep_names.result c.path.ensures
+    c.keep_names.ensures.at

@@ -1,0 +1,160 @@
+-- The steps of a sync, and what they do to the messages of a folder.
+use Rattle.std.specs.Prelude.{◌≢◌, Err}
+use Rattle.std.specs.Prelude.{◌≡◌, ◌≤◌, ℕ, true, List, [], ◌∷◌, Option, Some, None, Result, Ok}
+use Rattle.std.specs.Prelude.{◌⊎◌, IsErrOf, map, option_map}
+use Rattle.std.specs.String.{string_bytes}
+use Rattle.mail_base.specs.Faults.{Rose}
+use Rattle.mail_base.specs.Ordered.{IsIn}
+use Rattle.mail_base.specs.declared.kind.Id.{Id}
+use Rattle.mail_base.specs.Flags.{applied, stored}
+use Rattle.mail_base.specs.declared.flags.Flags.{Flags}
+use Rattle.mail_base.specs.declared.kind.Kind.TheVariants.{Maildir}
+use Rattle.disk_model.specs.Journal.{Call, Past, Remove, Rename}
+use Rattle.disk_model.specs.Judge.{GoesOn, Grows, OneStep, done_by}
+use Rattle.disk_model.specs.Seen.{Seen}
+use Rattle.index_items.specs.Changes.{Changed, PlainChange, Alters, Discards}
+use Rattle.folder_letters.specs.Letters.{Mail}
+use Rattle.folder_core.specs.Keeping.{mail_of}
+use Rattle.folder_core.specs.Maildir.{MaildirFile, base_of, is_shown, path_of}
+use Rattle.folder_changes.specs.Maildir.{DoesWanted, flags_named}
+use Rattle.folder_changes.specs.Wanted.{change_at}
+use Rattle.folder_changes.specs.Worked.{either, nothing_wanted}
+use Rattle.folder_changes.specs.declared.sync_error.Spot.TheVariants.{Name}
+use Rattle.folder_changes.specs.declared.sync_error.SyncError.{SyncError}
+use Rattle.folder_changes.specs.declared.sync_error.SyncError.TheVariants.{Changed as IsChanged}
+use Rattle.folder_changes.specs.declared.sync_error.SyncError.TheVariants.{Fault, NoMemory}
+use Rattle.maildir_folder.specs.declared.steps.Step.{Step}
+
+-- What a sync wants.
+
+-- what is wanted of the message with a key: the first change of a message that has it
+abbrev pub what_of : List Mail → List Changed → List ℕ → Option PlainChange
+what_of mails [] = nothing_wanted
+what_of mails (changed ∷ changes) =
+    either (change_at (mail_of mails changed.id.0).key changed.change) (what_of mails changes)
+
+-- the messages that change have keys that differ
+abbrev pub AreApart : List Mail → List Changed → Type 0
+AreApart mails [] = Unit {0}
+AreApart mails (changed ∷ changes) =
+    (what_of mails changes (mail_of mails changed.id.0).key ≡ None) × AreApart mails changes
+
+-- the messages that change
+abbrev pub ids_of : List Changed → List Id
+ids_of changes = map (λ changed. changed.id) changes
+
+-- What a step is.
+
+-- the path of a file, and the path to which it goes, where it does not go away
+pub record PlainStep : Type 0 where
+  pub from : List ℕ
+  pub to : Option (List ℕ)
+
+-- a step as contracts see it
+abbrev pub plain_step : Step → PlainStep
+plain_step step =
+    record { from = string_bytes step.from; to = option_map string_bytes step.to }
+
+-- the path of a file with the same base, by a name that tells these flags
+pub record IsNewPath (path : List ℕ) (file : MaildirFile) (flags : Flags) (to : List ℕ) : Type 0
+  where
+    pub target : MaildirFile
+    pub shown : is_shown target.name ≡ true
+    pub base : base_of target ≡ base_of file
+    pub tells : flags_named target ≡ flags
+    pub goes : to ≡ path_of path target
+
+-- where the file of a message goes that is to change so: to another name, or away
+abbrev pub GoesTo : List ℕ → MaildirFile → PlainChange → Option (List ℕ) → Type 0
+GoesTo path file (Alters added cleared) None = ⊥
+GoesTo path file (Alters added cleared) (Some to) =
+    IsNewPath path file (stored Maildir (applied (flags_named file) added cleared)) to
+GoesTo path file Discards None = Unit {0}
+GoesTo path file Discards (Some to) = ⊥
+
+-- a step does with a file what is to become of its message
+pub record IsStep (path : List ℕ) (file : MaildirFile) (change : PlainChange) (step : PlainStep)
+    : Type 0 where
+  pub shown : is_shown file.name ≡ true
+  pub from : step.from ≡ path_of path file
+  pub to : GoesTo path file change step.to
+
+-- a step of a file with this base
+pub record IsStepOf (path base : List ℕ) (change : PlainChange) (step : PlainStep) : Type 0 where
+  pub file : MaildirFile
+  pub named : base_of file ≡ base
+  pub does : IsStep path file change step
+
+-- each change has its step
+abbrev pub AreSteps : List ℕ → List Mail → List Changed → List PlainStep → Type 0
+AreSteps path mails [] [] = Unit {0}
+AreSteps path mails [] (step ∷ steps) = ⊥
+AreSteps path mails (changed ∷ changes) [] = ⊥
+AreSteps path mails (changed ∷ changes) (step ∷ steps) =
+    IsStepOf path (mail_of mails changed.id.0).key changed.change step
+    × AreSteps path mails changes steps
+
+-- What a step does.
+
+-- the call by which a file goes to another path, or away
+abbrev pub call_by : List ℕ → Option (List ℕ) → Call
+call_by from None = Remove from
+call_by from (Some to) = Rename from to
+
+-- the call of a step
+abbrev pub call_of : PlainStep → Call
+call_of step = call_by step.from step.to
+
+-- a call that gives nothing was done
+abbrev pub WasDone : Call → Option Past → Option Past → Type 0
+WasDone call old new = GoesOn (OneStep {A = Unit {0}} (Ok tt) call (done_by call)) old new
+
+-- why a step was refused that names this path
+abbrev pub IsErrorAt : List ℕ → SyncError → Type 0
+IsErrorAt path (IsChanged (Name name)) = name.items ≡ path
+IsErrorAt path Fault = Unit {0}
+IsErrorAt path NoMemory = Unit {0}
+IsErrorAt path why = ⊥
+
+-- the path is that of a file of one of these messages
+pub record IsFileOf (path : List ℕ) (mails : List Mail) (ids : List Id) (name : List ℕ) : Type 0
+  where
+    pub id : Id
+    pub among : IsIn id ids
+    pub file : MaildirFile
+    pub base : base_of file ≡ (mail_of mails id.0).key
+    pub at : name ≡ path_of path file
+
+-- why a sync of these messages was refused: what stands at the folder's path or at that of a file
+-- of one of them is not as it is known, the disk failed, or memory ran out
+abbrev pub IsSyncError : List ℕ → List Mail → List Id → SyncError → Type 0
+IsSyncError path mails ids (IsChanged (Name name)) =
+    (name.items ≡ path) ⊎ IsFileOf path mails ids name.items
+IsSyncError path mails ids Fault = Unit {0}
+IsSyncError path mails ids NoMemory = Unit {0}
+IsSyncError path mails ids why = ⊥
+
+-- What every part of a sync keeps: a told past only grows, neither marks nor faults fall, and a
+-- fault has its cause.
+pub record Serves {A : Type 0} (result : Result A SyncError) (old new : Seen) : Type 0 where
+  pub grows : Grows old.told new.told
+  pub marks : old.marks ≤ new.marks
+  pub faults : old.faults ≤ new.faults
+  pub cause : IsErrOf result Fault → Rose old.faults new.faults
+
+-- nothing was done to the messages
+abbrev pub DidNothing : List ℕ → Option Past → Option Past → Type 0
+DidNothing path old new = GoesOn (DoesWanted path nothing_wanted) old new
+
+-- a part of what was wanted was done, and nothing else
+pub record DoesPart (path : List ℕ) (what : List ℕ → Option PlainChange) (old new : Past) : Type 0
+  where
+    pub part : List ℕ → Option PlainChange
+    pub within : (key : List ℕ) → part key ≢ None → part key ≡ what key
+    pub does : DoesWanted path part old new
+
+-- what was wanted was done where the answer is Ok, and a part of it where it is a refusal
+abbrev pub DidWanted : List ℕ → (List ℕ → Option PlainChange) → Result (Unit {0}) SyncError
+    → Option Past → Option Past → Type 0
+DidWanted path what (Ok done) old new = GoesOn (DoesWanted path what) old new
+DidWanted path what (Err why) old new = GoesOn (DoesPart path what) old new

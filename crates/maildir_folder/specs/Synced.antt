@@ -1,0 +1,63 @@
+-- What a sync of a Maildir did.
+use Rattle.std.specs.Prelude.{◌≡◌, ℕ, true, not, List, [], ◌∷◌, None, Result, IfErr, OnErr, OnOk}
+use Rattle.std.specs.List.{All}
+use Rattle.mail_base.specs.declared.flags.Flags.{Flags}
+use Rattle.mail_base.specs.declared.kind.Kind.TheVariants.{Maildir}
+use Rattle.disk_model.specs.Seen.{Seen}
+use Rattle.index_items.specs.Changes.{Changed, change_for}
+use Rattle.folder_letters.specs.Letters.{Mail}
+use Rattle.folder_letters.specs.declared.listing.Listed.{Listed}
+use Rattle.folder_core.specs.Keeping.{lists_id}
+use Rattle.folder_core.specs.Known.{KnownFolder}
+use Rattle.folder_core.specs.Maildir.{MaildirFile}
+use Rattle.folder_core.specs.Right.{Right}
+use Rattle.folder_changes.specs.declared.sync_error.SyncError.{SyncError}
+use Rattle.maildir_folder.specs.Candidates.{IsCandidate, Rises, plain_file}
+use Rattle.maildir_folder.specs.Changing.{listing_synced}
+use Rattle.maildir_folder.specs.MaildirName.{is_new, name_of}
+use Rattle.maildir_folder.specs.Steps.{DidWanted, IsSyncError, Serves, ids_of, what_of}
+use Rattle.maildir_folder.specs.declared.candidates.Candidate.{Candidate}
+use Rattle.std.specs.Prelude.{map}
+
+-- What may be asked of a sync.
+
+-- each change is of a listed message
+abbrev pub AreListed : List Listed → List Changed → Type 0
+AreListed listing [] = Unit {0}
+AreListed listing (changed ∷ changes) =
+    (lists_id listing changed.id.0 ≡ true) × AreListed listing changes
+
+-- no message changes twice
+abbrev pub AreOnce : List Changed → Type 0
+AreOnce [] = Unit {0}
+AreOnce (changed ∷ changes) = (change_for changes changed.id.0 ≡ None) × AreOnce changes
+
+-- What it did.
+
+-- A sync of a Maildir: where it is answered Ok, our steps did what was wanted of the messages, and
+-- the listing is the old one with the changes; after a refusal what is known is as before, a part of
+-- the changes is done and nothing else, and a name that is not as it is known is that of the folder
+-- or of a file of one of the messages.
+pub record Syncs (mails : List Mail) (changes : List Changed) (known new_known : KnownFolder)
+    (result : Result (Unit {0}) SyncError) (old new : Seen) : Type 0 where
+  pub does : DidWanted known.path (what_of mails changes) result old.told new.told
+  pub ok_known : OnOk result
+      (new_known ≡ record known { listing = listing_synced changes known.listing })
+  pub err_known : OnErr result (new_known ≡ known)
+  pub right : Right Maildir mails new_known new.told
+  pub names : IfErr result (IsSyncError known.path mails (ids_of changes))
+  pub serves : Serves result old new
+
+-- For the code alone.
+
+-- files that may be messages, in the order of their bases
+pub record AreFiles (files : List Candidate) : Type 0 where
+  pub each : All IsCandidate files
+  pub rises : Rises None (map plain_file files)
+
+-- the file of a base by these flags, and by no other letter
+abbrev pub file_known : List ℕ → Flags → MaildirFile
+file_known base flags = record {
+  in_cur = not (is_new flags);
+  name = name_of (record { base = base; flags = flags; others = [] });
+}

@@ -1,0 +1,144 @@
+//! The steps of a sync: files of a folder that are renamed or removed.
+
+ghost use Rattle.std.specs.Prelude.{ℕ, ◌≡◌, IfErr, List, OnErr, OnOk, codes, map};
+ghost use Rattle.disk_model.specs.Judge.{DoesStep};
+ghost use Rattle.folder_letters.specs.Letters.{Mail};
+ghost use Rattle.index_items.specs.Changes.{Changed};
+ghost use Rattle.maildir_folder.specs.Steps as spec;
+
+use disk_model::{Disk, DiskError};
+use folder_changes::{Spot, SyncError};
+use folder_core::path_in;
+use mail_base::{Bytes, NoMemory};
+use std::alloc::Global;
+
+/// The path of a file, and the path to which it goes, where it does not go away.
+#[derive(Drop)]
+pub struct Step {
+    pub from: String,
+    pub to: Option<String>,
+}
+
+/// That something at this path is not as it is known.
+pub fn name_changed(alloc: Global, path: &str) -> SyncError
+    ensures at { spec.IsErrorAt path.now result }
+    ensures no_fault { ¬ (result ≡ SyncError.Fault) }
+{
+    match Bytes::copy_of(alloc, path.as_bytes()) {
+        Ok(name) => SyncError::Changed(Spot::Name(name)),
+        Err(NoMemory) => SyncError::NoMemory,
+    }
+}
+
+// Why a sync is refused where the disk refuses a call for this path.
+fn error_at(alloc: Global, path: &str, why: DiskError) -> SyncError
+    ensures at { spec.IsErrorAt path.now result }
+    ensures fault { result ≡ SyncError.Fault → why ≡ DiskError.Fault }
+{
+    match why {
+        DiskError::Fault => SyncError::Fault,
+        DiskError::NoMemory => SyncError::NoMemory,
+        _ => name_changed(alloc, path),
+    }
+}
+
+// The call of a step.
+fn call_step(alloc: Global, disk: &mut dyn Disk, step: &Step) -> Result<(), DiskError>
+    ensures { DoesStep result (spec.call_of (spec.plain_step step.now))
+        (seen disk.old) (seen disk.new) }
+{
+    match &step.to {
+        Some(to) => disk.rename(alloc, step.from.as_str(), to.as_str()),
+        None => disk.remove(alloc, step.from.as_str()),
+    }
+}
+
+// Takes a step; a refusal names the path of its file.
+fn take_step(alloc: Global, disk: &mut dyn Disk, step: &Step) -> Result<(), SyncError>
+    ensures serves { spec.Serves result (seen disk.old) (seen disk.new) }
+    ensures done { OnOk result (spec.WasDone (spec.call_of (spec.plain_step step.now))
+        (seen disk.old).told (seen disk.new).told) }
+    ensures refused { OnErr result ((path : List ℕ)
+        → spec.DidNothing path (seen disk.old).told (seen disk.new).told) }
+    ensures at { IfErr result (spec.IsErrorAt (spec.plain_step step.now).from) }
+{
+    match call_step(alloc, disk, step) {
+        Ok(()) => Ok(()),
+        Err(why) => Err(error_at(alloc, step.from.as_str(), why)),
+    }
+}
+
+/// Takes these steps one behind the other, up to the first that is refused.
+pub fn take_steps(alloc: Global, disk: &mut dyn Disk, steps: &[Step]) -> Result<(), SyncError>
+    ensures serves { spec.Serves result (seen disk.old) (seen disk.new) }
+    ensures does { (path : List ℕ) → (mails : List Mail) → (changes : List Changed)
+        → spec.AreApart mails changes
+        → spec.AreSteps path mails changes (map spec.plain_step steps.now)
+        → spec.DidWanted path (spec.what_of mails changes) result
+        (seen disk.old).told (seen disk.new).told }
+    ensures names { (path : List ℕ) → (mails : List Mail) → (changes : List Changed)
+        → spec.AreApart mails changes
+        → spec.AreSteps path mails changes (map spec.plain_step steps.now)
+        → IfErr result (spec.IsSyncError path mails (spec.ids_of changes)) }
+{
+    let mut left = steps;
+    while let [step, rest @ ..] = left {
+        match take_step(alloc, disk, step) {
+            Ok(()) => {}
+            Err(why) => return Err(why),
+        }
+        left = rest;
+    }
+    Ok(())
+}
+
+// Puts the names in a directory of the folder on the disk.
+fn keep_names_in(
+    alloc: Global,
+    disk: &mut dyn Disk,
+    path: &str,
+    name: &str,
+) -> Result<(), SyncError>
+    ensures serves { spec.Serves result (seen disk.old) (seen disk.new) }
+    ensures does { spec.DidNothing path.now (seen disk.old).told (seen disk.new).told }
+    ensures at { IfErr result (spec.IsErrorAt path.now) }
+{
+    let dir = match path_in(alloc, path, name) {
+        Ok(dir) => dir,
+        Err(NoMemory) => return Err(SyncError::NoMemory),
+    };
+    match disk.sync_dir(alloc, dir.as_str()) {
+        Ok(()) => Ok(()),
+        Err(why) => Err(error_at(alloc, path, why)),
+    }
+}
+
+/// Puts the names in `new` and in `cur` on the disk.
+pub fn keep_names(alloc: Global, disk: &mut dyn Disk, path: &str) -> Result<(), SyncError>
+    ensures serves { spec.Serves result (seen disk.old) (seen disk.new) }
+    ensures does { spec.DidNothing path.now (seen disk.old).told (seen disk.new).told }
+    ensures at { IfErr result (spec.IsErrorAt path.now) }
+{
+    match keep_names_in(alloc, disk, path, "new") {
+        Ok(()) => {}
+        Err(why) => return Err(why),
+    }
+    keep_names_in(alloc, disk, path, "cur")
+}
+
+/// Makes the directory `new`, where nothing stands there.
+pub fn make_new(alloc: Global, disk: &mut dyn Disk, path: &str) -> Result<(), SyncError>
+    ensures serves { spec.Serves result (seen disk.old) (seen disk.new) }
+    ensures does { spec.DidNothing path.now (seen disk.old).told (seen disk.new).told }
+    ensures at { IfErr result (spec.IsErrorAt path.now) }
+{
+    let dir = match path_in(alloc, path, "new") {
+        Ok(dir) => dir,
+        Err(NoMemory) => return Err(SyncError::NoMemory),
+    };
+    match disk.make_dir(alloc, dir.as_str()) {
+        Ok(()) => Ok(()),
+        Err(DiskError::Exists) => Ok(()),
+        Err(why) => Err(error_at(alloc, path, why)),
+    }
+}
