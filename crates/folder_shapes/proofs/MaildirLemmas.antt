@@ -422,8 +422,10 @@ not_cur dir name = by_fronts (front_cases (directory true dir)) (front_cases (di
     by_fronts (inr e) (inl f) = with_fronts _ _ (47 ∷ []) [] e f
     by_fronts (inr e) (inr f) = with_fronts _ _ (47 ∷ []) (47 ∷ []) e f
 
-slot_of : (dir : List ℕ) (in_cur : Bool) (name : List ℕ) → is_shown name ≡ true
-    → (maildir_shape dir).slot (path_of dir (file_in in_cur name)) ≡ Some (split_name name).0
+-- a message's name gives its base
+pub slot_of : (dir : List ℕ) (in_cur : Bool) (name : List ℕ) → is_shown name ≡ true
+    → (maildir_shape dir).slot (path_of dir (record { in_cur = in_cur; name = name }))
+    ≡ Some (split_name name).0
 slot_of dir true name shown =
     ap (λ (o : Option (List ℕ)). or_else o
     (name_key (name_in false dir (path_in (directory true dir) name))))
@@ -434,6 +436,37 @@ slot_of dir false name shown =
     (name_key (name_in false dir (path_in (directory false dir) name)))) (not_cur dir name)
     ∙ ap name_key (behind_there (front_of (directory false dir)) name)
     ∙ cond-true (is_shown name) (Some (split_name name).0) None shown
+
+-- no message stands at the path of `new`
+pub slot_new : (dir : List ℕ) → (maildir_shape dir).slot (directory false dir) ≡ None
+slot_new dir =
+    ap (λ (o : Option (List ℕ)). or_else (name_key o)
+    (name_key (name_in false dir (directory false dir))))
+    (by_cur (front_cases (directory true dir)))
+    ∙ by_new (front_cases (directory false dir))
+  where
+    with_front : (x a : List ℕ) → x ≡ directory true dir ++ a → behind x (directory false dir)
+        ≡ None
+    with_front x a e =
+        (λ i. behind (e i) (sym (append-nil (directory false dir)) i))
+        ∙ (λ i. behind (directory true dir ++ a)
+        (sym (append-nil (directory false dir ++ [])) i)) ∙ one_case dir a [] []
+
+    by_cur : (front_of (directory true dir) ≡ directory true dir ++ [])
+        ⊎ (front_of (directory true dir) ≡ directory true dir ++ 47 ∷ [])
+        → behind (front_of (directory true dir)) (directory false dir) ≡ None
+    by_cur (inl e) = with_front _ [] e
+    by_cur (inr e) = with_front _ (47 ∷ []) e
+
+    by_new : (front_of (directory false dir) ≡ directory false dir ++ [])
+        ⊎ (front_of (directory false dir) ≡ directory false dir ++ 47 ∷ [])
+        → name_key (behind (front_of (directory false dir)) (directory false dir)) ≡ None
+    by_new (inl e) =
+        (λ i. name_key (behind (e i) (sym (append-nil (directory false dir)) i)))
+        ∙ ap name_key (behind_split (directory false dir) [] [])
+    by_new (inr e) =
+        (λ i. name_key (behind (e i) (sym (append-nil (directory false dir)) i)))
+        ∙ ap name_key (behind_split (directory false dir) (47 ∷ []) [])
 
 file_of : (dir path key : List ℕ) → (maildir_shape dir).slot path ≡ Some key → (f : MaildirFile)
     × (path ≡ path_of dir f) × (is_shown f.name ≡ true) × (base_of f ≡ key)

@@ -11,6 +11,7 @@ pub mod Driving
 pub mod RenamingLemmas
 pub mod NamedFileLemmas
 pub mod StepLemmas
+pub mod StopLemmas
 pub mod PlanLemmas
 pub mod ChangingLemmas
 pub mod ApartLemmas

@@ -361,11 +361,6 @@ so_far_end path mails changes left old now none so_far =
     so_far_done path mails changes old now
     (subst (λ (l : List PlainStep). SoFar path mails changes l old now) none so_far)
 
--- a path by another name
-pub nothing_at : (at path : List ℕ) (old new : Option Past) → at ≡ path → DidNothing at old new
-    → DidNothing path old new
-nothing_at at path old new is did = subst (λ (p : List ℕ). DidNothing p old new) is did
-
 -- Why a sync is refused.
 
 -- a refusal that names the folder

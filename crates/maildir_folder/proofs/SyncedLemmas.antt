@@ -25,13 +25,16 @@ use Rattle.folder_changes.specs.declared.sync_error.SyncError.TheVariants.{Fault
 use Rattle.folder_core.specs.Maildir.{MaildirFile}
 use Rattle.folder_core.specs.declared.error.ScanError.{ScanError}
 use Rattle.folder_core.specs.declared.error.ScanError.TheVariants.{Fault as ScanFault}
+use Rattle.folder_stops.specs.Syncs.{KeepsHolds}
+use Rattle.folder_shapes.specs.Maildir.{maildir_files}
 use Rattle.maildir_folder.specs.Changing.{listing_synced}
 use Rattle.maildir_folder.specs.Plan.{IsPlanRefusal, ids_changed}
-use Rattle.maildir_folder.specs.Steps.{DidWanted, IsSyncError, Serves, ids_of, what_of}
+use Rattle.maildir_folder.specs.Steps.{DidWanted, IsSyncError, Serves, discarded, ids_of, what_of}
 use Rattle.maildir_folder.specs.Steps.{IsErrorAt}
 use Rattle.maildir_folder.specs.Synced.{AreListed, Syncs, file_known}
 use Rattle.maildir_folder.proofs.NameLemmas.{made_is_split}
 use Rattle.maildir_folder.proofs.StepLemmas.{error_among, error_file}
+use Rattle.maildir_folder.proofs.StopLemmas.{holds_first}
 use Rattle.mail_base.specs.declared.flags.Flags.{Flags}
 use Rattle.folder_core.specs.Keeping.{mail_of}
 use Rattle.std.proofs.Common.{◌∷◌, inl, refl}
@@ -65,10 +68,12 @@ right_told mails known old new right = record {
 pub syncs_not : (mails : List Mail) (changes : List Changed) (known new_known : KnownFolder)
     (why : SyncError) (old new : Seen) → new_known ≡ known → Right Maildir mails known old.told
     → DidWanted known.path (what_of mails changes) (Err why) old.told new.told
+    → KeepsHolds (maildir_files known.path) (discarded mails changes) old.told new.told
     → IsSyncError known.path mails (ids_of changes) why → Serves {A = Unit {0}} (Err why) old new
     → Syncs mails changes known new_known (Err why) old new
-syncs_not mails changes known new_known why old new same right does names serves = record {
+syncs_not mails changes known new_known why old new same right does holds names serves = record {
   does = does;
+  holds = holds;
   ok_known = tt;
   err_known = same;
   right = subst (λ (k : KnownFolder). Right Maildir mails k new.told) (sym same)
@@ -84,10 +89,12 @@ pub syncs_done : (mails : List Mail) (changes : List Changed) (known new_known :
     → new_known ≡ record known { listing = listing; bytes = bytes; stamps = stamps }
     → Right Maildir mails known old.told
     → DidWanted known.path (what_of mails changes) (Ok tt) old.told new.told
+    → KeepsHolds (maildir_files known.path) (discarded mails changes) old.told new.told
     → Serves {A = Unit {0}} (Ok tt) old new → Syncs mails changes known new_known (Ok tt) old new
 syncs_done mails changes known new_known listing bytes stamps old new is no_bytes no_stamps put
-    right does serves = record {
+    right does holds serves = record {
       does = does;
+      holds = holds;
       ok_known = whole ∙ (λ i. record known {
         listing = listing_synced changes known.listing;
         bytes = sym right.read.bytes i;
@@ -190,6 +197,7 @@ pub syncs_none : (mails : List Mail) (changes : List Changed) (known : KnownFold
 syncs_none mails changes known seen right =
     syncs_not mails changes known known NoMemory seen seen refl right
     (did_none known.path (what_of mails changes) NoMemory seen.told seen.told
-    (looks_did known.path seen.told seen.told (looks_same seen.told))) tt
+    (looks_did known.path seen.told seen.told (looks_same seen.told)))
+    (holds_first known.path (discarded mails changes) seen.told) tt
     (serves_looked {A = Unit {0}} (Err NoMemory) seen seen (only_same seen)
     (λ is. absurd (no_fault {A = Unit {0}} is)))

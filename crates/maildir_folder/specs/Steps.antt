@@ -1,7 +1,7 @@
 -- The steps of a sync, and what they do to the messages of a folder.
 use Rattle.std.specs.Prelude.{◌≢◌, Err}
 use Rattle.std.specs.Prelude.{◌≡◌, ◌≤◌, ℕ, true, List, [], ◌∷◌, Option, Some, None, Result, Ok}
-use Rattle.std.specs.Prelude.{◌⊎◌, IsErrOf, map, option_map}
+use Rattle.std.specs.Prelude.{◌⊎◌, IsErrOf, OnErr, OnOk, map, option_map}
 use Rattle.std.specs.String.{string_bytes}
 use Rattle.mail_base.specs.Faults.{Rose}
 use Rattle.mail_base.specs.Ordered.{IsIn}
@@ -23,6 +23,9 @@ use Rattle.folder_changes.specs.declared.sync_error.Spot.TheVariants.{Name}
 use Rattle.folder_changes.specs.declared.sync_error.SyncError.{SyncError}
 use Rattle.folder_changes.specs.declared.sync_error.SyncError.TheVariants.{Changed as IsChanged}
 use Rattle.folder_changes.specs.declared.sync_error.SyncError.TheVariants.{Fault, NoMemory}
+use Rattle.folder_shapes.specs.Maildir.{maildir_shape}
+use Rattle.folder_stops.specs.Syncs.{Syncs as HoldsOn}
+use Rattle.folder_stops.specs.Words.{has}
 use Rattle.maildir_folder.specs.declared.steps.Step.{Step}
 
 -- What a sync wants.
@@ -38,6 +41,17 @@ abbrev pub AreApart : List Mail → List Changed → Type 0
 AreApart mails [] = Unit {0}
 AreApart mails (changed ∷ changes) =
     (what_of mails changes (mail_of mails changed.id.0).key ≡ None) × AreApart mails changes
+
+-- the key of a message that is discarded, before these keys
+abbrev pub with_discarded : List ℕ → PlainChange → List (List ℕ) → List (List ℕ)
+with_discarded key (Alters added cleared) keys = keys
+with_discarded key Discards keys = key ∷ keys
+
+-- the keys of the messages that are discarded
+abbrev pub discarded : List Mail → List Changed → List (List ℕ)
+discarded mails [] = []
+discarded mails (changed ∷ changes) =
+    with_discarded (mail_of mails changed.id.0).key changed.change (discarded mails changes)
 
 -- the messages that change
 abbrev pub ids_of : List Changed → List Id
@@ -145,6 +159,30 @@ pub record Serves {A : Type 0} (result : Result A SyncError) (old new : Seen) : 
 -- nothing was done to the messages
 abbrev pub DidNothing : List ℕ → Option Past → Option Past → Type 0
 DidNothing path old new = GoesOn (DoesWanted path nothing_wanted) old new
+
+-- the folder holds its messages at each mark, and those with these keys may go
+abbrev pub KeepsAllBut : List ℕ → List (List ℕ) → Option Past → Option Past → Type 0
+KeepsAllBut path keys old new = HoldsOn (maildir_shape path) [] keys old new
+
+-- Nothing was done to the messages, and the folder holds them at each mark, whichever may go.
+pub record LeavesAll (path : List ℕ) (old new : Option Past) : Type 0 where
+  pub does : DidNothing path old new
+  pub holds : (keys : List (List ℕ)) → KeepsAllBut path keys old new
+
+-- where messages with these keys may go, the message with a key may change so
+abbrev pub MayChange : List (List ℕ) → List ℕ → PlainChange → Type 0
+MayChange keys key (Alters added cleared) = Unit {0}
+MayChange keys key Discards = has keys key ≡ true
+
+-- A step was taken where the answer is Ok, and else nothing was done to the messages; each time the
+-- folder holds them, but for the step's own where it is discarded.
+pub record TakesStep (result : Result (Unit {0}) SyncError) (step : PlainStep)
+    (old new : Option Past) : Type 0 where
+  pub done : OnOk result (WasDone (call_of step) old new)
+  pub refused : OnErr result ((path : List ℕ) → DidNothing path old new)
+  pub holds : (path base : List ℕ) (change : PlainChange) (keys : List (List ℕ))
+      → IsStepOf path base change step → MayChange keys base change
+      → KeepsAllBut path keys old new
 
 -- a part of what was wanted was done, and nothing else
 pub record DoesPart (path : List ℕ) (what : List ℕ → Option PlainChange) (old new : Past) : Type 0

@@ -12,10 +12,12 @@ use Rattle.folder_core.specs.Known.{KnownFolder}
 use Rattle.folder_core.specs.Maildir.{MaildirFile}
 use Rattle.folder_core.specs.Right.{Right}
 use Rattle.folder_changes.specs.declared.sync_error.SyncError.{SyncError}
+use Rattle.folder_shapes.specs.Maildir.{maildir_files}
+use Rattle.folder_stops.specs.Syncs.{KeepsHolds}
 use Rattle.maildir_folder.specs.Candidates.{IsCandidate, Rises, plain_file}
 use Rattle.maildir_folder.specs.Changing.{listing_synced}
 use Rattle.maildir_folder.specs.MaildirName.{is_new, name_of}
-use Rattle.maildir_folder.specs.Steps.{DidWanted, IsSyncError, Serves, ids_of, what_of}
+use Rattle.maildir_folder.specs.Steps.{DidWanted, IsSyncError, Serves, discarded, ids_of, what_of}
 use Rattle.maildir_folder.specs.declared.candidates.Candidate.{Candidate}
 use Rattle.std.specs.Prelude.{map}
 
@@ -35,12 +37,14 @@ AreOnce (changed ∷ changes) = (change_for changes changed.id.0 ≡ None) × Ar
 -- What it did.
 
 -- A sync of a Maildir: where it is answered Ok, our steps did what was wanted of the messages, and
--- the listing is the old one with the changes; after a refusal what is known is as before, a part of
--- the changes is done and nothing else, and a name that is not as it is known is that of the folder
--- or of a file of one of the messages.
+-- the listing is the old one with the changes; after a refusal what is known is as before, a part
+-- of the changes is done and nothing else, and a name that is not as it is known is that of the
+-- folder or of a file of one of the messages. Whatever the answer, a stop at any mark leaves each
+-- message but those that are discarded, with what others brought.
 pub record Syncs (mails : List Mail) (changes : List Changed) (known new_known : KnownFolder)
     (result : Result (Unit {0}) SyncError) (old new : Seen) : Type 0 where
   pub does : DidWanted known.path (what_of mails changes) result old.told new.told
+  pub holds : KeepsHolds (maildir_files known.path) (discarded mails changes) old.told new.told
   pub ok_known : OnOk result
       (new_known ≡ record known { listing = listing_synced changes known.listing })
   pub err_known : OnErr result (new_known ≡ known)

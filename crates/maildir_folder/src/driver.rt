@@ -36,7 +36,8 @@ impl MaildirDriver {
     /// Renames the files of messages whose flags change, and removes those of discarded ones. All
     /// files are looked for before the first of them is touched. After Ok the known listing is the
     /// old one with the changes; after a refusal it is as before, and the folder may have a part of
-    /// the changes.
+    /// the changes. Whatever the answer, a stop in the middle leaves each message that is not
+    /// discarded.
     pub fn sync(
         &self,
         alloc: Global,

@@ -22,4 +22,4 @@ mod walk;
 pub use base_order::order_of;
 pub use driver::MaildirDriver;
 pub use laws::made_names_are_split;
-pub use maildir_name::{MaildirName, make_name, read_name};
+pub use maildir_name::{MaildirName, make_name, read_name, split_name};

@@ -1,6 +1,6 @@
 //! The steps of a sync: files of a folder that are renamed or removed.
 
-ghost use Rattle.std.specs.Prelude.{ℕ, ◌≡◌, IfErr, List, OnErr, OnOk, codes, map};
+ghost use Rattle.std.specs.Prelude.{ℕ, ◌≡◌, IfErr, List, codes, map};
 ghost use Rattle.disk_model.specs.Judge.{DoesStep};
 ghost use Rattle.folder_letters.specs.Letters.{Mail};
 ghost use Rattle.index_items.specs.Changes.{Changed};
@@ -56,10 +56,8 @@ fn call_step(alloc: Global, disk: &mut dyn Disk, step: &Step) -> Result<(), Disk
 // Takes a step; a refusal names the path of its file.
 fn take_step(alloc: Global, disk: &mut dyn Disk, step: &Step) -> Result<(), SyncError>
     ensures serves { spec.Serves result (seen disk.old) (seen disk.new) }
-    ensures done { OnOk result (spec.WasDone (spec.call_of (spec.plain_step step.now))
-        (seen disk.old).told (seen disk.new).told) }
-    ensures refused { OnErr result ((path : List ℕ)
-        → spec.DidNothing path (seen disk.old).told (seen disk.new).told) }
+    ensures takes { spec.TakesStep result (spec.plain_step step.now)
+        (seen disk.old).told (seen disk.new).told }
     ensures at { IfErr result (spec.IsErrorAt (spec.plain_step step.now).from) }
 {
     match call_step(alloc, disk, step) {
@@ -80,6 +78,10 @@ pub fn take_steps(alloc: Global, disk: &mut dyn Disk, steps: &[Step]) -> Result<
         → spec.AreApart mails changes
         → spec.AreSteps path mails changes (map spec.plain_step steps.now)
         → IfErr result (spec.IsSyncError path mails (spec.ids_of changes)) }
+    ensures holds { (path : List ℕ) → (mails : List Mail) → (changes : List Changed)
+        → spec.AreSteps path mails changes (map spec.plain_step steps.now)
+        → spec.KeepsAllBut path (spec.discarded mails changes)
+        (seen disk.old).told (seen disk.new).told }
 {
     let mut left = steps;
     while let [step, rest @ ..] = left {
@@ -100,7 +102,7 @@ fn keep_names_in(
     name: &str,
 ) -> Result<(), SyncError>
     ensures serves { spec.Serves result (seen disk.old) (seen disk.new) }
-    ensures does { spec.DidNothing path.now (seen disk.old).told (seen disk.new).told }
+    ensures leaves { spec.LeavesAll path.now (seen disk.old).told (seen disk.new).told }
     ensures at { IfErr result (spec.IsErrorAt path.now) }
 {
     let dir = match path_in(alloc, path, name) {
@@ -116,7 +118,7 @@ fn keep_names_in(
 /// Puts the names in `new` and in `cur` on the disk.
 pub fn keep_names(alloc: Global, disk: &mut dyn Disk, path: &str) -> Result<(), SyncError>
     ensures serves { spec.Serves result (seen disk.old) (seen disk.new) }
-    ensures does { spec.DidNothing path.now (seen disk.old).told (seen disk.new).told }
+    ensures leaves { spec.LeavesAll path.now (seen disk.old).told (seen disk.new).told }
     ensures at { IfErr result (spec.IsErrorAt path.now) }
 {
     match keep_names_in(alloc, disk, path, "new") {
@@ -129,7 +131,7 @@ pub fn keep_names(alloc: Global, disk: &mut dyn Disk, path: &str) -> Result<(), 
 /// Makes the directory `new`, where nothing stands there.
 pub fn make_new(alloc: Global, disk: &mut dyn Disk, path: &str) -> Result<(), SyncError>
     ensures serves { spec.Serves result (seen disk.old) (seen disk.new) }
-    ensures does { spec.DidNothing path.now (seen disk.old).told (seen disk.new).told }
+    ensures leaves { spec.LeavesAll path.now (seen disk.old).told (seen disk.new).told }
     ensures at { IfErr result (spec.IsErrorAt path.now) }
 {
     let dir = match path_in(alloc, path, "new") {

@@ -5,9 +5,9 @@ ghost use Rattle.mail_base.specs.declared.kind.Kind.TheVariants.{Maildir};
 ghost use Rattle.folder_core.specs.Right.{Right};
 ghost use Rattle.folder_letters.specs.Letters.{plain_letter};
 ghost use Rattle.index_items.specs.Changes.{AreBelow, plain_changes};
-ghost use Rattle.maildir_folder.specs.Steps.{AreApart, AreSteps, DidNothing, DidWanted};
-ghost use Rattle.maildir_folder.specs.Steps.{IsErrorAt, IsSyncError, Serves, ids_of, plain_step};
-ghost use Rattle.maildir_folder.specs.Steps.{what_of};
+ghost use Rattle.maildir_folder.specs.Steps.{AreApart, AreSteps, DidWanted, IsErrorAt};
+ghost use Rattle.maildir_folder.specs.Steps.{IsSyncError, KeepsAllBut, LeavesAll, Serves};
+ghost use Rattle.maildir_folder.specs.Steps.{discarded, ids_of, plain_step, what_of};
 ghost use Rattle.maildir_folder.specs.Synced as spec;
 
 use crate::candidates::Candidate;
@@ -38,7 +38,7 @@ fn unlisted(alloc: Global, path: &str, why: ScanError) -> SyncError
 // The files of a folder that may be messages, once its directory `new` is there.
 fn find_files(alloc: Global, disk: &mut dyn Disk, path: &str) -> Result<Vec<Candidate>, SyncError>
     ensures serves { Serves result (seen disk.old) (seen disk.new) }
-    ensures does { DidNothing path.now (seen disk.old).told (seen disk.new).told }
+    ensures leaves { LeavesAll path.now (seen disk.old).told (seen disk.new).told }
     ensures files { IfOk result (λ files. spec.AreFiles files.items) }
     ensures at { IfErr result (IsErrorAt path.now) }
 {
@@ -62,7 +62,7 @@ fn find_steps(
 ) -> Result<Vec<Step>, SyncError>
     requires { AreBelow (length archive.now) changes.now }
     ensures serves { Serves result (seen disk.old) (seen disk.new) }
-    ensures does { DidNothing known.now.path (seen disk.old).told (seen disk.new).told }
+    ensures leaves { LeavesAll known.now.path (seen disk.old).told (seen disk.new).told }
     ensures steps { IfOk result (λ steps. AreSteps known.now.path (map plain_letter archive.now)
         (plain_changes changes.now) (map plain_step steps.items)) }
     ensures names { IfErr result (IsSyncError known.now.path (map plain_letter archive.now)
@@ -92,6 +92,9 @@ fn change_files(
     ensures serves { Serves result (seen disk.old) (seen disk.new) }
     ensures does { DidWanted known.now.path
         (what_of (map plain_letter archive.now) (plain_changes changes.now)) result
+        (seen disk.old).told (seen disk.new).told }
+    ensures holds { KeepsAllBut known.now.path
+        (discarded (map plain_letter archive.now) (plain_changes changes.now))
         (seen disk.old).told (seen disk.new).told }
     ensures names { IfErr result (IsSyncError known.now.path (map plain_letter archive.now)
         (ids_of (plain_changes changes.now))) }

@@ -1,10 +1,11 @@
 use Rattle.std.proofs.Common.{Err, List, map, subst, sym}
 use Rattle.folder_letters.specs.Letters.{plain_letter}
 use Rattle.index_items.specs.Changes.{plain_changes}
-use Rattle.maildir_folder.specs.Steps.{AreSteps, ids_of, plain_step, what_of}
+use Rattle.maildir_folder.specs.Steps.{AreSteps, discarded, ids_of, plain_step, what_of}
 use Rattle.maildir_folder.specs.declared.steps.Step.{Step}
 use Rattle.maildir_folder.proofs.StepLemmas.{did_after, did_end, did_none, errors_folder}
-use Rattle.maildir_folder.proofs.StepLemmas.{nothing_at, serves_then}
+use Rattle.maildir_folder.proofs.StepLemmas.{serves_then}
+use Rattle.maildir_folder.proofs.StopLemmas.{keeps_then, leaves_at}
 use Rattle.maildir_folder.proofs.syncing.change_files.Goals as goal
 
 pub returns-in-Err-take_steps-clause-serves : goal.returns-in-Err-take_steps-clause-serves
@@ -23,16 +24,16 @@ returns-clause-does g c =
     let mails = map plain_letter c.args.archive.now in
     let changes = plain_changes c.args.changes.now in
     let path = c.args.known.now.path in
-    did_after path (what_of mails changes) c.keep_names.result _ _ _ c.in-Ok.ensures.does
+    did_after path (what_of mails changes) c.keep_names.result _ _ _ c.in-Ok.ensures.leaves.does
     (did_end path (what_of mails changes) c.keep_names.result _ _ _
     (c.in-Ok-take_steps.ensures.does path mails changes c.requires.apart
     (subst (λ (l : List Step). AreSteps path mails changes (map plain_step l))
     (sym c.as_slice.ensures.value) c.in-Ok.ensures.steps))
-    (nothing_at c.path.result.now path _ _ c.path.ensures c.keep_names.ensures.does))
+    (leaves_at c.path.result.now path _ _ c.path.ensures c.keep_names.ensures.leaves).does)
 
 pub returns-in-Err-clause-does : goal.returns-in-Err-clause-does
 returns-in-Err-clause-does g c =
-    did_none c.args.known.now.path _ c.in-Err.why _ _ c.in-Err.ensures.does
+    did_none c.args.known.now.path _ c.in-Err.why _ _ c.in-Err.ensures.leaves.does
 
 pub returns-in-Err-take_steps-clause-does : goal.returns-in-Err-take_steps-clause-does
 returns-in-Err-take_steps-clause-does g c =
@@ -40,7 +41,7 @@ returns-in-Err-take_steps-clause-does g c =
     let changes = plain_changes c.args.changes.now in
     let path = c.args.known.now.path in
     did_after path (what_of mails changes) (Err c.in-Err-take_steps.why) _ _ _
-    c.in-Ok.ensures.does
+    c.in-Ok.ensures.leaves.does
     (c.in-Err-take_steps.ensures.does path mails changes c.requires.apart
     (subst (λ (l : List Step). AreSteps path mails changes (map plain_step l))
     (sym c.as_slice.ensures.value) c.in-Ok.ensures.steps))
@@ -59,3 +60,32 @@ returns-clause-names g c =
     errors_folder c.path.result.now c.args.known.now.path (map plain_letter c.args.archive.now)
     (ids_of (plain_changes c.args.changes.now)) c.keep_names.result c.path.ensures
     c.keep_names.ensures.at
+
+pub returns-in-Err-clause-holds : goal.returns-in-Err-clause-holds
+returns-in-Err-clause-holds g c =
+    c.in-Err.ensures.leaves.holds
+    (discarded (map plain_letter c.args.archive.now) (plain_changes c.args.changes.now))
+
+pub returns-in-Err-take_steps-clause-holds : goal.returns-in-Err-take_steps-clause-holds
+returns-in-Err-take_steps-clause-holds g c =
+    let mails = map plain_letter c.args.archive.now in
+    let changes = plain_changes c.args.changes.now in
+    let path = c.args.known.now.path in
+    keeps_then path (discarded mails changes) _ _ _
+    (c.in-Ok.ensures.leaves.holds (discarded mails changes))
+    (c.in-Err-take_steps.ensures.holds path mails changes
+    (subst (λ (l : List Step). AreSteps path mails changes (map plain_step l))
+    (sym c.as_slice.ensures.value) c.in-Ok.ensures.steps))
+
+pub returns-clause-holds : goal.returns-clause-holds
+returns-clause-holds g c =
+    let mails = map plain_letter c.args.archive.now in
+    let changes = plain_changes c.args.changes.now in
+    let path = c.args.known.now.path in
+    let keys = discarded mails changes in
+    let steps : AreSteps path mails changes (map plain_step c.as_slice.result.now) =
+    subst (λ (l : List Step). AreSteps path mails changes (map plain_step l))
+    (sym c.as_slice.ensures.value) c.in-Ok.ensures.steps in
+    keeps_then path keys _ _ _ (c.in-Ok.ensures.leaves.holds keys)
+    (keeps_then path keys _ _ _ (c.in-Ok-take_steps.ensures.holds path mails changes steps)
+    ((leaves_at c.path.result.now path _ _ c.path.ensures c.keep_names.ensures.leaves).holds keys))

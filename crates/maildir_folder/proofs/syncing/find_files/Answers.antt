@@ -1,17 +1,18 @@
 use Rattle.std.proofs.Common.{Err}
-use Rattle.maildir_folder.proofs.StepLemmas.{looks_did, nothing_then, serves_then}
+use Rattle.maildir_folder.proofs.StepLemmas.{serves_then}
+use Rattle.maildir_folder.proofs.StopLemmas.{leaves_looked, leaves_then}
 use Rattle.maildir_folder.proofs.SyncedLemmas.{serves_unlisted}
 use Rattle.maildir_folder.proofs.syncing.find_files.Goals as goal
 
-pub returns-in-Ok-list_files-clause-does : goal.returns-in-Ok-list_files-clause-does
-returns-in-Ok-list_files-clause-does g c =
-    nothing_then c.args.path.now _ _ _ c.in-Ok.ensures.does
-    (looks_did c.args.path.now _ _ c.list_files.ensures.only.looks)
+pub returns-in-Ok-list_files-clause-leaves : goal.returns-in-Ok-list_files-clause-leaves
+returns-in-Ok-list_files-clause-leaves g c =
+    leaves_then c.args.path.now _ _ _ c.in-Ok.ensures.leaves
+    (leaves_looked c.args.path.now _ _ c.list_files.ensures.only.looks)
 
-pub returns-in-Err-list_files-clause-does : goal.returns-in-Err-list_files-clause-does
-returns-in-Err-list_files-clause-does g c =
-    nothing_then c.args.path.now _ _ _ c.in-Ok.ensures.does
-    (looks_did c.args.path.now _ _ c.list_files.ensures.only.looks)
+pub returns-in-Err-list_files-clause-leaves : goal.returns-in-Err-list_files-clause-leaves
+returns-in-Err-list_files-clause-leaves g c =
+    leaves_then c.args.path.now _ _ _ c.in-Ok.ensures.leaves
+    (leaves_looked c.args.path.now _ _ c.list_files.ensures.only.looks)
 
 pub returns-in-Err-list_files-clause-serves : goal.returns-in-Err-list_files-clause-serves
 returns-in-Err-list_files-clause-serves g c =

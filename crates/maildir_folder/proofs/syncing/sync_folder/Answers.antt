@@ -5,6 +5,7 @@ use Rattle.index_items.specs.Changes.{plain_changes}
 use Rattle.maildir_folder.specs.Changing.{listing_synced}
 use Rattle.maildir_folder.specs.Steps.{AreApart, ids_of}
 use Rattle.maildir_folder.proofs.ApartLemmas.{right_apart}
+use Rattle.maildir_folder.proofs.StopLemmas.{holds_letters}
 use Rattle.maildir_folder.proofs.SyncedLemmas.{did_letters, letters_below, names_letters}
 use Rattle.maildir_folder.proofs.SyncedLemmas.{syncs_done, syncs_none, syncs_not}
 use Rattle.maildir_folder.proofs.syncing.sync_folder.Goals as goal
@@ -37,6 +38,9 @@ returns-in-Ok-change_files g c =
     (did_letters c.as_slice.result.now c.args.archive.now.items
     (plain_changes c.args.changes.now) c.args.known.now.path (Ok tt) _ _ c.as_slice.ensures
     c.in-Ok-change_files.ensures.does)
+    (holds_letters c.as_slice.result.now c.args.archive.now.items
+    (plain_changes c.args.changes.now) c.args.known.now.path _ _ c.as_slice.ensures
+    c.in-Ok-change_files.ensures.holds)
     c.in-Ok-change_files.ensures.serves
 
 pub returns-in-Err-change_files : goal.returns-in-Err-change_files
@@ -46,6 +50,9 @@ returns-in-Err-change_files g c =
     (did_letters c.as_slice.result.now c.args.archive.now.items
     (plain_changes c.args.changes.now) c.args.known.now.path (Err c.in-Err-change_files.why) _ _
     c.as_slice.ensures c.in-Err-change_files.ensures.does)
+    (holds_letters c.as_slice.result.now c.args.archive.now.items
+    (plain_changes c.args.changes.now) c.args.known.now.path _ _ c.as_slice.ensures
+    c.in-Err-change_files.ensures.holds)
     (names_letters c.as_slice.result.now c.args.archive.now.items
     (ids_of (plain_changes c.args.changes.now)) c.args.known.now.path c.in-Err-change_files.why
     c.as_slice.ensures c.in-Err-change_files.ensures.names)

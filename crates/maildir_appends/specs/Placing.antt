@@ -1,0 +1,52 @@
+-- Where a message of a Maildir is written first, and where it is put.
+use Rattle.std.specs.Prelude.{◌≡◌, ◌||◌, ℕ, Bool, List, Option, Some, None, codes}
+use Rattle.std.specs.String.{string_bytes}
+use Rattle.mail_base.specs.declared.flags.Flags.{Flags}
+use Rattle.disk_model.specs.Journal.{Past}
+use Rattle.folder_letters.specs.declared.letter.Letter.{Letter}
+use Rattle.folder_core.specs.Directory.{path_in}
+use Rattle.folder_core.specs.Maildir.{directory}
+use Rattle.folder_shapes.specs.Maildir.{maildir_making, maildir_shape}
+use Rattle.maildir_appends.specs.Meeting.{SawPresent}
+use Rattle.maildir_appends.specs.Naming.{IsBase, IsFirstFree, name_for}
+use Rattle.maildir_appends.specs.Taken.{is_taken}
+use Rattle.maildir_appends.specs.declared.listing.Present.{Present}
+use Rattle.maildir_appends.specs.declared.places.Places.{Places}
+
+-- A path in `tmp` and one in `cur` or `new` are those of one key.
+pub record IsPlaced (dir beside place : List ℕ) : Type 0 where
+  pub key : List ℕ
+  pub made : maildir_making dir beside ≡ Some key
+  pub placed : (maildir_shape dir).slot place ≡ Some key
+
+-- no message stands under this name in the folder
+abbrev pub IsApart : List ℕ → List ℕ → Type 0
+IsApart dir word = (maildir_shape dir).slot (path_in dir word) ≡ None
+
+-- the path of a base in `tmp`
+abbrev pub beside_at : List ℕ → List ℕ → List ℕ
+beside_at dir base = path_in (path_in dir (codes "tmp")) base
+
+-- messages that are seen or aged stand in `cur`
+abbrev pub is_in_cur : Flags → Bool
+is_in_cur flags = flags.seen || flags.aged
+
+-- the path of a base with flags, as a sync would put it
+abbrev pub place_at : List ℕ → List ℕ → Flags → List ℕ
+place_at dir base flags = path_in (directory (is_in_cur flags) dir) (name_for base flags)
+
+-- The paths are those of a base with flags.
+pub record AreOf (dir base : List ℕ) (flags : Flags) (places : Places) : Type 0 where
+  pub beside : string_bytes places.beside ≡ beside_at dir base
+  pub place : string_bytes places.place ≡ place_at dir base flags
+
+-- The paths are those of a base with flags, the first of the moment that neither the names which
+-- the looks met nor the letters have taken.
+pub record AreChosen (dir : List ℕ) (letters : List Letter) (moment : ℕ) (flags : Flags)
+    (old new : Option Past) (places : Places) : Type 0 where
+  pub present : Present
+  pub saw : SawPresent dir present old new
+  pub base : List ℕ
+  pub first : IsFirstFree (is_taken present letters) moment base
+  pub is_base : IsBase base
+  pub paths : AreOf dir base flags places

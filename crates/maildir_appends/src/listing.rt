@@ -1,0 +1,93 @@
+//! What stands in the directories of a Maildir to which a message is added.
+
+ghost use Rattle.std.specs.Prelude.{◌≡◌, [], IfOk, None, true};
+ghost use Rattle.folder_core.specs.Directory.{path_in as path_in_lem};
+ghost use Rattle.folder_core.specs.Maildir.{directory};
+ghost use Rattle.folder_shapes.specs.Maildir.{maildir_files};
+ghost use Rattle.maildir_appends.specs.FirstLooking.{LooksFirst};
+ghost use Rattle.maildir_appends.specs.Meeting.{SawNames, SawPresent};
+ghost use Rattle.maildir_appends.specs.Placing.{IsApart};
+ghost use Rattle.maildir_appends.specs.Preparing.{Prepares};
+ghost use Rattle.maildir_appends.specs.Refusing.{BlamesDisk};
+ghost use Rattle.maildir_appends.specs.Taken.{plain_names};
+
+use crate::addition::AppendError;
+use disk_model::{Disk, DiskError};
+use folder_core::path_in;
+use mail_base::Names;
+use std::alloc::Global;
+
+/// The names in the directories of a Maildir.
+#[derive(Drop)]
+pub struct Present {
+    pub cur: Names,
+    pub new: Names,
+    pub tmp: Names,
+}
+
+// The names in `cur`.
+fn cur_names(alloc: Global, disk: &mut dyn Disk, path: &str) -> Result<Names, AppendError>
+    ensures prepares { Prepares (maildir_files path.now) (seen disk.old).told (seen disk.new).told }
+    ensures first { LooksFirst (directory true path.now) result
+        (seen disk.old).told (seen disk.new).told }
+    ensures saw { IfOk result (λ names. SawNames (directory true path.now) (plain_names names)
+        (seen disk.old).told (seen disk.new).told) }
+    ensures blames { BlamesDisk result (seen disk.old) (seen disk.new) }
+{
+    let dir = path_in(alloc, path, "cur")?;
+    let names = disk.list(alloc, dir.as_str())?;
+    Ok(names)
+}
+
+// Makes a directory, in which there is nothing then.
+fn make_dir(alloc: Global, disk: &mut dyn Disk, path: &str, dir: &str) -> Result<Names, AppendError>
+    requires apart { (maildir_files path.now).shape.slot dir.now ≡ None }
+    requires inside { (maildir_files path.now).shape.home dir.now ≡ true }
+    ensures prepares { Prepares (maildir_files path.now) (seen disk.old).told (seen disk.new).told }
+    ensures none { IfOk result (λ names. names.items ≡ []) }
+    ensures blames { BlamesDisk result (seen disk.old) (seen disk.new) }
+{
+    disk.make_dir(alloc, dir)?;
+    Ok(Names::new(alloc))
+}
+
+// The names in a directory that is made where it is missing.
+fn names_or_none(
+    alloc: Global,
+    disk: &mut dyn Disk,
+    path: &str,
+    word: &str,
+) -> Result<Names, AppendError>
+    requires { IsApart path.now word.now }
+    ensures prepares { Prepares (maildir_files path.now) (seen disk.old).told (seen disk.new).told }
+    ensures saw { IfOk result (λ names. SawNames (path_in_lem path.now word.now)
+        (plain_names names) (seen disk.old).told (seen disk.new).told) }
+    ensures blames { BlamesDisk result (seen disk.old) (seen disk.new) }
+{
+    let dir = path_in(alloc, path, word)?;
+    match disk.list(alloc, dir.as_str()) {
+        Ok(names) => Ok(names),
+        Err(DiskError::Missing) => make_dir(alloc, disk, path, dir.as_str()),
+        Err(why) => Err(AppendError::from(why)),
+    }
+}
+
+/// Looks at the directories of a Maildir, and makes `new` and `tmp` where they are missing.
+pub fn list_names(alloc: Global, disk: &mut dyn Disk, path: &str) -> Result<Present, AppendError>
+    ensures prepares { Prepares (maildir_files path.now) (seen disk.old).told (seen disk.new).told }
+    ensures first { LooksFirst (directory true path.now) result
+        (seen disk.old).told (seen disk.new).told }
+    ensures saw { IfOk result (λ present. SawPresent path.now present
+        (seen disk.old).told (seen disk.new).told) }
+    ensures blames { BlamesDisk result (seen disk.old) (seen disk.new) }
+{
+    let cur = cur_names(alloc, disk, path)?;
+    let new = match names_or_none(alloc, disk, path, "new") {
+        Ok(names) => names,
+        Err(why) => return Err(why),
+    };
+    match names_or_none(alloc, disk, path, "tmp") {
+        Ok(tmp) => Ok(Present { cur, new, tmp }),
+        Err(why) => Err(why),
+    }
+}
