@@ -1,5 +1,5 @@
 -- Calls of a disk that do what is wanted of the messages of a Maildir.
-use Rattle.std.proofs.Common.{◌≡◌, ◌≢◌, ◌≤◌, ◌<◌, ◌+◌, ◌++◌, ◌&&◌, ◌||◌, ℕ, Bool, true, false, List}
+use Rattle.std.proofs.Common.{◌≡◌, ◌≢◌, ◌≤◌, ◌+◌, ◌++◌, ◌&&◌, ℕ, Bool, true, false, List}
 use Rattle.std.proofs.Common.{[]}
 use Rattle.std.proofs.Common.{◌∷◌, Option, Some, None, option_map, map, length, refl, sym, ◌∙◌, ap}
 use Rattle.std.proofs.Common.{subst, arith, append_assoc, length-append, is_none, Result, Ok, take}
@@ -12,7 +12,7 @@ use Rattle.std.specs.Prelude.{option_and_then}
 use Rattle.mail_base.specs.Flags.{applied, stored}
 use Rattle.mail_base.specs.declared.flags.Flags.{Flags}
 use Rattle.mail_base.specs.declared.kind.Kind.TheVariants.{Maildir}
-use Rattle.disk_model.specs.Journal.{Action, Answer, Call, Done, Entry, ListDir, MakeDir, Others}
+use Rattle.disk_model.specs.Journal.{Action, Answer, Call, Done, Entry, MakeDir, Others}
 use Rattle.disk_model.specs.Journal.{Own, Past, Refused, Remove, Rename, SyncDir}
 use Rattle.disk_model.specs.Judge.{IsLonger, OneStep, StepBy, answer_by, done_by}
 use Rattle.disk_model.specs.Looking.{HasLooked, all_look, looks}
@@ -33,7 +33,7 @@ use Rattle.folder_core.specs.Maildir.{maildir_reads, message_at, path_of}
 use Rattle.folder_changes.specs.Maildir.{DoesWanted, IsSingleNamed, OthersKeepSingle, WorksSingly}
 use Rattle.folder_changes.specs.Maildir.{flags_named, maildir_at}
 use Rattle.folder_changes.specs.Wanted.{change_at, wanted}
-use Rattle.folder_changes.specs.Worked.{either, is_own, nothing_wanted, others_at}
+use Rattle.folder_changes.specs.Worked.{either, nothing_wanted}
 use Rattle.folder_changes.proofs.MaildirLemmas.{alike_reads, alike_single, renamed_reads}
 use Rattle.folder_changes.proofs.MaildirLemmas.{renamed_single, taken_reads, taken_single}
 use Rattle.folder_changes.proofs.PathLemmas.{directories_differ, directory_no_folder}

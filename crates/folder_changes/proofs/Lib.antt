@@ -7,3 +7,6 @@ pub mod PathLemmas
 pub mod StateLemmas
 pub mod WorkLemmas
 pub mod CallLemmas
+pub mod LeftLemmas
+pub mod ApartLemmas
+pub mod ServingLemmas

@@ -1,5 +1,5 @@
 -- Which messages a Maildir reads as: those of its names, in order.
-use Rattle.std.proofs.Common.{◌≡◌, ◌⊎◌, inl, inr, ◌++◌, ◌||◌, Bool, true, false, List, [], ◌∷◌}
+use Rattle.std.proofs.Common.{◌≡◌, ◌⊎◌, inl, inr, ◌||◌, Bool, true, false, List, [], ◌∷◌}
 use Rattle.std.proofs.Common.{Option}
 use Rattle.std.proofs.Common.{Some, None, is_some, map, refl, sym, ◌∙◌, ap, subst, if◌then◌else◌, ℕ}
 use Rattle.std.proofs.lemmas.Bool.{and_parts}
@@ -9,7 +9,7 @@ use Rattle.std.proofs.lemmas.List.Sorted.{ranks_by}
 use Rattle.std.proofs.lemmas.Slice.Eq.{bytes_eq-Decides}
 use Rattle.std.specs.Cmp.{IsTotalOrder, IsStrictWeakOrder, bool_cmp_total}
 use Rattle.std.specs.Cmp.Lexicographic.{slice_cmp}
-use Rattle.std.specs.List.{filter, list_any}
+use Rattle.std.specs.List.{filter}
 use Rattle.std.specs.Ordering.{bool_cmp, is_lt, nat_cmp, ordering_reverse, ordering_then}
 use Rattle.std.specs.Prelude.{option_map}
 use Rattle.std.specs.Str.{bytes_eq}
@@ -22,7 +22,7 @@ use Rattle.mail_base.specs.Ordered.{IsIn, in_order_by}
 use Rattle.mail_base.proofs.OrderedLemmas.{in_order_held, text_same, then_equal}
 use Rattle.folder_core.specs.Directory.{file_at}
 use Rattle.folder_core.specs.Maildir.{MaildirFile, all_files, base_of, comes_before, directory}
-use Rattle.folder_core.specs.Maildir.{file_cmp, files_in, is_shown, is_taken, maildir_messages}
+use Rattle.folder_core.specs.Maildir.{files_in, is_shown, is_taken, maildir_messages}
 use Rattle.folder_core.specs.Maildir.{message_at, message_of, messages_behind, path_of}
 use Rattle.folder_core.specs.Maildir.{with_message}
 use Rattle.folder_core.specs.MaildirNames.{order_of}

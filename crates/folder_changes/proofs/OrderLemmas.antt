@@ -1,6 +1,6 @@
 -- Lists that a test puts in order: what they hold, and that they are in order.
 use Rattle.std.proofs.Common.{◌≡◌, ◌⊎◌, inl, inr, ◌++◌, Bool, true, false, List, [], ◌∷◌, refl, sym}
-use Rattle.std.proofs.Common.{◌∙◌, ap, subst, if◌then◌else◌}
+use Rattle.std.proofs.Common.{◌∙◌, subst, if◌then◌else◌}
 use Rattle.std.specs.Cmp.{IsStrictWeakOrder}
 use Rattle.mail_base.specs.Ordered.{IsIn, in_order_by, put_by}
 

@@ -1,8 +1,7 @@
 -- What our own renames and removals do to the files of a Maildir.
-use Rattle.std.proofs.Common.{◌≡◌, ◌⊎◌, inl, inr, ℕ, Bool, true, false, List, [], ◌∷◌, Option, Some}
-use Rattle.std.proofs.Common.{None, is_some, is_none, map, refl, sym, ◌∙◌, ap, subst}
+use Rattle.std.proofs.Common.{◌≡◌, ℕ, Bool, true, false, List, [], ◌∷◌, Option, Some}
+use Rattle.std.proofs.Common.{None, is_none, refl, sym, ◌∙◌, ap, subst}
 use Rattle.std.proofs.Common.{if◌then◌else◌}
-use Rattle.std.proofs.lemmas.Bool.{and_parts}
 use Rattle.std.proofs.lemmas.Slice.Eq.{bytes_eq-Decides}
 use Rattle.std.specs.Prelude.{◌&&◌, option_and_then, option_map}
 use Rattle.std.specs.Str.{bytes_eq}
@@ -11,7 +10,7 @@ use Rattle.mail_base.specs.declared.flags.Flags.{Flags}
 use Rattle.mail_base.specs.declared.kind.Kind.TheVariants.{Maildir}
 use Rattle.disk_model.specs.Journal.{Remove, Rename}
 use Rattle.disk_model.specs.Refusals.{file_refusal, first_refusal, refusal}
-use Rattle.disk_model.specs.State.{File, Name, State, after_done, file_at, moved, name_at, name_in}
+use Rattle.disk_model.specs.State.{Name, State, after_done, file_at, moved, name_at, name_in}
 use Rattle.disk_model.specs.State.{node_of}
 use Rattle.disk_model.specs.State.{tree_of, with_names, without}
 use Rattle.disk_model.specs.Tree.{TreeNode, is_folder_node, is_root, node_at}

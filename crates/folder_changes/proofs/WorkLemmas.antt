@@ -1,30 +1,23 @@
 -- Steps of a call, one behind the other, that do what is wanted of the messages of a Maildir.
-use Rattle.std.proofs.Common.{◌≡◌, ◌≢◌, ◌≤◌, ◌<◌, ◌+◌, ◌-◌, ◌==◌, ◌⊎◌, inl, inr, ◌++◌, ◌&&◌, ◌||◌}
+use Rattle.std.proofs.Common.{◌≡◌, ◌≢◌, ◌≤◌, ◌<◌, ◌+◌, ◌-◌, ◌==◌, ◌++◌, ◌||◌}
 use Rattle.std.proofs.Common.{ℕ}
 use Rattle.std.proofs.Common.{zero, suc, Bool, true, false, List, [], ◌∷◌, Option, Some, None}
-use Rattle.std.proofs.Common.{option_map, map, length, take, drop, refl, sym, ◌∙◌, ap, subst, arith}
-use Rattle.std.proofs.Common.{nat_lt, if◌then◌else◌, append_assoc, length-append, ltb-true}
+use Rattle.std.proofs.Common.{option_map, length, take, drop, refl, sym, ◌∙◌, ap, subst, arith}
+use Rattle.std.proofs.Common.{nat_lt, if◌then◌else◌, ltb-true}
 use Rattle.std.proofs.Math.Seq.{drop-append-add, drop-append_seam, take-add}
-use Rattle.std.proofs.lemmas.Bool.{and_parts}
 use Rattle.std.specs.List.{list_any}
 use Rattle.std.specs.Option.{option_or}
 use Rattle.mail_base.specs.declared.kind.Kind.TheVariants.{Maildir}
-use Rattle.disk_model.specs.Journal.{Action, Call, Done, Entry, Others, Own, Past, Refused}
-use Rattle.disk_model.specs.Judge.{IsLonger}
-use Rattle.disk_model.specs.Looking.{HasLooked, all_look, is_look, looks}
+use Rattle.disk_model.specs.Journal.{Entry, Others, Own, Past}
 use Rattle.disk_model.specs.State.{State, after_entry, run_entries, state_at, state_of, tree_at}
 use Rattle.disk_model.specs.State.{tree_of}
-use Rattle.disk_model.specs.Tree.{TreeNode}
-use Rattle.disk_model.proofs.Looking.{looked_longer}
-use Rattle.disk_model.proofs.Marks.{length_longer, look_keeps, refusal_keeps}
 use Rattle.disk_model.proofs.Runs.{run_entries-append}
 use Rattle.index_items.specs.Changes.{PlainChange}
 use Rattle.folder_core.specs.Maildir.{maildir_reads}
-use Rattle.folder_core.specs.Message.{Message}
-use Rattle.folder_changes.specs.Maildir.{DoesWanted, IsSingleNamed, OthersKeepSingle, WorksSingly}
+use Rattle.folder_changes.specs.Maildir.{IsSingleNamed, OthersKeepSingle, WorksSingly}
 use Rattle.folder_changes.specs.Maildir.{maildir_at}
 use Rattle.folder_changes.specs.Wanted.{wanted}
-use Rattle.folder_changes.specs.Worked.{Works, due, either, is_others, is_own, nothing_wanted}
+use Rattle.folder_changes.specs.Worked.{due, either, is_others, is_own, nothing_wanted}
 use Rattle.folder_changes.specs.Worked.{others_at, own_at}
 use Rattle.folder_changes.proofs.StepLemmas.{early, nothing_of, same_of}
 

@@ -13,6 +13,4 @@ pub mod NamedFileLemmas
 pub mod StepLemmas
 pub mod StopLemmas
 pub mod PlanLemmas
-pub mod ChangingLemmas
-pub mod ApartLemmas
 pub mod SyncedLemmas

@@ -22,7 +22,8 @@ use Rattle.folder_changes.specs.Maildir.{flags_named}
 use Rattle.index_items.specs.Changes.{plain_change, plain_changes}
 use Rattle.maildir_folder.specs.Candidates.{IsCandidate, plain_file}
 use Rattle.maildir_folder.specs.NamedFile.{file_named}
-use Rattle.maildir_folder.specs.Plan.{AddsStep, IsPlanRefusal, ids_changed}
+use Rattle.maildir_folder.specs.Plan.{AddsStep, IsPlanRefusal}
+use Rattle.folder_changes.specs.Asked.{ids_changed}
 use Rattle.maildir_folder.specs.Steps.{AreSteps, GoesTo, IsStep, IsStepOf, PlainStep}
 use Rattle.maildir_folder.specs.declared.candidates.Candidate.{Candidate}
 use Rattle.maildir_folder.specs.declared.plan.PlanError.{PlanError}

@@ -4,7 +4,7 @@ use Rattle.mail_base.specs.declared.kind.Id.{Id}
 use Rattle.std.proofs.Common.{◌⊎◌, inl, inr, sym}
 use Rattle.std.specs.Prelude.{IfErr}
 use Rattle.std.proofs.Common.{◌≡◌, ◌≢◌, ℕ, Bool, true, false, List, [], ◌∷◌, Option, Some, None}
-use Rattle.std.proofs.Common.{Result, Ok, Err, refl, ◌∙◌, ap, subst, arith, if◌then◌else◌}
+use Rattle.std.proofs.Common.{Result, Ok, Err, refl, ◌∙◌, ap, subst, if◌then◌else◌}
 use Rattle.std.specs.Option.{option_or}
 use Rattle.std.specs.Str.{bytes_eq}
 use Rattle.disk_model.specs.Journal.{Refused}
@@ -12,16 +12,15 @@ use Rattle.maildir_folder.specs.Steps.{DidNothing, DoesPart}
 use Rattle.disk_model.specs.Journal.{Answer, Call, MakeDir, Own, Past, Remove, Rename}
 use Rattle.disk_model.specs.Judge.{GoesOn, OneStep, StepBy, done_by}
 use Rattle.disk_model.specs.Looking.{LooksOnly}
-use Rattle.disk_model.specs.Seen.{Seen}
 use Rattle.disk_model.specs.declared.answers.DiskError.{DiskError}
 use Rattle.disk_model.specs.declared.answers.DiskError.TheVariants.{Exists}
-use Rattle.disk_model.proofs.Looking.{grows_then, looks_same}
+use Rattle.disk_model.proofs.Looking.{looks_same}
 use Rattle.disk_model.proofs.Trees.{bytes_same}
 use Rattle.index_items.specs.Changes.{Changed, PlainChange, Alters, Discards}
 use Rattle.folder_letters.specs.Letters.{Mail}
 use Rattle.folder_core.specs.Keeping.{mail_of}
 use Rattle.folder_core.specs.Maildir.{MaildirFile, base_of, directory, path_of}
-use Rattle.folder_core.proofs.SeenLemmas.{goes_as, rose_later}
+use Rattle.folder_core.proofs.SeenLemmas.{goes_as}
 use Rattle.folder_changes.specs.Maildir.{DoesWanted}
 use Rattle.folder_changes.specs.Wanted.{change_at}
 use Rattle.folder_changes.specs.Worked.{either, nothing_wanted}
@@ -32,12 +31,16 @@ use Rattle.folder_changes.specs.declared.sync_error.SyncError.TheVariants.{TooMa
 use Rattle.folder_changes.specs.declared.sync_error.SyncError.TheVariants.{Fault, NoMemory}
 use Rattle.folder_changes.specs.declared.sync_error.SyncError.TheVariants.{NotFolder}
 use Rattle.folder_changes.specs.declared.sync_error.Spot.TheVariants.{Name, At}
-use Rattle.maildir_folder.specs.Steps.{IsErrorAt, IsFileOf, IsSyncError, ids_of}
+use Rattle.maildir_folder.specs.Steps.{IsFileOf, IsSyncError}
+use Rattle.folder_changes.specs.Serving.{IsErrorAt}
+use Rattle.folder_changes.specs.Asked.{ids_of}
 use Rattle.folder_changes.proofs.CallLemmas.{call_does, does_then, looked_does, removed_does}
 use Rattle.folder_changes.proofs.CallLemmas.{make_new_leaves, refused_does, renamed_does}
 use Rattle.folder_changes.proofs.WorkLemmas.{LeavesMessages, works_same}
-use Rattle.maildir_folder.specs.Steps.{AreApart, AreSteps, DidWanted, IsStep, IsStepOf}
-use Rattle.maildir_folder.specs.Steps.{PlainStep, Serves, WasDone, call_by, call_of, what_of}
+use Rattle.maildir_folder.specs.Steps.{AreSteps, DidWanted, IsStep, IsStepOf}
+use Rattle.folder_changes.specs.Asked.{AreApart}
+use Rattle.maildir_folder.specs.Steps.{PlainStep, WasDone, call_by, call_of}
+use Rattle.folder_changes.specs.Asked.{what_of}
 
 some_none : {A : Type 0} (x : A) → ◌≡◌ {A = Option A} (Some x) None → ⊥
 some_none x e = cc
@@ -201,34 +204,6 @@ step_refused path step why old new goes =
     leaves from (Some to) w wrote state own single = (single, refl)
 
 -- One part of a sync behind another.
-
-ok_err : ◌≡◌ {A = Result (Unit {0}) SyncError} (Ok tt) (Err Fault) → ⊥
-ok_err e = cc
-
--- nothing was called
-pub serves_first : (seen : Seen) → Serves {A = Unit {0}} (Ok tt) seen seen
-serves_first seen = record {
-  grows = goes_as seen.told seen.told (λ p q looked. record {
-    same_first = looked.same_first;
-    more = looked.more;
-    journal = looked.journal;
-  }) (looks_same seen.told);
-  marks = omega arith;
-  faults = omega arith;
-  cause = λ is. absurd (ok_err is);
-}
-
--- what a part keeps, and the one behind it, both keep
-pub serves_then : {A B : Type 0} (done : A) (result : Result B SyncError) (old mid new : Seen)
-    → Serves (Ok done) old mid → Serves result mid new → Serves result old new
-serves_then done result old mid new first next = record {
-  grows = grows_then old.told mid.told new.told first.grows next.grows;
-  marks = omega (arith, first.marks, next.marks);
-  faults = omega (arith, first.faults, next.faults);
-  cause = λ is. rose_later old.faults mid.faults new.faults first.faults (next.cause is);
-}
-
--- A step does what is wanted of one message.
 
 step_by : (path : List ℕ) (file : MaildirFile) (change : PlainChange) (from : List ℕ)
     (to : Option (List ℕ)) (old new : Option Past)

@@ -28,8 +28,9 @@ use Rattle.folder_stops.proofs.Syncs as S
 use Rattle.folder_shapes.specs.Maildir.{maildir_files, maildir_shape}
 use Rattle.folder_shapes.proofs.MaildirLemmas.{a_maildir, maildir_formed, slot_new, slot_of}
 use Rattle.maildir_folder.specs.Steps.{AreSteps, IsStep, IsStepOf, KeepsAllBut, LeavesAll}
-use Rattle.maildir_folder.specs.Steps.{MayChange, PlainStep, call_by, call_of, discarded}
-use Rattle.maildir_folder.specs.Steps.{with_discarded}
+use Rattle.maildir_folder.specs.Steps.{MayChange, PlainStep, call_by, call_of}
+use Rattle.folder_changes.specs.Asked.{discarded}
+use Rattle.folder_changes.specs.Asked.{with_discarded}
 use Rattle.maildir_folder.proofs.StepLemmas.{looks_did, nothing_then}
 
 -- Stretches, one behind the other.

@@ -4,14 +4,12 @@ use Rattle.std.proofs.Common.{subst}
 use Rattle.std.proofs.lemmas.List.{length-map}
 use Rattle.mail_base.specs.declared.kind.Kind.TheVariants.{Maildir}
 use Rattle.disk_model.specs.Journal.{Past}
-use Rattle.disk_model.specs.Looking.{OnlyLooks}
 use Rattle.disk_model.specs.Seen.{Seen}
-use Rattle.disk_model.proofs.Looking.{looks_grows, looks_same}
+use Rattle.disk_model.proofs.Looking.{looks_same}
 use Rattle.folder_core.proofs.SeenLemmas.{only_same}
 use Rattle.folder_changes.specs.declared.sync_error.SyncError.TheVariants.{NoMemory}
 use Rattle.maildir_folder.proofs.StepLemmas.{did_none, looks_did}
-use Rattle.std.specs.Prelude.{IsErrOf, Option}
-use Rattle.mail_base.specs.Faults.{Rose}
+use Rattle.std.specs.Prelude.{Option}
 use Rattle.mail_base.specs.declared.kind.Id.{Id}
 use Rattle.index_items.specs.Changes.{AreBelow, Changed, plain_changes}
 use Rattle.folder_letters.specs.Letters.{Mail, plain_letter}
@@ -23,15 +21,17 @@ use Rattle.folder_core.specs.Right.{Right}
 use Rattle.folder_changes.specs.declared.sync_error.SyncError.{SyncError}
 use Rattle.folder_changes.specs.declared.sync_error.SyncError.TheVariants.{Fault}
 use Rattle.folder_core.specs.Maildir.{MaildirFile}
-use Rattle.folder_core.specs.declared.error.ScanError.{ScanError}
-use Rattle.folder_core.specs.declared.error.ScanError.TheVariants.{Fault as ScanFault}
 use Rattle.folder_stops.specs.Syncs.{KeepsHolds}
 use Rattle.folder_shapes.specs.Maildir.{maildir_files}
-use Rattle.maildir_folder.specs.Changing.{listing_synced}
-use Rattle.maildir_folder.specs.Plan.{IsPlanRefusal, ids_changed}
-use Rattle.maildir_folder.specs.Steps.{DidWanted, IsSyncError, Serves, discarded, ids_of, what_of}
-use Rattle.maildir_folder.specs.Steps.{IsErrorAt}
-use Rattle.maildir_folder.specs.Synced.{AreListed, Syncs, file_known}
+use Rattle.folder_changes.specs.Left.{listing_synced}
+use Rattle.maildir_folder.specs.Plan.{IsPlanRefusal}
+use Rattle.folder_changes.specs.Asked.{ids_changed}
+use Rattle.maildir_folder.specs.Steps.{DidWanted, IsSyncError}
+use Rattle.folder_changes.specs.Serving.{Serves}
+use Rattle.folder_changes.specs.Asked.{discarded, ids_of, what_of}
+use Rattle.folder_changes.specs.Serving.{IsErrorAt}
+use Rattle.maildir_folder.specs.Synced.{Syncs, file_known}
+use Rattle.folder_changes.specs.Asked.{AreListed}
 use Rattle.maildir_folder.proofs.NameLemmas.{made_is_split}
 use Rattle.maildir_folder.proofs.StepLemmas.{error_among, error_file}
 use Rattle.maildir_folder.proofs.StopLemmas.{holds_first}
@@ -41,18 +41,12 @@ use Rattle.std.proofs.Common.{◌∷◌, inl, refl}
 use Rattle.folder_core.specs.Maildir.{path_of}
 use Rattle.maildir_folder.specs.declared.plan.PlanError.{PlanError}
 use Rattle.maildir_folder.specs.declared.plan.PlanError.TheVariants.{Gone}
-use Rattle.maildir_folder.proofs.ApartLemmas.{below_in, right_below}
-use Rattle.maildir_folder.proofs.ChangingLemmas.{synced_right}
-
--- a part that only looked
-pub serves_looked : {A : Type 0} (result : Result A SyncError) (old new : Seen) → OnlyLooks old new
-    → (IsErrOf result Fault → Rose old.faults new.faults) → Serves result old new
-serves_looked result old new only cause = record {
-  grows = looks_grows old.told new.told only.looks;
-  marks = only.marks;
-  faults = only.faults;
-  cause = cause;
-}
+use Rattle.folder_changes.proofs.ServingLemmas.{serves_looked}
+use Rattle.folder_changes.proofs.ApartLemmas.{apart_of, below_in, right_below}
+use Rattle.folder_changes.proofs.LeftLemmas.{synced_few, synced_placed, synced_rise, synced_within}
+use Rattle.folder_core.specs.MaildirNames.{order_of}
+use Rattle.folder_changes.specs.Asked.{AreApart, AreOnce}
+use Rattle.std.proofs.Common.{arith}
 
 -- what was right of a Maildir is right whatever its past
 right_told : (mails : List Mail) (known : KnownFolder) (old new : Option Past)
@@ -63,6 +57,32 @@ right_told mails known old new right = record {
   few = right.few;
   read = right.read;
 }
+
+-- what a sync leaves of what is known is right
+synced_right : (changes : List Changed) (mails : List Mail) (known : KnownFolder)
+    (old new : Option Past) → Right Maildir mails known old
+    → Right Maildir mails (record known {
+      listing = listing_synced Maildir changes known.listing;
+      bytes = [];
+      stamps = [];
+    }) new
+synced_right changes mails known old new right = record {
+  within = synced_within Maildir changes (length mails) known.listing right.within;
+  ordered = synced_rise Maildir changes mails known.listing right.ordered;
+  few = omega (arith, right.few, synced_few Maildir changes known.listing);
+  read = record {
+    placed = synced_placed Maildir changes mails order_of known.listing right.read.placed;
+    bytes = refl;
+    stamps = refl;
+  };
+}
+
+-- the keys of listed messages that change once differ
+pub right_apart : (mails : List Mail) (known : KnownFolder) (told : Option Past)
+    (changes : List Changed) → Right Maildir mails known told → AreListed known.listing changes
+    → AreOnce changes → AreApart mails changes
+right_apart mails known told changes right listed once =
+    apart_of order_of mails known.listing right.ordered right.read.placed changes listed once
 
 -- a sync that was refused
 pub syncs_not : (mails : List Mail) (changes : List Changed) (known new_known : KnownFolder)
@@ -85,7 +105,7 @@ syncs_not mails changes known new_known why old new same right does holds names 
 -- a sync that was done
 pub syncs_done : (mails : List Mail) (changes : List Changed) (known new_known : KnownFolder)
     (listing : List Listed) (bytes stamps : List ℕ) (old new : Seen)
-    → listing ≡ listing_synced changes known.listing → bytes ≡ [] → stamps ≡ []
+    → listing ≡ listing_synced Maildir changes known.listing → bytes ≡ [] → stamps ≡ []
     → new_known ≡ record known { listing = listing; bytes = bytes; stamps = stamps }
     → Right Maildir mails known old.told
     → DidWanted known.path (what_of mails changes) (Ok tt) old.told new.told
@@ -96,7 +116,7 @@ syncs_done mails changes known new_known listing bytes stamps old new is no_byte
       does = does;
       holds = holds;
       ok_known = whole ∙ (λ i. record known {
-        listing = listing_synced changes known.listing;
+        listing = listing_synced Maildir changes known.listing;
         bytes = sym right.read.bytes i;
         stamps = sym right.read.stamps i;
       });
@@ -108,7 +128,7 @@ syncs_done mails changes known new_known listing bytes stamps old new is no_byte
     }
   where
     whole : new_known ≡ record known {
-      listing = listing_synced changes known.listing;
+      listing = listing_synced Maildir changes known.listing;
       bytes = [];
       stamps = [];
     }
@@ -117,19 +137,6 @@ syncs_done mails changes known new_known listing bytes stamps old new is no_byte
       bytes = no_bytes i;
       stamps = no_stamps i;
     })
-
-err_same : {A : Type 0} (a b : SyncError) → ◌≡◌ {A = Result A SyncError} (Err a) (Err b) → a ≡ b
-err_same a b e = cc
-
--- looks that were refused
-pub serves_unlisted : {A : Type 0} (why : ScanError) (told : SyncError)
-    (old new : Seen) → OnlyLooks old new
-    → (told ≡ Fault → why ≡ ScanFault)
-    → (IsErrOf {T = A} {E = ScanError} (Err why) ScanFault → Rose old.faults new.faults)
-    → Serves {A = A} (Err told) old new
-serves_unlisted {A} why told old new only fault cause =
-    serves_looked {A = A} (Err told) old new only
-    (λ is. cause (ap Err (fault (err_same {A = A} told Fault is))))
 
 -- a message of which no file is there has an id below those of new letters
 pub gone_below : (bound : ℕ) (files : List MaildirFile) (mails : List Mail)
@@ -146,7 +153,7 @@ pub letters_below : (letters : List Letter) (bound : ℕ) (known : KnownFolder)
     → AreListed known.listing (plain_changes changes) → AreBelow bound changes
 letters_below letters bound known told changes is right listed =
     subst (λ (n : ℕ). AreBelow n changes) (length-map letters plain_letter ∙ sym is)
-    (right_below (map plain_letter letters) known told changes right listed)
+    (right_below Maildir (map plain_letter letters) known told changes right listed)
 
 -- what was done of changes, by the letters as a slice
 pub did_letters : (slice letters : List Letter) (changes : List Changed) (path : List ℕ)

@@ -7,7 +7,6 @@ pub mod KnownBase
 pub mod Renaming
 pub mod Steps
 pub mod Plan
-pub mod Changing
 pub mod Synced
 pub mod Walk
 pub mod Scan

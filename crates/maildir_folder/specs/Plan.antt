@@ -2,19 +2,14 @@
 use Rattle.std.specs.Prelude.{◌≡◌, ◌++◌, ◌∷◌, [], ℕ, List, None}
 use Rattle.mail_base.specs.Ordered.{IsIn}
 use Rattle.mail_base.specs.declared.kind.Id.{Id}
-use Rattle.index_items.specs.Changes.{PlainChange, plain_changes}
+use Rattle.index_items.specs.Changes.{PlainChange}
 use Rattle.folder_letters.specs.Letters.{Mail}
-use Rattle.folder_letters.specs.declared.change.Changed1.{Changed1}
 use Rattle.folder_core.specs.Keeping.{mail_of}
 use Rattle.folder_core.specs.Maildir.{MaildirFile}
 use Rattle.maildir_folder.specs.NamedFile.{file_named}
-use Rattle.maildir_folder.specs.Steps.{IsStepOf, PlainStep, ids_of}
+use Rattle.maildir_folder.specs.Steps.{IsStepOf, PlainStep}
 use Rattle.maildir_folder.specs.declared.plan.PlanError.{PlanError}
 use Rattle.maildir_folder.specs.declared.plan.PlanError.TheVariants.{Gone, NoMemory}
-
--- the ids of the messages that change
-abbrev pub ids_changed : List Changed1 → List Id
-ids_changed changes = ids_of (plain_changes changes)
 
 -- one of these messages has no file, which a refusal names, unless memory ran out
 abbrev pub IsPlanRefusal : List MaildirFile → List Mail → List Id → PlanError → Type 0

@@ -1,24 +1,21 @@
 -- The steps of a sync, and what they do to the messages of a folder.
 use Rattle.std.specs.Prelude.{◌≢◌, Err}
-use Rattle.std.specs.Prelude.{◌≡◌, ◌≤◌, ℕ, true, List, [], ◌∷◌, Option, Some, None, Result, Ok}
-use Rattle.std.specs.Prelude.{◌⊎◌, IsErrOf, OnErr, OnOk, map, option_map}
+use Rattle.std.specs.Prelude.{◌≡◌, ℕ, true, List, [], ◌∷◌, Option, Some, None, Result, Ok}
+use Rattle.std.specs.Prelude.{◌⊎◌, OnErr, OnOk, option_map}
 use Rattle.std.specs.String.{string_bytes}
-use Rattle.mail_base.specs.Faults.{Rose}
 use Rattle.mail_base.specs.Ordered.{IsIn}
 use Rattle.mail_base.specs.declared.kind.Id.{Id}
 use Rattle.mail_base.specs.Flags.{applied, stored}
 use Rattle.mail_base.specs.declared.flags.Flags.{Flags}
 use Rattle.mail_base.specs.declared.kind.Kind.TheVariants.{Maildir}
 use Rattle.disk_model.specs.Journal.{Call, Past, Remove, Rename}
-use Rattle.disk_model.specs.Judge.{GoesOn, Grows, OneStep, done_by}
-use Rattle.disk_model.specs.Seen.{Seen}
+use Rattle.disk_model.specs.Judge.{GoesOn, OneStep, done_by}
 use Rattle.index_items.specs.Changes.{Changed, PlainChange, Alters, Discards}
 use Rattle.folder_letters.specs.Letters.{Mail}
 use Rattle.folder_core.specs.Keeping.{mail_of}
 use Rattle.folder_core.specs.Maildir.{MaildirFile, base_of, is_shown, path_of}
 use Rattle.folder_changes.specs.Maildir.{DoesWanted, flags_named}
-use Rattle.folder_changes.specs.Wanted.{change_at}
-use Rattle.folder_changes.specs.Worked.{either, nothing_wanted}
+use Rattle.folder_changes.specs.Worked.{nothing_wanted}
 use Rattle.folder_changes.specs.declared.sync_error.Spot.TheVariants.{Name}
 use Rattle.folder_changes.specs.declared.sync_error.SyncError.{SyncError}
 use Rattle.folder_changes.specs.declared.sync_error.SyncError.TheVariants.{Changed as IsChanged}
@@ -27,35 +24,6 @@ use Rattle.folder_shapes.specs.Maildir.{maildir_shape}
 use Rattle.folder_stops.specs.Syncs.{Syncs as HoldsOn}
 use Rattle.folder_stops.specs.Words.{has}
 use Rattle.maildir_folder.specs.declared.steps.Step.{Step}
-
--- What a sync wants.
-
--- what is wanted of the message with a key: the first change of a message that has it
-abbrev pub what_of : List Mail → List Changed → List ℕ → Option PlainChange
-what_of mails [] = nothing_wanted
-what_of mails (changed ∷ changes) =
-    either (change_at (mail_of mails changed.id.0).key changed.change) (what_of mails changes)
-
--- the messages that change have keys that differ
-abbrev pub AreApart : List Mail → List Changed → Type 0
-AreApart mails [] = Unit {0}
-AreApart mails (changed ∷ changes) =
-    (what_of mails changes (mail_of mails changed.id.0).key ≡ None) × AreApart mails changes
-
--- the key of a message that is discarded, before these keys
-abbrev pub with_discarded : List ℕ → PlainChange → List (List ℕ) → List (List ℕ)
-with_discarded key (Alters added cleared) keys = keys
-with_discarded key Discards keys = key ∷ keys
-
--- the keys of the messages that are discarded
-abbrev pub discarded : List Mail → List Changed → List (List ℕ)
-discarded mails [] = []
-discarded mails (changed ∷ changes) =
-    with_discarded (mail_of mails changed.id.0).key changed.change (discarded mails changes)
-
--- the messages that change
-abbrev pub ids_of : List Changed → List Id
-ids_of changes = map (λ changed. changed.id) changes
 
 -- What a step is.
 
@@ -123,13 +91,6 @@ call_of step = call_by step.from step.to
 abbrev pub WasDone : Call → Option Past → Option Past → Type 0
 WasDone call old new = GoesOn (OneStep {A = Unit {0}} (Ok tt) call (done_by call)) old new
 
--- why a step was refused that names this path
-abbrev pub IsErrorAt : List ℕ → SyncError → Type 0
-IsErrorAt path (IsChanged (Name name)) = name.items ≡ path
-IsErrorAt path Fault = Unit {0}
-IsErrorAt path NoMemory = Unit {0}
-IsErrorAt path why = ⊥
-
 -- the path is that of a file of one of these messages
 pub record IsFileOf (path : List ℕ) (mails : List Mail) (ids : List Id) (name : List ℕ) : Type 0
   where
@@ -147,14 +108,6 @@ IsSyncError path mails ids (IsChanged (Name name)) =
 IsSyncError path mails ids Fault = Unit {0}
 IsSyncError path mails ids NoMemory = Unit {0}
 IsSyncError path mails ids why = ⊥
-
--- What every part of a sync keeps: a told past only grows, neither marks nor faults fall, and a
--- fault has its cause.
-pub record Serves {A : Type 0} (result : Result A SyncError) (old new : Seen) : Type 0 where
-  pub grows : Grows old.told new.told
-  pub marks : old.marks ≤ new.marks
-  pub faults : old.faults ≤ new.faults
-  pub cause : IsErrOf result Fault → Rose old.faults new.faults
 
 -- nothing was done to the messages
 abbrev pub DidNothing : List ℕ → Option Past → Option Past → Type 0

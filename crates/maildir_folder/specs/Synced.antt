@@ -1,13 +1,11 @@
 -- What a sync of a Maildir did.
-use Rattle.std.specs.Prelude.{◌≡◌, ℕ, true, not, List, [], ◌∷◌, None, Result, IfErr, OnErr, OnOk}
+use Rattle.std.specs.Prelude.{◌≡◌, ℕ, not, List, [], None, Result, IfErr, OnErr, OnOk}
 use Rattle.std.specs.List.{All}
 use Rattle.mail_base.specs.declared.flags.Flags.{Flags}
 use Rattle.mail_base.specs.declared.kind.Kind.TheVariants.{Maildir}
 use Rattle.disk_model.specs.Seen.{Seen}
-use Rattle.index_items.specs.Changes.{Changed, change_for}
+use Rattle.index_items.specs.Changes.{Changed}
 use Rattle.folder_letters.specs.Letters.{Mail}
-use Rattle.folder_letters.specs.declared.listing.Listed.{Listed}
-use Rattle.folder_core.specs.Keeping.{lists_id}
 use Rattle.folder_core.specs.Known.{KnownFolder}
 use Rattle.folder_core.specs.Maildir.{MaildirFile}
 use Rattle.folder_core.specs.Right.{Right}
@@ -15,26 +13,13 @@ use Rattle.folder_changes.specs.declared.sync_error.SyncError.{SyncError}
 use Rattle.folder_shapes.specs.Maildir.{maildir_files}
 use Rattle.folder_stops.specs.Syncs.{KeepsHolds}
 use Rattle.maildir_folder.specs.Candidates.{IsCandidate, Rises, plain_file}
-use Rattle.maildir_folder.specs.Changing.{listing_synced}
+use Rattle.folder_changes.specs.Left.{listing_synced}
 use Rattle.maildir_folder.specs.MaildirName.{is_new, name_of}
-use Rattle.maildir_folder.specs.Steps.{DidWanted, IsSyncError, Serves, discarded, ids_of, what_of}
+use Rattle.maildir_folder.specs.Steps.{DidWanted, IsSyncError}
+use Rattle.folder_changes.specs.Serving.{Serves}
+use Rattle.folder_changes.specs.Asked.{discarded, ids_of, what_of}
 use Rattle.maildir_folder.specs.declared.candidates.Candidate.{Candidate}
 use Rattle.std.specs.Prelude.{map}
-
--- What may be asked of a sync.
-
--- each change is of a listed message
-abbrev pub AreListed : List Listed → List Changed → Type 0
-AreListed listing [] = Unit {0}
-AreListed listing (changed ∷ changes) =
-    (lists_id listing changed.id.0 ≡ true) × AreListed listing changes
-
--- no message changes twice
-abbrev pub AreOnce : List Changed → Type 0
-AreOnce [] = Unit {0}
-AreOnce (changed ∷ changes) = (change_for changes changed.id.0 ≡ None) × AreOnce changes
-
--- What it did.
 
 -- A sync of a Maildir: where it is answered Ok, our steps did what was wanted of the messages, and
 -- the listing is the old one with the changes; after a refusal what is known is as before, a part
@@ -46,7 +31,7 @@ pub record Syncs (mails : List Mail) (changes : List Changed) (known new_known :
   pub does : DidWanted known.path (what_of mails changes) result old.told new.told
   pub holds : KeepsHolds (maildir_files known.path) (discarded mails changes) old.told new.told
   pub ok_known : OnOk result
-      (new_known ≡ record known { listing = listing_synced changes known.listing })
+      (new_known ≡ record known { listing = listing_synced Maildir changes known.listing })
   pub err_known : OnErr result (new_known ≡ known)
   pub right : Right Maildir mails new_known new.told
   pub names : IfErr result (IsSyncError known.path mails (ids_of changes))

@@ -12,7 +12,8 @@ ghost use Rattle.folder_core.specs.Scanned.{Scans};
 ghost use Rattle.maildir_folder.specs.KnownBase.{CanSearch};
 ghost use Rattle.index_items.specs.Changes.{plain_changes};
 ghost use Rattle.maildir_folder.specs.Scan as spec;
-ghost use Rattle.maildir_folder.specs.Synced.{AreListed, AreOnce, Syncs};
+ghost use Rattle.maildir_folder.specs.Synced.{Syncs};
+ghost use Rattle.folder_changes.specs.Asked.{AreListed, AreOnce};
 
 use crate::files::list_files;
 use crate::syncing::sync_folder;

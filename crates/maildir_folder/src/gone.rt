@@ -5,12 +5,12 @@ ghost use Rattle.std.specs.Option.{option_copied};
 ghost use Rattle.folder_core.specs.Keeping.{mail_of};
 ghost use Rattle.folder_core.specs.Maildir.{path_of};
 ghost use Rattle.folder_letters.specs.Letters.{plain_letter};
-ghost use Rattle.maildir_folder.specs.Steps.{IsErrorAt, IsSyncError};
+ghost use Rattle.maildir_folder.specs.Steps.{IsSyncError};
+ghost use Rattle.folder_changes.specs.Serving.{IsErrorAt};
 ghost use Rattle.maildir_folder.specs.Synced as spec;
 
 use crate::maildir_name::{MaildirName, make_name};
-use crate::steps::name_changed;
-use folder_changes::{Spot, SyncError};
+use folder_changes::{Spot, SyncError, name_changed};
 use folder_core::{Known, Letter, Listed, path_in};
 use mail_base::{Bytes, Flags, Id, NoMemory};
 use std::alloc::Global;

@@ -5,7 +5,6 @@
 
 mod base_order;
 mod candidates;
-mod changing;
 mod driver;
 mod files;
 mod gone;

@@ -8,6 +8,7 @@ ghost use Rattle.folder_core.specs.Keeping.{mail_of};
 ghost use Rattle.folder_letters.specs.Letters.{plain_letter};
 ghost use Rattle.index_items.specs.Changes.{AreBelow, plain_change, plain_changes};
 ghost use Rattle.maildir_folder.specs.Candidates.{IsCandidate, Rises, plain_file};
+ghost use Rattle.folder_changes.specs.Asked.{ids_changed};
 ghost use Rattle.maildir_folder.specs.Plan as spec;
 ghost use Rattle.maildir_folder.specs.Steps.{AreSteps, GoesTo, IsStep, IsStepOf, plain_step};
 
@@ -137,7 +138,7 @@ pub fn plan(
     ensures steps { IfOk result (λ steps. AreSteps path.now (map plain_letter archive.now)
         (plain_changes changes.now) (map plain_step steps.items)) }
     ensures gone { IfErr result (spec.IsPlanRefusal (map plain_file files.now)
-        (map plain_letter archive.now) (spec.ids_changed changes.now)) }
+        (map plain_letter archive.now) (ids_changed changes.now)) }
 {
     let mut steps = Vec::new(alloc);
     let mut left = changes;

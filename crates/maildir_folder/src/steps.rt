@@ -4,12 +4,14 @@ ghost use Rattle.std.specs.Prelude.{ℕ, ◌≡◌, IfErr, List, codes, map};
 ghost use Rattle.disk_model.specs.Judge.{DoesStep};
 ghost use Rattle.folder_letters.specs.Letters.{Mail};
 ghost use Rattle.index_items.specs.Changes.{Changed};
+ghost use Rattle.folder_changes.specs.Asked.{AreApart, discarded, ids_of, what_of};
+ghost use Rattle.folder_changes.specs.Serving.{IsErrorAt, Serves};
 ghost use Rattle.maildir_folder.specs.Steps as spec;
 
 use disk_model::{Disk, DiskError};
-use folder_changes::{Spot, SyncError};
+use folder_changes::{SyncError, error_at};
 use folder_core::path_in;
-use mail_base::{Bytes, NoMemory};
+use mail_base::NoMemory;
 use std::alloc::Global;
 
 /// The path of a file, and the path to which it goes, where it does not go away.
@@ -17,29 +19,6 @@ use std::alloc::Global;
 pub struct Step {
     pub from: String,
     pub to: Option<String>,
-}
-
-/// That something at this path is not as it is known.
-pub fn name_changed(alloc: Global, path: &str) -> SyncError
-    ensures at { spec.IsErrorAt path.now result }
-    ensures no_fault { ¬ (result ≡ SyncError.Fault) }
-{
-    match Bytes::copy_of(alloc, path.as_bytes()) {
-        Ok(name) => SyncError::Changed(Spot::Name(name)),
-        Err(NoMemory) => SyncError::NoMemory,
-    }
-}
-
-// Why a sync is refused where the disk refuses a call for this path.
-fn error_at(alloc: Global, path: &str, why: DiskError) -> SyncError
-    ensures at { spec.IsErrorAt path.now result }
-    ensures fault { result ≡ SyncError.Fault → why ≡ DiskError.Fault }
-{
-    match why {
-        DiskError::Fault => SyncError::Fault,
-        DiskError::NoMemory => SyncError::NoMemory,
-        _ => name_changed(alloc, path),
-    }
 }
 
 // The call of a step.
@@ -55,10 +34,10 @@ fn call_step(alloc: Global, disk: &mut dyn Disk, step: &Step) -> Result<(), Disk
 
 // Takes a step; a refusal names the path of its file.
 fn take_step(alloc: Global, disk: &mut dyn Disk, step: &Step) -> Result<(), SyncError>
-    ensures serves { spec.Serves result (seen disk.old) (seen disk.new) }
+    ensures serves { Serves result (seen disk.old) (seen disk.new) }
     ensures takes { spec.TakesStep result (spec.plain_step step.now)
         (seen disk.old).told (seen disk.new).told }
-    ensures at { IfErr result (spec.IsErrorAt (spec.plain_step step.now).from) }
+    ensures at { IfErr result (IsErrorAt (spec.plain_step step.now).from) }
 {
     match call_step(alloc, disk, step) {
         Ok(()) => Ok(()),
@@ -68,19 +47,19 @@ fn take_step(alloc: Global, disk: &mut dyn Disk, step: &Step) -> Result<(), Sync
 
 /// Takes these steps one behind the other, up to the first that is refused.
 pub fn take_steps(alloc: Global, disk: &mut dyn Disk, steps: &[Step]) -> Result<(), SyncError>
-    ensures serves { spec.Serves result (seen disk.old) (seen disk.new) }
+    ensures serves { Serves result (seen disk.old) (seen disk.new) }
     ensures does { (path : List ℕ) → (mails : List Mail) → (changes : List Changed)
-        → spec.AreApart mails changes
+        → AreApart mails changes
         → spec.AreSteps path mails changes (map spec.plain_step steps.now)
-        → spec.DidWanted path (spec.what_of mails changes) result
+        → spec.DidWanted path (what_of mails changes) result
         (seen disk.old).told (seen disk.new).told }
     ensures names { (path : List ℕ) → (mails : List Mail) → (changes : List Changed)
-        → spec.AreApart mails changes
+        → AreApart mails changes
         → spec.AreSteps path mails changes (map spec.plain_step steps.now)
-        → IfErr result (spec.IsSyncError path mails (spec.ids_of changes)) }
+        → IfErr result (spec.IsSyncError path mails (ids_of changes)) }
     ensures holds { (path : List ℕ) → (mails : List Mail) → (changes : List Changed)
         → spec.AreSteps path mails changes (map spec.plain_step steps.now)
-        → spec.KeepsAllBut path (spec.discarded mails changes)
+        → spec.KeepsAllBut path (discarded mails changes)
         (seen disk.old).told (seen disk.new).told }
 {
     let mut left = steps;
@@ -101,9 +80,9 @@ fn keep_names_in(
     path: &str,
     name: &str,
 ) -> Result<(), SyncError>
-    ensures serves { spec.Serves result (seen disk.old) (seen disk.new) }
+    ensures serves { Serves result (seen disk.old) (seen disk.new) }
     ensures leaves { spec.LeavesAll path.now (seen disk.old).told (seen disk.new).told }
-    ensures at { IfErr result (spec.IsErrorAt path.now) }
+    ensures at { IfErr result (IsErrorAt path.now) }
 {
     let dir = match path_in(alloc, path, name) {
         Ok(dir) => dir,
@@ -117,9 +96,9 @@ fn keep_names_in(
 
 /// Puts the names in `new` and in `cur` on the disk.
 pub fn keep_names(alloc: Global, disk: &mut dyn Disk, path: &str) -> Result<(), SyncError>
-    ensures serves { spec.Serves result (seen disk.old) (seen disk.new) }
+    ensures serves { Serves result (seen disk.old) (seen disk.new) }
     ensures leaves { spec.LeavesAll path.now (seen disk.old).told (seen disk.new).told }
-    ensures at { IfErr result (spec.IsErrorAt path.now) }
+    ensures at { IfErr result (IsErrorAt path.now) }
 {
     match keep_names_in(alloc, disk, path, "new") {
         Ok(()) => {}
@@ -130,9 +109,9 @@ pub fn keep_names(alloc: Global, disk: &mut dyn Disk, path: &str) -> Result<(), 
 
 /// Makes the directory `new`, where nothing stands there.
 pub fn make_new(alloc: Global, disk: &mut dyn Disk, path: &str) -> Result<(), SyncError>
-    ensures serves { spec.Serves result (seen disk.old) (seen disk.new) }
+    ensures serves { Serves result (seen disk.old) (seen disk.new) }
     ensures leaves { spec.LeavesAll path.now (seen disk.old).told (seen disk.new).told }
-    ensures at { IfErr result (spec.IsErrorAt path.now) }
+    ensures at { IfErr result (IsErrorAt path.now) }
 {
     let dir = match path_in(alloc, path, "new") {
         Ok(dir) => dir,

@@ -5,22 +5,25 @@ ghost use Rattle.mail_base.specs.declared.kind.Kind.TheVariants.{Maildir};
 ghost use Rattle.folder_core.specs.Right.{Right};
 ghost use Rattle.folder_letters.specs.Letters.{plain_letter};
 ghost use Rattle.index_items.specs.Changes.{AreBelow, plain_changes};
-ghost use Rattle.maildir_folder.specs.Steps.{AreApart, AreSteps, DidWanted, IsErrorAt};
-ghost use Rattle.maildir_folder.specs.Steps.{IsSyncError, KeepsAllBut, LeavesAll, Serves};
-ghost use Rattle.maildir_folder.specs.Steps.{discarded, ids_of, plain_step, what_of};
+ghost use Rattle.maildir_folder.specs.Steps.{AreSteps, DidWanted};
+ghost use Rattle.folder_changes.specs.Asked.{AreApart, AreListed, AreOnce};
+ghost use Rattle.folder_changes.specs.Serving.{IsErrorAt};
+ghost use Rattle.maildir_folder.specs.Steps.{IsSyncError, KeepsAllBut, LeavesAll};
+ghost use Rattle.folder_changes.specs.Serving.{Serves};
+ghost use Rattle.maildir_folder.specs.Steps.{plain_step};
+ghost use Rattle.folder_changes.specs.Asked.{discarded, ids_of, what_of};
 ghost use Rattle.maildir_folder.specs.Synced as spec;
 
 use crate::candidates::Candidate;
-use crate::changing::listing_synced;
 use crate::files::list_files;
 use crate::gone::message_gone;
 use crate::plan::{PlanError, plan};
-use crate::steps::{Step, keep_names, make_new, name_changed, take_steps};
+use crate::steps::{Step, keep_names, make_new, take_steps};
 use disk_model::Disk;
-use folder_changes::SyncError;
+use folder_changes::{SyncError, listing_synced, name_changed};
 use folder_core::{Archive, Known, Letter, ScanError};
 use folder_letters::Changed1;
-use mail_base::{Bytes, NoMemory, Stamps};
+use mail_base::{Bytes, Kind, NoMemory, Stamps};
 use std::alloc::Global;
 
 // Why a sync is refused where the files of its folder were not listed.
@@ -120,13 +123,13 @@ pub fn sync_folder(
 ) -> Result<(), SyncError>
     requires right { Right Maildir (map plain_letter archive.now.items) known.old
         (seen disk.old).told }
-    requires listed { spec.AreListed known.old.listing (plain_changes changes.now) }
-    requires once { spec.AreOnce (plain_changes changes.now) }
+    requires listed { AreListed known.old.listing (plain_changes changes.now) }
+    requires once { AreOnce (plain_changes changes.now) }
     ensures { spec.Syncs (map plain_letter archive.now.items) (plain_changes changes.now)
         known.old known.new result (seen disk.old) (seen disk.new) }
 {
     let listing = known.listing().as_slice();
-    let synced = match listing_synced(alloc, archive.len(), changes, listing) {
+    let synced = match listing_synced(alloc, Kind::Maildir, archive.len(), changes, listing) {
         Ok(synced) => synced,
         Err(NoMemory) => return Err(SyncError::NoMemory),
     };

@@ -4,7 +4,7 @@ use Rattle.folder_core.specs.Keeping.{mail_of}
 use Rattle.folder_core.specs.Maildir.{path_of}
 use Rattle.folder_letters.specs.Letters.{plain_letter}
 use Rattle.folder_letters.specs.declared.listing.Listed.{Listed}
-use Rattle.maildir_folder.specs.Steps.{IsErrorAt}
+use Rattle.folder_changes.specs.Serving.{IsErrorAt}
 use Rattle.maildir_folder.specs.Synced.{file_known}
 use Rattle.maildir_folder.proofs.PlanLemmas.{letter_key}
 use Rattle.maildir_folder.proofs.StepLemmas.{error_folder}

@@ -3,7 +3,7 @@ use Rattle.std.proofs.lemmas.List.Elements.{All-rest}
 use Rattle.folder_core.proofs.SeenLemmas.{first_and_rest, none_left}
 use Rattle.folder_letters.specs.Letters.{plain_letter}
 use Rattle.maildir_folder.specs.Candidates.{plain_file}
-use Rattle.maildir_folder.specs.Plan.{ids_changed}
+use Rattle.folder_changes.specs.Asked.{ids_changed}
 use Rattle.maildir_folder.specs.Steps.{plain_step}
 use Rattle.maildir_folder.proofs.PlanLemmas.{among_first, among_more, finish_end, finish_more}
 use Rattle.maildir_folder.proofs.PlanLemmas.{refused_among}

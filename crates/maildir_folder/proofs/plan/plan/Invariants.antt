@@ -3,7 +3,7 @@ use Rattle.mail_base.specs.Ordered.{IsIn}
 use Rattle.mail_base.specs.declared.kind.Id.{Id}
 use Rattle.folder_letters.specs.Letters.{plain_letter}
 use Rattle.index_items.specs.Changes.{AreBelow, plain_changes}
-use Rattle.maildir_folder.specs.Plan.{ids_changed}
+use Rattle.folder_changes.specs.Asked.{ids_changed}
 use Rattle.maildir_folder.specs.Steps.{AreSteps, PlainStep, plain_step}
 use Rattle.maildir_folder.proofs.plan.plan.Given as goal
 

@@ -1,4 +1,4 @@
-use Rattle.maildir_folder.proofs.StepLemmas.{serves_then}
+use Rattle.folder_changes.proofs.ServingLemmas.{serves_then}
 use Rattle.maildir_folder.proofs.StopLemmas.{leaves_then}
 use Rattle.maildir_folder.proofs.steps.keep_names.Goals as goal
 

@@ -1,7 +1,9 @@
 use Rattle.std.proofs.Common.{ap, map}
 use Rattle.folder_core.proofs.SeenLemmas.{first_and_rest, none_left}
-use Rattle.maildir_folder.specs.Steps.{discarded, plain_step}
-use Rattle.maildir_folder.proofs.StepLemmas.{serves_first, serves_then, so_far_end, so_far_first}
+use Rattle.maildir_folder.specs.Steps.{plain_step}
+use Rattle.folder_changes.specs.Asked.{discarded}
+use Rattle.maildir_folder.proofs.StepLemmas.{so_far_end, so_far_first}
+use Rattle.folder_changes.proofs.ServingLemmas.{serves_first, serves_then}
 use Rattle.maildir_folder.proofs.StepLemmas.{so_far_failed, so_far_more, so_far_refused}
 use Rattle.maildir_folder.proofs.StopLemmas.{held_first, held_more}
 use Rattle.maildir_folder.proofs.steps.take_steps.Goals as goal

@@ -1,7 +1,9 @@
 use Rattle.std.proofs.Common.{ℕ, List, Ok, length, map}
 use Rattle.folder_letters.specs.Letters.{Mail}
 use Rattle.index_items.specs.Changes.{Changed}
-use Rattle.maildir_folder.specs.Steps.{AreApart, AreSteps, Serves, discarded, plain_step}
+use Rattle.maildir_folder.specs.Steps.{AreSteps, plain_step}
+use Rattle.folder_changes.specs.Asked.{AreApart, discarded}
+use Rattle.folder_changes.specs.Serving.{Serves}
 use Rattle.maildir_folder.proofs.StepLemmas.{SoFar}
 use Rattle.maildir_folder.proofs.StopLemmas.{HeldSoFar}
 use Rattle.maildir_folder.proofs.steps.take_steps.Given as goal

@@ -1,10 +1,11 @@
 use Rattle.std.proofs.Common.{Err, List, map, subst, sym}
 use Rattle.folder_letters.specs.Letters.{plain_letter}
 use Rattle.index_items.specs.Changes.{plain_changes}
-use Rattle.maildir_folder.specs.Steps.{AreSteps, discarded, ids_of, plain_step, what_of}
+use Rattle.maildir_folder.specs.Steps.{AreSteps, plain_step}
+use Rattle.folder_changes.specs.Asked.{discarded, ids_of, what_of}
 use Rattle.maildir_folder.specs.declared.steps.Step.{Step}
 use Rattle.maildir_folder.proofs.StepLemmas.{did_after, did_end, did_none, errors_folder}
-use Rattle.maildir_folder.proofs.StepLemmas.{serves_then}
+use Rattle.folder_changes.proofs.ServingLemmas.{serves_then}
 use Rattle.maildir_folder.proofs.StopLemmas.{keeps_then, leaves_at}
 use Rattle.maildir_folder.proofs.syncing.change_files.Goals as goal
 

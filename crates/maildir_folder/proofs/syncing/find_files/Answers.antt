@@ -1,7 +1,7 @@
 use Rattle.std.proofs.Common.{Err}
-use Rattle.maildir_folder.proofs.StepLemmas.{serves_then}
+use Rattle.folder_changes.proofs.ServingLemmas.{serves_then}
 use Rattle.maildir_folder.proofs.StopLemmas.{leaves_looked, leaves_then}
-use Rattle.maildir_folder.proofs.SyncedLemmas.{serves_unlisted}
+use Rattle.folder_changes.proofs.ServingLemmas.{serves_unlisted}
 use Rattle.maildir_folder.proofs.syncing.find_files.Goals as goal
 
 pub returns-in-Ok-list_files-clause-leaves : goal.returns-in-Ok-list_files-clause-leaves

@@ -2,7 +2,7 @@ use Rattle.std.proofs.Common.{length, map}
 use Rattle.folder_letters.specs.Letters.{plain_letter}
 use Rattle.index_items.specs.Changes.{plain_changes}
 use Rattle.maildir_folder.specs.Candidates.{plain_file}
-use Rattle.maildir_folder.specs.Steps.{ids_of}
+use Rattle.folder_changes.specs.Asked.{ids_of}
 use Rattle.maildir_folder.proofs.StepLemmas.{error_folder}
 use Rattle.maildir_folder.proofs.SyncedLemmas.{gone_below, gone_named}
 use Rattle.maildir_folder.proofs.syncing.find_steps.Goals as goal

@@ -1,10 +1,11 @@
+use Rattle.mail_base.specs.declared.kind.Kind.TheVariants.{Maildir}
 use Rattle.std.proofs.Common.{◌∙◌, Err, List, Ok, ap, length, map, refl, subst, sym}
 use Rattle.folder_letters.specs.Letters.{plain_letter}
 use Rattle.folder_letters.specs.declared.letter.Letter.{Letter}
 use Rattle.index_items.specs.Changes.{plain_changes}
-use Rattle.maildir_folder.specs.Changing.{listing_synced}
-use Rattle.maildir_folder.specs.Steps.{AreApart, ids_of}
-use Rattle.maildir_folder.proofs.ApartLemmas.{right_apart}
+use Rattle.folder_changes.specs.Left.{listing_synced}
+use Rattle.folder_changes.specs.Asked.{AreApart, ids_of}
+use Rattle.maildir_folder.proofs.SyncedLemmas.{right_apart}
 use Rattle.maildir_folder.proofs.StopLemmas.{holds_letters}
 use Rattle.maildir_folder.proofs.SyncedLemmas.{did_letters, letters_below, names_letters}
 use Rattle.maildir_folder.proofs.SyncedLemmas.{syncs_done, syncs_none, syncs_not}
@@ -32,7 +33,7 @@ returns-in-Ok-change_files g c =
     syncs_done (map plain_letter c.args.archive.now.items) (plain_changes c.args.changes.now)
     c.args.known.now c.put.new.self c.in-Ok.synced.items c.new.result.items
     c.new-in-Ok-change_files.result.items _ _
-    (c.in-Ok.ensures ∙ ap (listing_synced (plain_changes c.args.changes.now))
+    (c.in-Ok.ensures ∙ ap (listing_synced Maildir (plain_changes c.args.changes.now))
     (c.as_slice-listing.ensures ∙ c.listing.ensures))
     c.new.ensures c.new-in-Ok-change_files.ensures c.put.ensures c.requires.right
     (did_letters c.as_slice.result.now c.args.archive.now.items

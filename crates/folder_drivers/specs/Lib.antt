@@ -1,0 +1,4 @@
+pub mod SyncRow
+pub mod MhNames
+pub mod MhSync
+pub mod MhLeft

@@ -1,0 +1,2 @@
+//! What reads and writes folders of each kind.
+#![tactic(auto)]
