@@ -1,9 +1,10 @@
 -- Maildirs in which each base stands under one name, and what is done to one of their files.
-use Rattle.std.specs.Prelude.{◌≡◌, ◌≤◌, ◌<◌, ◌+◌, ◌∷◌, [], ℕ, true, List, Option, Some, length}
+use Rattle.std.specs.Prelude.{◌≡◌, ◌≢◌, ◌≤◌, ◌<◌, ◌+◌, ◌∷◌, [], ℕ, true, List, Option, Some, None}
+use Rattle.std.specs.Prelude.{Result, Ok, Err, length}
 use Rattle.mail_base.specs.declared.flags.Flags.{Flags}
 use Rattle.mail_base.specs.declared.kind.Kind.TheVariants.{Maildir}
 use Rattle.disk_model.specs.Journal.{Past}
-use Rattle.disk_model.specs.Judge.{IsLonger}
+use Rattle.disk_model.specs.Judge.{GoesOn, IsLonger}
 use Rattle.disk_model.specs.State.{tree_at}
 use Rattle.disk_model.specs.Tree.{TreeNode}
 use Rattle.index_items.specs.Changes.{PlainChange}
@@ -13,6 +14,7 @@ use Rattle.folder_core.specs.MaildirNames.{flags_of, split_name}
 use Rattle.folder_core.specs.Message.{Message}
 use Rattle.folder_changes.specs.Wanted.{altered}
 use Rattle.folder_changes.specs.Worked.{Works, others_at}
+use Rattle.folder_changes.specs.declared.sync_error.SyncError.{SyncError}
 
 -- the flags that a name tells
 abbrev pub flags_named : MaildirFile → Flags
@@ -85,3 +87,16 @@ pub record DoesWanted (path : List ℕ) (what : List ℕ → Option PlainChange)
       → IsSingleNamed path (tree_at past (length old.journal))
       → OthersKeepSingle path (length old.journal) (length new.journal) past
       → WorksSingly path what (length old.journal) (length new.journal) past
+
+-- a part of what was wanted was done, and nothing else
+pub record DoesPart (path : List ℕ) (what : List ℕ → Option PlainChange) (old new : Past) : Type 0
+  where
+    pub part : List ℕ → Option PlainChange
+    pub within : (key : List ℕ) → part key ≢ None → part key ≡ what key
+    pub does : DoesWanted path part old new
+
+-- what was wanted was done where the answer is Ok, and a part of it where it is a refusal
+abbrev pub DidWanted : List ℕ → (List ℕ → Option PlainChange) → Result (Unit {0}) SyncError
+    → Option Past → Option Past → Type 0
+DidWanted path what (Ok done) old new = GoesOn (DoesWanted path what) old new
+DidWanted path what (Err why) old new = GoesOn (DoesPart path what) old new

@@ -21,10 +21,10 @@ use Rattle.mail_base.specs.Series.{Held}
 use Rattle.mail_base.specs.declared.flags.Flags.{Flags}
 use Rattle.folder_core.specs.Maildir.{is_shown}
 use Rattle.folder_core.specs.MaildirNames.{last_letters, mark, split_at_mark, split_name}
-use Rattle.maildir_folder.specs.MaildirName.{all_letters, has_letter, in_order, is_beyond, is_new}
-use Rattle.maildir_folder.specs.MaildirName.{is_whole_name, letter_if, letters_below, name_of}
-use Rattle.maildir_folder.specs.MaildirName.{no_letters}
-use Rattle.maildir_folder.proofs.NameLemmas.{made_is_split}
+use Rattle.maildir_names.specs.MaildirName.{all_letters, has_letter, in_order, is_beyond, is_new}
+use Rattle.maildir_names.specs.MaildirName.{is_whole_name, letter_if, letters_below, name_of}
+use Rattle.maildir_names.specs.MaildirName.{no_letters}
+use Rattle.maildir_names.proofs.NameLemmas.{made_is_split}
 use Rattle.maildir_appends.specs.Naming.{IsBase, IsFirstFree, base_at, begins_digit, is_plain}
 use Rattle.maildir_appends.specs.Naming.{name_for}
 

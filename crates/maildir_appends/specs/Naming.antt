@@ -7,7 +7,7 @@ use Rattle.std.specs.List.{list_all, list_any}
 use Rattle.std.specs.Str.{bytes_eq}
 use Rattle.mail_base.specs.declared.flags.Flags.{Flags}
 use Rattle.folder_core.specs.MaildirNames.{split_name}
-use Rattle.maildir_folder.specs.MaildirName.{name_of}
+use Rattle.maildir_names.specs.MaildirName.{name_of}
 
 -- the base of a moment and a number
 abbrev pub base_at : ℕ → ℕ → List ℕ

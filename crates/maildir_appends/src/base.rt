@@ -8,7 +8,7 @@ ghost use Rattle.maildir_appends.specs.Taken.{is_taken as is_taken_lem, keys_of}
 use crate::listing::Present;
 use folder_core::Letter;
 use mail_base::{Bytes, NoMemory};
-use maildir_folder::split_name;
+use maildir_names::split_name;
 use std::alloc::Global;
 
 // Whether a name of the base is among these.

@@ -10,7 +10,7 @@ ghost use Rattle.maildir_appends.specs.Placing as placing;
 
 use folder_core::path_in;
 use mail_base::{Bytes, Flags, NoMemory};
-use maildir_folder::{MaildirName, make_name};
+use maildir_names::{MaildirName, make_name};
 use std::alloc::Global;
 
 /// The base of a message, where it is written first, the path that it gets, and the directories of

@@ -1,5 +1,3 @@
-pub mod OrderLemmas
-pub mod NameLemmas
 pub mod Sorting
 pub mod Searching
 pub mod Storing

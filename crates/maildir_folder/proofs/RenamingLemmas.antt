@@ -30,15 +30,15 @@ use Rattle.folder_core.specs.Directory.{is_name}
 use Rattle.folder_core.specs.MaildirNames.{order_of}
 use Rattle.folder_core.specs.Maildir.{MaildirFile, base_of, is_shown}
 use Rattle.folder_changes.specs.Maildir.{flags_named}
-use Rattle.maildir_folder.specs.MaildirName.{all_letters, begins_dot, flags_of, has_letter}
-use Rattle.maildir_folder.specs.MaildirName.{in_order, is_beyond}
-use Rattle.maildir_folder.specs.MaildirName.{is_new, is_other, letter_if, letters_below}
-use Rattle.maildir_folder.specs.MaildirName.{is_whole_name, last_letters, mark, no_letters}
-use Rattle.maildir_folder.specs.MaildirName.{split_at_mark, split_name}
+use Rattle.maildir_names.specs.MaildirName.{all_letters, begins_dot, flags_of, has_letter}
+use Rattle.maildir_names.specs.MaildirName.{in_order, is_beyond}
+use Rattle.maildir_names.specs.MaildirName.{is_new, is_other, letter_if, letters_below}
+use Rattle.maildir_names.specs.MaildirName.{is_whole_name, last_letters, mark, no_letters}
+use Rattle.maildir_names.specs.MaildirName.{split_at_mark, split_name}
 use Rattle.maildir_folder.specs.Candidates.{IsCandidate, plain_file}
 use Rattle.maildir_folder.specs.Renaming.{file_with}
 use Rattle.maildir_folder.specs.declared.candidates.Candidate.{Candidate}
-use Rattle.maildir_folder.proofs.NameLemmas.{made_is_split}
+use Rattle.maildir_names.proofs.NameLemmas.{made_is_split}
 
 -- Letters of a made name.
 

@@ -8,7 +8,8 @@ use Rattle.std.proofs.Common.{Result, Ok, Err, refl, ◌∙◌, ap, subst, if◌
 use Rattle.std.specs.Option.{option_or}
 use Rattle.std.specs.Str.{bytes_eq}
 use Rattle.disk_model.specs.Journal.{Refused}
-use Rattle.maildir_folder.specs.Steps.{DidNothing, DoesPart}
+use Rattle.maildir_folder.specs.Steps.{DidNothing}
+use Rattle.folder_changes.specs.Maildir.{DoesPart}
 use Rattle.disk_model.specs.Journal.{Answer, Call, MakeDir, Own, Past, Remove, Rename}
 use Rattle.disk_model.specs.Judge.{GoesOn, OneStep, StepBy, done_by}
 use Rattle.disk_model.specs.Looking.{LooksOnly}
@@ -37,7 +38,8 @@ use Rattle.folder_changes.specs.Asked.{ids_of}
 use Rattle.folder_changes.proofs.CallLemmas.{call_does, does_then, looked_does, removed_does}
 use Rattle.folder_changes.proofs.CallLemmas.{make_new_leaves, refused_does, renamed_does}
 use Rattle.folder_changes.proofs.WorkLemmas.{LeavesMessages, works_same}
-use Rattle.maildir_folder.specs.Steps.{AreSteps, DidWanted, IsStep, IsStepOf}
+use Rattle.maildir_folder.specs.Steps.{AreSteps, IsStep, IsStepOf}
+use Rattle.folder_changes.specs.Maildir.{DidWanted}
 use Rattle.folder_changes.specs.Asked.{AreApart}
 use Rattle.maildir_folder.specs.Steps.{PlainStep, WasDone, call_by, call_of}
 use Rattle.folder_changes.specs.Asked.{what_of}

@@ -26,13 +26,14 @@ use Rattle.folder_shapes.specs.Maildir.{maildir_files}
 use Rattle.folder_changes.specs.Left.{listing_synced}
 use Rattle.maildir_folder.specs.Plan.{IsPlanRefusal}
 use Rattle.folder_changes.specs.Asked.{ids_changed}
-use Rattle.maildir_folder.specs.Steps.{DidWanted, IsSyncError}
+use Rattle.maildir_folder.specs.Steps.{IsSyncError}
+use Rattle.folder_changes.specs.Maildir.{DidWanted}
 use Rattle.folder_changes.specs.Serving.{Serves}
 use Rattle.folder_changes.specs.Asked.{discarded, ids_of, what_of}
 use Rattle.folder_changes.specs.Serving.{IsErrorAt}
 use Rattle.maildir_folder.specs.Synced.{Syncs, file_known}
 use Rattle.folder_changes.specs.Asked.{AreListed}
-use Rattle.maildir_folder.proofs.NameLemmas.{made_is_split}
+use Rattle.maildir_names.proofs.NameLemmas.{made_is_split}
 use Rattle.maildir_folder.proofs.StepLemmas.{error_among, error_file}
 use Rattle.maildir_folder.proofs.StopLemmas.{holds_first}
 use Rattle.mail_base.specs.declared.flags.Flags.{Flags}

@@ -1,5 +1,3 @@
-pub mod MaildirName
-pub mod BaseOrder
 pub mod Candidates
 pub mod Files
 pub mod NamedFile
@@ -10,4 +8,3 @@ pub mod Plan
 pub mod Synced
 pub mod Walk
 pub mod Scan
-pub mod Laws

@@ -136,16 +136,3 @@ pub record TakesStep (result : Result (Unit {0}) SyncError) (step : PlainStep)
   pub holds : (path base : List ℕ) (change : PlainChange) (keys : List (List ℕ))
       → IsStepOf path base change step → MayChange keys base change
       → KeepsAllBut path keys old new
-
--- a part of what was wanted was done, and nothing else
-pub record DoesPart (path : List ℕ) (what : List ℕ → Option PlainChange) (old new : Past) : Type 0
-  where
-    pub part : List ℕ → Option PlainChange
-    pub within : (key : List ℕ) → part key ≢ None → part key ≡ what key
-    pub does : DoesWanted path part old new
-
--- what was wanted was done where the answer is Ok, and a part of it where it is a refusal
-abbrev pub DidWanted : List ℕ → (List ℕ → Option PlainChange) → Result (Unit {0}) SyncError
-    → Option Past → Option Past → Type 0
-DidWanted path what (Ok done) old new = GoesOn (DoesWanted path what) old new
-DidWanted path what (Err why) old new = GoesOn (DoesPart path what) old new

@@ -14,8 +14,9 @@ use Rattle.folder_shapes.specs.Maildir.{maildir_files}
 use Rattle.folder_stops.specs.Syncs.{KeepsHolds}
 use Rattle.maildir_folder.specs.Candidates.{IsCandidate, Rises, plain_file}
 use Rattle.folder_changes.specs.Left.{listing_synced}
-use Rattle.maildir_folder.specs.MaildirName.{is_new, name_of}
-use Rattle.maildir_folder.specs.Steps.{DidWanted, IsSyncError}
+use Rattle.maildir_names.specs.MaildirName.{is_new, name_of}
+use Rattle.maildir_folder.specs.Steps.{IsSyncError}
+use Rattle.folder_changes.specs.Maildir.{DidWanted}
 use Rattle.folder_changes.specs.Serving.{Serves}
 use Rattle.folder_changes.specs.Asked.{discarded, ids_of, what_of}
 use Rattle.maildir_folder.specs.declared.candidates.Candidate.{Candidate}

@@ -7,8 +7,8 @@ ghost use Rattle.disk_model.specs.Answers.{AreText};
 ghost use Rattle.folder_core.specs.Maildir.{files_in, is_shown as is_shown_lem};
 ghost use Rattle.maildir_folder.specs.Candidates as spec;
 
-use crate::base_order::order_of;
-use crate::maildir_name::split_name;
+use maildir_names::order_of;
+use maildir_names::split_name;
 use mail_base::{Bytes, NoMemory};
 use std::alloc::Global;
 

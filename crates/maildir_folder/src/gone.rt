@@ -9,7 +9,7 @@ ghost use Rattle.maildir_folder.specs.Steps.{IsSyncError};
 ghost use Rattle.folder_changes.specs.Serving.{IsErrorAt};
 ghost use Rattle.maildir_folder.specs.Synced as spec;
 
-use crate::maildir_name::{MaildirName, make_name};
+use maildir_names::{MaildirName, make_name};
 use folder_changes::{Spot, SyncError, name_changed};
 use folder_core::{Known, Letter, Listed, path_in};
 use mail_base::{Bytes, Flags, Id, NoMemory};

@@ -12,7 +12,7 @@ ghost use Rattle.folder_changes.specs.Asked.{ids_changed};
 ghost use Rattle.maildir_folder.specs.Plan as spec;
 ghost use Rattle.maildir_folder.specs.Steps.{AreSteps, GoesTo, IsStep, IsStepOf, plain_step};
 
-use crate::base_order::order_of;
+use maildir_names::order_of;
 use crate::candidates::Candidate;
 use crate::named_file::find_file;
 use crate::renaming::renamed;

@@ -9,7 +9,7 @@ ghost use Rattle.maildir_folder.specs.Candidates.{IsCandidate, plain_file};
 ghost use Rattle.maildir_folder.specs.Renaming.{file_with};
 
 use crate::candidates::Candidate;
-use crate::maildir_name::{MaildirName, flags_of, make_name, other_letters, split_name};
+use maildir_names::{MaildirName, flags_of, make_name, other_letters, split_name};
 use mail_base::{Bytes, Delta, Flags, Kind, NoMemory};
 use std::alloc::Global;
 

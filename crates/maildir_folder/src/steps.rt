@@ -6,6 +6,7 @@ ghost use Rattle.folder_letters.specs.Letters.{Mail};
 ghost use Rattle.index_items.specs.Changes.{Changed};
 ghost use Rattle.folder_changes.specs.Asked.{AreApart, discarded, ids_of, what_of};
 ghost use Rattle.folder_changes.specs.Serving.{IsErrorAt, Serves};
+ghost use Rattle.folder_changes.specs.Maildir.{DidWanted};
 ghost use Rattle.maildir_folder.specs.Steps as spec;
 
 use disk_model::{Disk, DiskError};
@@ -51,7 +52,7 @@ pub fn take_steps(alloc: Global, disk: &mut dyn Disk, steps: &[Step]) -> Result<
     ensures does { (path : List ℕ) → (mails : List Mail) → (changes : List Changed)
         → AreApart mails changes
         → spec.AreSteps path mails changes (map spec.plain_step steps.now)
-        → spec.DidWanted path (what_of mails changes) result
+        → DidWanted path (what_of mails changes) result
         (seen disk.old).told (seen disk.new).told }
     ensures names { (path : List ℕ) → (mails : List Mail) → (changes : List Changed)
         → AreApart mails changes

@@ -14,7 +14,8 @@ ghost use Rattle.mbox_folder.specs.ListedFile.{FindsFile, IsNothing, IsUnlisted}
 use crate::listing::{count_refusal, list_file};
 use crate::read::read_changed;
 use disk_model::{Device, Disk, FileRead};
-use folder_core::{Archive, Driver, Found, Known, Listing, ScanError, put_listing};
+use folder_core::{Archive, Found, Known, Listing, ScanError, put_listing};
+use folder_drivers::Driver;
 use mail_base::{Ids, Kind, NoMemory, Stamps};
 use std::alloc::Global;
 

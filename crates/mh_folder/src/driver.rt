@@ -13,7 +13,8 @@ use crate::folder::list_numbers;
 use crate::visit::begin_visit;
 use crate::walk::Walk;
 use disk_model::{Device, Disk};
-use folder_core::{Archive, Driver, Found, Known, Listing, ScanError, put_listing};
+use folder_core::{Archive, Found, Known, Listing, ScanError, put_listing};
+use folder_drivers::Driver;
 use mail_base::{Bytes, Kind, Stamps};
 use std::alloc::Global;
 

@@ -5,7 +5,8 @@ mod environment;
 
 use crate::environment::command_words;
 use disk_model::Device;
-use folder_core::{Archive, Drivers};
+use folder_core::Archive;
+use folder_drivers::Drivers;
 use mail_base::{Lines, Names, RealClock, StdSink, StdSource};
 use maildir_folder::MaildirDriver;
 use mbox_folder::MboxDriver;

@@ -27,7 +27,7 @@ use crate::status::Status;
 use crate::task::{answer, read};
 use crate::told::tell_end;
 use disk_model::Device;
-use folder_core::Drivers;
+use folder_drivers::Drivers;
 use mail_base::{Bytes, Clock, Sink, Source, Words};
 use mutt_words::{Options, WordsError, read_words};
 use session_events::{Event, Setup, Trace};

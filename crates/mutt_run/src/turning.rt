@@ -21,7 +21,7 @@ use crate::printing::{print, screen_bytes};
 use crate::status::Status;
 use crate::told::tell_later;
 use disk_model::Device;
-use folder_core::Drivers;
+use folder_drivers::Drivers;
 use keymap::{Key, KeyFault, KeyReader};
 use mail_base::{Clock, NoMemory, Sink, Source};
 use session::Session;

@@ -2,7 +2,7 @@
 
 use crate::flags::put_flags;
 use case_files::{Answer, Case, CaseFault, Subject};
-use maildir_folder::{MaildirName, make_name, order_of, read_name};
+use maildir_names::{MaildirName, make_name, order_of, read_name};
 use std::alloc::Global;
 
 /// `name` is the name of a file, `in` its folder, `cur` or `new`; `base` is `none` where the name

@@ -3,7 +3,8 @@
 use case_disks::text_of;
 use case_files::{Answer, Case, CaseFault, Entry, Subject, read_number};
 use disk_model::{Device, DiskError};
-use folder_core::{Archive, Driver, Found, Known, ScanError};
+use folder_core::{Archive, Found, Known, ScanError};
+use folder_drivers::Driver;
 use mail_base::Kind;
 use maildir_folder::MaildirDriver;
 use mbox_folder::MboxDriver;

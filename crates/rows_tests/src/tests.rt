@@ -2,7 +2,8 @@
 //! boxes.
 
 use disk_model::{Device, Node, Tree, is_tree};
-use folder_core::{Archive, Driver, Drivers, DriversError, Found, Known, ScanError};
+use folder_core::{Archive, Found, Known, ScanError};
+use folder_drivers::{Driver, Drivers, DriversError};
 use mail_base::{
     Bytes, Clock, Flags, Kind, Line, MemoryClock, MemorySink, MemorySource, NoMemory, Numbers,
     ReadFault, RealClock, Sink, Source, StdSink, StdSource, WriteFault,

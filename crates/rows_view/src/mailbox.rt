@@ -6,7 +6,8 @@ ghost use Rattle.index_view.specs.View.{IsOf, MayTake};
 
 use case_files::CaseFault;
 use disk_model::{Device, Node, Tree, is_tree};
-use folder_core::{Archive, Driver, Found, Known};
+use folder_core::{Archive, Found, Known};
+use folder_drivers::Driver;
 use index_view::{View, ViewOptions, first_folder_is_taken};
 use mail_base::{Bytes, Kind, Numbers};
 use mbox_folder::MboxDriver;

@@ -3,7 +3,8 @@
 use crate::core_state::Core;
 use crate::session_type::Session;
 use disk_model::Device;
-use folder_core::{Archive, Drivers};
+use folder_core::Archive;
+use folder_drivers::Drivers;
 use keymap::KeyQueue;
 use mail_base::{Bytes, Lines, NoMemory, Words};
 use session_events::{OpenFolder, Opening, Setup, StartError, Trace, open_event};

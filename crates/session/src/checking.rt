@@ -2,7 +2,8 @@
 
 use crate::session_type::Session;
 use disk_model::Device;
-use folder_core::{Archive, Drivers, Found, ScanError};
+use folder_core::{Archive, Found, ScanError};
+use folder_drivers::Drivers;
 use keymap::Menu;
 use mail_base::NoMemory;
 use session_events::{Event, Marks, Trace, refusal_line};

@@ -3,7 +3,7 @@
 use crate::screen::screen_lines;
 use crate::session_type::Session;
 use disk_model::Device;
-use folder_core::Drivers;
+use folder_drivers::Drivers;
 use keymap::Key;
 use mail_base::{Lines, NoMemory};
 use session_events::{Event, Next, Trace};

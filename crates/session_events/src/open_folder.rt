@@ -3,7 +3,8 @@
 use crate::checking::Scanned;
 use crate::event::Marks;
 use disk_model::Device;
-use folder_core::{Archive, Drivers, Found, Known, Listing, difference_of};
+use folder_core::{Archive, Found, Known, Listing, difference_of};
+use folder_drivers::Drivers;
 use mail_base::{Kind, NoMemory};
 use std::alloc::Global;
 

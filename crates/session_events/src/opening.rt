@@ -11,7 +11,8 @@ ghost use Rattle.session_events.specs.Telling.{Tells};
 use crate::event::{Event, Marks, OpenFault};
 use crate::open_folder::OpenFolder;
 use disk_model::Device;
-use folder_core::{Archive, Drivers, Known, Listing, ScanError, kind_of};
+use folder_core::{Archive, Known, Listing, ScanError, kind_of};
+use folder_drivers::Drivers;
 use mail_base::{Bytes, Kind};
 use std::alloc::Global;
 

@@ -1,0 +1,104 @@
+-- What a sync of a Maildir is, and why it is refused (maildir(5)).
+use Rattle.std.specs.Prelude.{◌≡◌, ◌⊎◌, ℕ, Bool, not, List}
+use Rattle.mail_base.specs.Ordered.{IsIn}
+use Rattle.mail_base.specs.declared.kind.Id.{Id}
+use Rattle.mail_base.specs.declared.kind.Kind.TheVariants.{Maildir}
+use Rattle.disk_model.specs.Journal.{Call, MakeDir, Past, Remove, Rename, StatPath, SyncDir}
+use Rattle.disk_model.specs.Tree.{TreeNode}
+use Rattle.index_items.specs.Changes.{Changed}
+use Rattle.folder_letters.specs.Letters.{Mail}
+use Rattle.folder_core.specs.Keeping.{mail_of}
+use Rattle.folder_core.specs.Known.{KnownFolder}
+use Rattle.folder_core.specs.Maildir.{MaildirFile, base_of, directory, is_maildir, path_of}
+use Rattle.folder_changes.specs.Asked.{discarded, ids_of, what_of}
+use Rattle.folder_changes.specs.Left.{listing_synced}
+use Rattle.folder_changes.specs.Maildir.{DidWanted}
+use Rattle.folder_changes.specs.Refused.{WasRefused}
+use Rattle.folder_changes.specs.Worked.{WasCause}
+use Rattle.folder_changes.specs.declared.sync_error.Spot.TheVariants.{Name}
+use Rattle.folder_changes.specs.declared.sync_error.SyncError.{SyncError}
+use Rattle.folder_changes.specs.declared.sync_error.SyncError.TheVariants.{Changed as IsChanged}
+use Rattle.folder_changes.specs.declared.sync_error.SyncError.TheVariants.{Fault, NoMemory}
+use Rattle.folder_drivers.specs.SyncRow.{SyncRow}
+use Rattle.folder_shapes.specs.Maildir.{maildir_files}
+use Rattle.folder_stops.specs.Syncs.{KeepsHolds}
+
+-- How it may be refused.
+
+-- the path is that of a file of one of these messages
+pub record IsFileOf (path : List ℕ) (mails : List Mail) (ids : List Id) (name : List ℕ) : Type 0
+  where
+    pub id : Id
+    pub among : IsIn id ids
+    pub file : MaildirFile
+    pub base : base_of file ≡ (mail_of mails id.0).key
+    pub at : name ≡ path_of path file
+
+-- why a sync of these messages was refused: what stands at the folder's path or at that of a file
+-- of one of them is not as it is known, the disk failed, or memory ran out
+abbrev pub IsSyncError : List ℕ → List Mail → List Id → SyncError → Type 0
+IsSyncError path mails ids (IsChanged (Name name)) =
+    (name.items ≡ path) ⊎ IsFileOf path mails ids name.items
+IsSyncError path mails ids Fault = Unit {0}
+IsSyncError path mails ids NoMemory = Unit {0}
+IsSyncError path mails ids why = ⊥
+
+-- Why it was refused.
+
+-- no Maildir stands at the path
+abbrev pub is_no_maildir : List ℕ → List TreeNode → Bool
+is_no_maildir path tree = not (is_maildir tree path)
+
+-- the path is that of a directory of messages
+abbrev pub IsDirectory : List ℕ → List ℕ → Type 0
+IsDirectory path at = (in_cur : Bool) × (at ≡ directory in_cur path)
+
+-- the call makes a directory of messages, or puts its names on the disk
+abbrev pub NeedsFolder : List ℕ → Call → Type 0
+NeedsFolder path (MakeDir at) = IsDirectory path at
+NeedsFolder path (SyncDir at) = IsDirectory path at
+NeedsFolder path call = ⊥
+
+-- the call looks for a file, moves it or takes it away
+abbrev pub NeedsFile : List ℕ → Call → Type 0
+NeedsFile name (StatPath at) = at ≡ name
+NeedsFile name (Rename from to) = from ≡ name
+NeedsFile name (Remove at) = at ≡ name
+NeedsFile name call = ⊥
+
+-- A step was refused for a state that is no doing of ours, and it is one of these.
+pub record StepRefused (Needs : Call → Type 0) (m n : ℕ) (past : Past) : Type 0 where
+  pub call : Call
+  pub needs : Needs call
+  pub refused : WasRefused call m n past
+
+-- why a sync was refused between two marks: no Maildir stood at the path, or a step met no such
+-- directory; a file of a message was not there, or its step was refused for what stood there; the
+-- disk failed, or memory ran out
+abbrev pub MaildirRefused : KnownFolder → List Mail → List Changed → SyncError → ℕ → ℕ → Past
+    → Type 0
+MaildirRefused known mails changes (IsChanged (Name name)) m n past =
+    ((name.items ≡ known.path) × (WasCause (is_no_maildir known.path) m n past
+    ⊎ StepRefused (NeedsFolder known.path) m n past))
+    ⊎ (IsFileOf known.path mails (ids_of changes) name.items
+    × StepRefused (NeedsFile name.items) m n past)
+MaildirRefused known mails changes Fault m n past = Unit {0}
+MaildirRefused known mails changes NoMemory m n past = Unit {0}
+MaildirRefused known mails changes why m n past = ⊥
+
+-- What it is.
+
+-- syncs of Maildirs
+abbrev pub maildir_syncs : SyncRow
+maildir_syncs = record {
+  Works = λ purge known mails changes result old new.
+      DidWanted known.path (what_of mails changes) result old new;
+  Keeps = λ known mails changes old new.
+      KeepsHolds (maildir_files known.path) (discarded mails changes) old new;
+  synced = λ changes known.
+      record known { listing = listing_synced Maildir changes known.listing };
+  MayBe = λ known mails changes why. IsSyncError known.path mails (ids_of changes) why;
+  Refused = MaildirRefused;
+  home = λ path. (maildir_files path).shape.home;
+  making = λ path. (maildir_files path).making;
+}

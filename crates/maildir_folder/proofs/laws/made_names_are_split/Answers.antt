@@ -1,5 +1,0 @@
-use Rattle.maildir_folder.proofs.NameLemmas.{made_is_split}
-use Rattle.maildir_folder.proofs.laws.made_names_are_split.Goals as goal
-
-pub returns : goal.returns
-returns c = made_is_split

@@ -1,0 +1,3 @@
+pub mod MaildirName
+pub mod BaseOrder
+pub mod Laws
