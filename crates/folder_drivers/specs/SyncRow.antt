@@ -46,6 +46,4 @@ pub record SyncsAs (row : SyncRow) (purge : Bool) (mails : List Mail) (changes :
   pub ok_known : OnOk result (new_known ≡ row.synced changes known)
   pub err_known : OnErr result (new_known ≡ known)
   pub may_be : IfErr result (row.MayBe known mails changes)
-  pub cause : IfErr result
-      (λ why. GoesOn (HadCause row known mails changes why) old.told new.told)
   pub serves : Serves result old new

@@ -12,7 +12,7 @@ use Rattle.disk_model.specs.State.{synced, with_folder, with_made, without, writ
 use Rattle.disk_model.specs.Looking.{all_look, is_look}
 use Rattle.disk_model.proofs.Marks.{look_keeps, refusal_keeps}
 use Rattle.folder_stops.specs.Along.{Allows, Along}
-use Rattle.folder_stops.specs.Does.{AreElsewhere, IsElsewhere}
+use Rattle.folder_stops.specs.Does.{AreElsewhere, IsElsewhere, IfChanged}
 use Rattle.folder_stops.specs.Messages.{Must, StoredMessage}
 use Rattle.folder_stops.specs.Others.{MayDo, with_entry}
 use Rattle.folder_stops.specs.Rows.{Holds, Row}
@@ -145,7 +145,8 @@ module _ (shape : Shape) (formed : IsWellFormed shape) where
   done_elsewhere (MakeDir path) all s is h = other_folder path all s (outside path is) h
 
   refused_elsewhere : (call : Call) (wrote : ℕ) (all : List StoredMessage) (s : State)
-      → IsElsewhere shape call → Holds shape all s → Holds shape all (after_refused call wrote s)
+      → ((wrote == 0) ≡ false → IsElsewhere shape call) → Holds shape all s
+      → Holds shape all (after_refused call wrote s)
   refused_elsewhere (ListDir dir) wrote all s is h = h
   refused_elsewhere (StatPath path) wrote all s is h = h
   refused_elsewhere (ReadFront path size) wrote all s is h = h
@@ -154,7 +155,7 @@ module _ (shape : Shape) (formed : IsWellFormed shape) where
   refused_elsewhere (WriteAt path at piece) wrote all s is h = ⊎_elim
       (λ (e : (wrote == 0) ≡ true). subst (Holds shape all) (sym (cond-true (wrote == 0) _ _ e)) h)
       (λ (e : (wrote == 0) ≡ false). subst (Holds shape all) (sym (cond-false (wrote == 0) _ _ e))
-      (other_changed (name_at s.names path) path (written at (take wrote piece)) all s refl is h))
+      (other_changed (name_at s.names path) path (written at (take wrote piece)) all s refl (is e) h))
       (cases_Bool (wrote == 0))
   refused_elsewhere (Cut path size) wrote all s is h = h
   refused_elsewhere (Sync path) wrote all s is h = h
@@ -164,7 +165,7 @@ module _ (shape : Shape) (formed : IsWellFormed shape) where
   refused_elsewhere (MakeDir path) wrote all s is h = h
 
   pub own_elsewhere : (call : Call) (answer : Answer) (all : List StoredMessage) (s : State)
-      → IsElsewhere shape call → Holds shape all s
+      → IfChanged answer (IsElsewhere shape call) → Holds shape all s
       → Holds shape all (after_entry s (Own call answer))
   own_elsewhere call Done all s is h = done_elsewhere call all s is h
   own_elsewhere call (Refused why wrote) all s is h = refused_elsewhere call wrote all s is h

@@ -162,7 +162,8 @@ module _ (shape : Shape) (formed : IsWellFormed shape) (keys : List (List ℕ)) 
   refused_in (ReadAll path limit) why wrote all s call h = h
   refused_in (Create path) why wrote all s call h = h
   refused_in (WriteAt path at piece) why wrote all s call h =
-      own_elsewhere shape formed (WriteAt path at piece) (Refused why wrote) all s call h
+      own_elsewhere shape formed (WriteAt path at piece) (Refused why wrote) all s
+      (λ changed. call) h
   refused_in (Cut path size) why wrote all s call h = h
   refused_in (Sync path) why wrote all s call h = h
   refused_in (Rename from to) why wrote all s call h = h

@@ -1,5 +1,5 @@
 -- What a call of ours did itself: where it changed something, and which message it began.
-use Rattle.std.specs.Prelude.{◌≡◌, ◌⊎◌, ℕ, Bool, true, false, List, [], ◌∷◌, Option, Some, None}
+use Rattle.std.specs.Prelude.{◌≡◌, ◌==◌, ◌⊎◌, ℕ, Bool, true, false, List, [], ◌∷◌, Option, Some, None}
 use Rattle.disk_model.specs.Journal.{Call, ListDir, StatPath, ReadFront, ReadAll, Create, WriteAt}
 use Rattle.disk_model.specs.Journal.{Cut, Sync, Rename, Remove, SyncDir, MakeDir, Answer, Done}
 use Rattle.disk_model.specs.Journal.{Refused, Entry, Own, Others, Past}
@@ -33,10 +33,16 @@ MakesAt making made (Refused why wrote) call = Unit {0}
 MakesAt making made Done (Create path) = (making path ≡ None) ⊎ (made ≡ Some path)
 MakesAt making made Done call = Unit {0}
 
+-- it is so of a call that changed something: one that was done, or that wrote before it failed
+abbrev pub IfChanged : Answer → Type 0 → Type 0
+IfChanged Done P = P
+IfChanged (Refused why wrote) P = (wrote == 0) ≡ false → P
+
 -- both of one call
 abbrev pub IsOurs : (List ℕ → Bool) → (List ℕ → Option (List ℕ)) → Option (List ℕ) → Call → Answer
     → Type 0
-IsOurs home making made call answer = IsWithin home call × MakesAt making made answer call
+IsOurs home making made call answer =
+    IfChanged answer (IsWithin home call) × MakesAt making made answer call
 
 -- The calls of ours changed such paths alone, and no message begins with a file that they made but
 -- this one.
@@ -61,4 +67,5 @@ IsElsewhere shape (MakeDir path) = shape.home path ≡ false
 
 -- none of our calls changes something in the folder
 abbrev pub AreElsewhere : Shape → List Entry → Type 0
-AreElsewhere shape entries = AllOwn (λ call answer. IsElsewhere shape call) entries
+AreElsewhere shape entries =
+    AllOwn (λ call answer. IfChanged answer (IsElsewhere shape call)) entries

@@ -32,7 +32,7 @@ use Rattle.folder_changes.specs.declared.sync_error.SyncError.TheVariants.{TooMa
 use Rattle.folder_changes.specs.declared.sync_error.SyncError.TheVariants.{Fault, NoMemory}
 use Rattle.folder_changes.specs.declared.sync_error.SyncError.TheVariants.{NotFolder}
 use Rattle.folder_changes.specs.declared.sync_error.Spot.TheVariants.{Name, At}
-use Rattle.maildir_folder.specs.Steps.{IsFileOf, IsSyncError}
+use Rattle.folder_drivers.specs.MaildirSync.{IsFileOf, IsSyncError}
 use Rattle.folder_changes.specs.Serving.{IsErrorAt}
 use Rattle.folder_changes.specs.Asked.{ids_of}
 use Rattle.folder_changes.proofs.CallLemmas.{call_does, does_then, looked_does, removed_does}

@@ -25,7 +25,12 @@ use Rattle.folder_stops.specs.Syncs.{KeepsHolds, Syncing}
 use Rattle.folder_stops.specs.Words.{has}
 use Rattle.folder_stops.proofs.Words.{same}
 use Rattle.folder_stops.proofs.Syncs as S
-use Rattle.folder_shapes.specs.Maildir.{maildir_files, maildir_shape}
+use Rattle.folder_stops.specs.Does.{Does}
+use Rattle.folder_stops.proofs.Does.{does_call, does_looked, does_none, does_then}
+use Rattle.folder_shapes.specs.Maildir.{maildir_files, maildir_making, maildir_shape}
+use Rattle.folder_shapes.proofs.Nodes.{behind_there}
+use Rattle.folder_core.specs.Directory.{front_of}
+use Rattle.std.specs.Prelude.{codes, is_some}
 use Rattle.folder_shapes.proofs.MaildirLemmas.{a_maildir, maildir_formed, slot_new, slot_of}
 use Rattle.maildir_folder.specs.Steps.{AreSteps, IsStep, IsStepOf, KeepsAllBut, LeavesAll}
 use Rattle.maildir_folder.specs.Steps.{MayChange, PlainStep, call_by, call_of}
@@ -38,13 +43,19 @@ use Rattle.maildir_folder.proofs.StepLemmas.{looks_did, nothing_then}
 -- nothing was called
 pub keeps_first : (path : List ℕ) (keys : List (List ℕ)) (told : Option Past)
     → KeepsAllBut path keys told told
-keeps_first path keys told = S.begun (maildir_shape path) [] keys (maildir_formed path) told
+keeps_first path keys told = record {
+  holds = S.begun (maildir_shape path) [] keys (maildir_formed path) told;
+  here = does_none (maildir_shape path).home (maildir_making path) None told;
+}
 
 -- one stretch behind another
 pub keeps_then : (path : List ℕ) (keys : List (List ℕ)) (old mid new : Option Past)
     → KeepsAllBut path keys old mid → KeepsAllBut path keys mid new
     → KeepsAllBut path keys old new
-keeps_then path keys old mid new first rest = S.joined (maildir_shape path) [] keys first rest
+keeps_then path keys old mid new first rest = record {
+  holds = S.joined (maildir_shape path) [] keys first.holds rest.holds;
+  here = does_then (maildir_shape path).home (maildir_making path) None first.here rest.here;
+}
 
 module _ (path : List ℕ) (keys : List (List ℕ)) where
   still : (s t : State) (all : List StoredMessage) → t ≡ s → Syncing (maildir_shape path) keys all s
@@ -78,12 +89,15 @@ module _ (path : List ℕ) (keys : List (List ℕ)) where
   -- looks leave all messages
   pub keeps_looked : (old new : Option Past) → LooksOnly old new → KeepsAllBut path keys old new
   keeps_looked old new looks = record {
-    grown = goes_as old new (λ p q looked. record {
-      same_first = looked.same_first;
-      more = looked.more;
-      journal = looked.journal;
-      along = quiet looked.more (state_after p) looked.look;
-    }) looks;
+    holds = record {
+      grown = goes_as old new (λ p q looked. record {
+        same_first = looked.same_first;
+        more = looked.more;
+        journal = looked.journal;
+        along = quiet looked.more (state_after p) looked.look;
+      }) looks;
+    };
+    here = does_looked (maildir_shape path).home (maildir_making path) None looks;
   }
 
 -- Parts that do nothing to the messages.
@@ -114,6 +128,10 @@ pub leaves_at : (at path : List ℕ) (old new : Option Past) → at ≡ path →
 leaves_at at path old new is leaves =
     subst (λ (p : List ℕ). LeavesAll p old new) is leaves
 
+-- the directory `new` is inside the folder
+home_directory : (path : List ℕ) → (maildir_shape path).home (directory false path) ≡ true
+home_directory path = ap is_some (behind_there (front_of path) (codes "new"))
+
 -- Calls.
 
 module _ {result : Result (Unit {0}) DiskError}
@@ -121,15 +139,20 @@ module _ {result : Result (Unit {0}) DiskError}
   -- the directory `new` is made
   pub keeps_made : (path dir : List ℕ) (keys : List (List ℕ)) → dir ≡ directory false path
       → Called result (MakeDir dir) wanted old new → KeepsAllBut path keys old new
-  keeps_made path dir keys is took =
-      S.folder_made (maildir_shape path) [] keys (maildir_formed path)
-      (ap (maildir_shape path).slot is ∙ slot_new path) took
+  keeps_made path dir keys is took = record {
+    holds = S.folder_made (maildir_shape path) [] keys (maildir_formed path)
+        (ap (maildir_shape path).slot is ∙ slot_new path) took;
+    here = does_call (maildir_shape path).home (maildir_making path) None took
+        (ap (maildir_shape path).home is ∙ home_directory path) tt;
+  }
 
   -- names are put on the disk
   pub keeps_named : (path dir : List ℕ) (keys : List (List ℕ))
       → Called result (SyncDir dir) wanted old new → KeepsAllBut path keys old new
-  keeps_named path dir keys took =
-      S.synced_dir (maildir_shape path) [] keys (maildir_formed path) took
+  keeps_named path dir keys took = record {
+    holds = S.synced_dir (maildir_shape path) [] keys (maildir_formed path) took;
+    here = does_call (maildir_shape path).home (maildir_making path) None took tt tt;
+  }
 
   keeps_by : (path : List ℕ) (file : MaildirFile) (change : PlainChange) (keys : List (List ℕ))
       (from : List ℕ) (to : Option (List ℕ))
@@ -138,15 +161,28 @@ module _ {result : Result (Unit {0}) DiskError}
       → KeepsAllBut path keys old new
   keeps_by path file (Alters added cleared) keys from None is may took = absurd is.to
   keeps_by path file (Alters added cleared) keys from (Some to) is may took =
-      S.renamed (maildir_shape path) [] keys (maildir_formed path)
-      (ap (maildir_shape path).slot is.from ∙ slot_of path file.in_cur file.name is.shown)
-      (ap (maildir_shape path).slot is.to.goes
+      let at_from : (maildir_shape path).slot from ≡ Some (base_of file) =
+      ap (maildir_shape path).slot is.from ∙ slot_of path file.in_cur file.name is.shown in
+      let at_to : (maildir_shape path).slot to ≡ Some (base_of file) =
+      ap (maildir_shape path).slot is.to.goes
       ∙ slot_of path is.to.target.in_cur is.to.target.name is.to.shown
-      ∙ ap Some is.to.base) took
+      ∙ ap Some is.to.base in
+      record {
+        holds = S.renamed (maildir_shape path) [] keys (maildir_formed path) at_from at_to took;
+        here = does_call (maildir_shape path).home (maildir_making path) None took (
+          (maildir_formed path).inside from (base_of file) at_from,
+          (maildir_formed path).inside to (base_of file) at_to,
+        ) tt;
+      }
   keeps_by path file Discards keys from (Some to) is may took = absurd is.to
   keeps_by path file Discards keys from None is may took =
-      S.removed (maildir_shape path) [] keys (maildir_formed path)
-      (ap (maildir_shape path).slot is.from ∙ slot_of path file.in_cur file.name is.shown) may took
+      let at_from : (maildir_shape path).slot from ≡ Some (base_of file) =
+      ap (maildir_shape path).slot is.from ∙ slot_of path file.in_cur file.name is.shown in
+      record {
+        holds = S.removed (maildir_shape path) [] keys (maildir_formed path) at_from may took;
+        here = does_call (maildir_shape path).home (maildir_making path) None took
+            ((maildir_formed path).inside from (base_of file) at_from) tt;
+      }
 
   -- a step, whatever its answer
   pub keeps_step : (path base : List ℕ) (change : PlainChange) (keys : List (List ℕ))
@@ -251,10 +287,16 @@ holds_letters slice letters changes path old new is kept =
     S.kept_holds (maildir_files path) (discarded (map plain_letter letters) changes)
     (a_maildir path)
     (subst (λ (l : List Letter). KeepsAllBut path (discarded (map plain_letter l) changes) old new)
-    is kept)
+    is kept).holds
+
+-- our calls changed the folder alone
+pub here_only : (path : List ℕ) (keys : List (List ℕ)) {old new : Option Past}
+    → KeepsAllBut path keys old new
+    → Does (maildir_files path).shape.home (maildir_files path).making None old new
+here_only path keys kept = kept.here
 
 -- nothing was called
 pub holds_first : (path : List ℕ) (keys : List (List ℕ)) (told : Option Past)
     → KeepsHolds (maildir_files path) keys told told
 holds_first path keys told =
-    S.kept_holds (maildir_files path) keys (a_maildir path) (keeps_first path keys told)
+    S.kept_holds (maildir_files path) keys (a_maildir path) (keeps_first path keys told).holds

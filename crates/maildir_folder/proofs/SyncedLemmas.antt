@@ -1,6 +1,6 @@
 -- What a sync did, by its parts.
 use Rattle.std.proofs.Common.{◌≡◌, ◌<◌, ℕ, List, [], Result, Ok, Err, length, map, sym, ◌∙◌, ap}
-use Rattle.std.proofs.Common.{subst}
+use Rattle.std.proofs.Common.{Bool, None, subst}
 use Rattle.std.proofs.lemmas.List.{length-map}
 use Rattle.mail_base.specs.declared.kind.Kind.TheVariants.{Maildir}
 use Rattle.disk_model.specs.Journal.{Past}
@@ -26,16 +26,18 @@ use Rattle.folder_shapes.specs.Maildir.{maildir_files}
 use Rattle.folder_changes.specs.Left.{listing_synced}
 use Rattle.maildir_folder.specs.Plan.{IsPlanRefusal}
 use Rattle.folder_changes.specs.Asked.{ids_changed}
-use Rattle.maildir_folder.specs.Steps.{IsSyncError}
+use Rattle.folder_drivers.specs.MaildirSync.{IsSyncError}
 use Rattle.folder_changes.specs.Maildir.{DidWanted}
 use Rattle.folder_changes.specs.Serving.{Serves}
 use Rattle.folder_changes.specs.Asked.{discarded, ids_of, what_of}
 use Rattle.folder_changes.specs.Serving.{IsErrorAt}
-use Rattle.maildir_folder.specs.Synced.{Syncs, file_known}
+use Rattle.folder_drivers.specs.Synced.{Syncs}
+use Rattle.folder_stops.specs.Does.{Does}
+use Rattle.maildir_folder.specs.Synced.{file_known}
 use Rattle.folder_changes.specs.Asked.{AreListed}
 use Rattle.maildir_names.proofs.NameLemmas.{made_is_split}
 use Rattle.maildir_folder.proofs.StepLemmas.{error_among, error_file}
-use Rattle.maildir_folder.proofs.StopLemmas.{holds_first}
+use Rattle.maildir_folder.proofs.StopLemmas.{here_only, holds_first, keeps_first}
 use Rattle.mail_base.specs.declared.flags.Flags.{Flags}
 use Rattle.folder_core.specs.Keeping.{mail_of}
 use Rattle.std.proofs.Common.{◌∷◌, inl, refl}
@@ -85,23 +87,33 @@ pub right_apart : (mails : List Mail) (known : KnownFolder) (told : Option Past)
 right_apart mails known told changes right listed once =
     apart_of order_of mails known.listing right.ordered right.read.placed changes listed once
 
+-- our calls changed the folder alone
+abbrev pub IsHere : List ℕ → Seen → Seen → Type 0
+IsHere path old new =
+    Does (maildir_files path).shape.home (maildir_files path).making None old.told new.told
+
 -- a sync that was refused
 pub syncs_not : (mails : List Mail) (changes : List Changed) (known new_known : KnownFolder)
     (why : SyncError) (old new : Seen) → new_known ≡ known → Right Maildir mails known old.told
     → DidWanted known.path (what_of mails changes) (Err why) old.told new.told
     → KeepsHolds (maildir_files known.path) (discarded mails changes) old.told new.told
+    → IsHere known.path old new
     → IsSyncError known.path mails (ids_of changes) why → Serves {A = Unit {0}} (Err why) old new
-    → Syncs mails changes known new_known (Err why) old new
-syncs_not mails changes known new_known why old new same right does holds names serves = record {
-  does = does;
-  holds = holds;
-  ok_known = tt;
-  err_known = same;
-  right = subst (λ (k : KnownFolder). Right Maildir mails k new.told) (sym same)
-      (right_told mails known old.told new.told right);
-  names = names;
-  serves = serves;
-}
+    → (purge : Bool) → Syncs Maildir purge mails changes known new_known (Err why) old new
+syncs_not mails changes known new_known why old new same right does holds here names serves purge =
+    record {
+      syncs = record {
+        works = does;
+        keeps = holds;
+        here = here;
+        ok_known = tt;
+        err_known = same;
+        may_be = names;
+        serves = serves;
+      };
+      right = subst (λ (k : KnownFolder). Right Maildir mails k new.told) (sym same)
+          (right_told mails known old.told new.told right);
+    }
 
 -- a sync that was done
 pub syncs_done : (mails : List Mail) (changes : List Changed) (known new_known : KnownFolder)
@@ -111,21 +123,25 @@ pub syncs_done : (mails : List Mail) (changes : List Changed) (known new_known :
     → Right Maildir mails known old.told
     → DidWanted known.path (what_of mails changes) (Ok tt) old.told new.told
     → KeepsHolds (maildir_files known.path) (discarded mails changes) old.told new.told
-    → Serves {A = Unit {0}} (Ok tt) old new → Syncs mails changes known new_known (Ok tt) old new
+    → IsHere known.path old new → Serves {A = Unit {0}} (Ok tt) old new
+    → (purge : Bool) → Syncs Maildir purge mails changes known new_known (Ok tt) old new
 syncs_done mails changes known new_known listing bytes stamps old new is no_bytes no_stamps put
-    right does holds serves = record {
-      does = does;
-      holds = holds;
-      ok_known = whole ∙ (λ i. record known {
-        listing = listing_synced Maildir changes known.listing;
-        bytes = sym right.read.bytes i;
-        stamps = sym right.read.stamps i;
-      });
-      err_known = tt;
+    right does holds here serves purge = record {
+      syncs = record {
+        works = does;
+        keeps = holds;
+        here = here;
+        ok_known = whole ∙ (λ i. record known {
+          listing = listing_synced Maildir changes known.listing;
+          bytes = sym right.read.bytes i;
+          stamps = sym right.read.stamps i;
+        });
+        err_known = tt;
+        may_be = tt;
+        serves = serves;
+      };
       right = subst (λ (k : KnownFolder). Right Maildir mails k new.told) (sym whole)
           (synced_right changes mails known old.told new.told right);
-      names = tt;
-      serves = serves;
     }
   where
     whole : new_known ≡ record known {
@@ -201,11 +217,22 @@ no_fault e = cc
 -- a sync for which memory ran out before its first call
 pub syncs_none : (mails : List Mail) (changes : List Changed) (known : KnownFolder) (seen : Seen)
     → Right Maildir mails known seen.told
-    → Syncs mails changes known known (Err NoMemory) seen seen
+    → (purge : Bool) → Syncs Maildir purge mails changes known known (Err NoMemory) seen seen
 syncs_none mails changes known seen right =
     syncs_not mails changes known known NoMemory seen seen refl right
     (did_none known.path (what_of mails changes) NoMemory seen.told seen.told
     (looks_did known.path seen.told seen.told (looks_same seen.told)))
-    (holds_first known.path (discarded mails changes) seen.told) tt
+    (holds_first known.path (discarded mails changes) seen.told)
+    (here_only known.path [] (keeps_first known.path [] seen.told)) tt
     (serves_looked {A = Unit {0}} (Err NoMemory) seen seen (only_same seen)
     (λ is. absurd (no_fault {A = Unit {0}} is)))
+
+-- a sync, by the changes as a slice
+pub syncs_slice : {purge : Bool} {mails : List Mail} {known new_known : KnownFolder}
+    {result : Result (Unit {0}) SyncError} {old new : Seen} (slice changes : List Changed1)
+    → slice ≡ changes
+    → Syncs Maildir purge mails (plain_changes slice) known new_known result old new
+    → Syncs Maildir purge mails (plain_changes changes) known new_known result old new
+syncs_slice {purge} {mails} {known} {new_known} {result} {old} {new} slice changes is syncs =
+    subst (λ (l : List Changed1). Syncs Maildir purge mails (plain_changes l) known new_known result
+    old new) is syncs

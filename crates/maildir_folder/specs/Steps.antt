@@ -20,7 +20,8 @@ use Rattle.folder_changes.specs.declared.sync_error.Spot.TheVariants.{Name}
 use Rattle.folder_changes.specs.declared.sync_error.SyncError.{SyncError}
 use Rattle.folder_changes.specs.declared.sync_error.SyncError.TheVariants.{Changed as IsChanged}
 use Rattle.folder_changes.specs.declared.sync_error.SyncError.TheVariants.{Fault, NoMemory}
-use Rattle.folder_shapes.specs.Maildir.{maildir_shape}
+use Rattle.folder_shapes.specs.Maildir.{maildir_making, maildir_shape}
+use Rattle.folder_stops.specs.Does.{Does}
 use Rattle.folder_stops.specs.Syncs.{Syncs as HoldsOn}
 use Rattle.folder_stops.specs.Words.{has}
 use Rattle.maildir_folder.specs.declared.steps.Step.{Step}
@@ -91,31 +92,16 @@ call_of step = call_by step.from step.to
 abbrev pub WasDone : Call → Option Past → Option Past → Type 0
 WasDone call old new = GoesOn (OneStep {A = Unit {0}} (Ok tt) call (done_by call)) old new
 
--- the path is that of a file of one of these messages
-pub record IsFileOf (path : List ℕ) (mails : List Mail) (ids : List Id) (name : List ℕ) : Type 0
-  where
-    pub id : Id
-    pub among : IsIn id ids
-    pub file : MaildirFile
-    pub base : base_of file ≡ (mail_of mails id.0).key
-    pub at : name ≡ path_of path file
-
--- why a sync of these messages was refused: what stands at the folder's path or at that of a file
--- of one of them is not as it is known, the disk failed, or memory ran out
-abbrev pub IsSyncError : List ℕ → List Mail → List Id → SyncError → Type 0
-IsSyncError path mails ids (IsChanged (Name name)) =
-    (name.items ≡ path) ⊎ IsFileOf path mails ids name.items
-IsSyncError path mails ids Fault = Unit {0}
-IsSyncError path mails ids NoMemory = Unit {0}
-IsSyncError path mails ids why = ⊥
-
 -- nothing was done to the messages
 abbrev pub DidNothing : List ℕ → Option Past → Option Past → Type 0
 DidNothing path old new = GoesOn (DoesWanted path nothing_wanted) old new
 
--- the folder holds its messages at each mark, and those with these keys may go
-abbrev pub KeepsAllBut : List ℕ → List (List ℕ) → Option Past → Option Past → Type 0
-KeepsAllBut path keys old new = HoldsOn (maildir_shape path) [] keys old new
+-- The folder holds its messages at each mark, and those with these keys may go; our calls changed the
+-- folder alone, and began no message.
+pub record KeepsAllBut (path : List ℕ) (keys : List (List ℕ)) (old new : Option Past) : Type 0
+  where
+    pub holds : HoldsOn (maildir_shape path) [] keys old new
+    pub here : Does (maildir_shape path).home (maildir_making path) None old new
 
 -- Nothing was done to the messages, and the folder holds them at each mark, whichever may go.
 pub record LeavesAll (path : List ℕ) (old new : Option Past) : Type 0 where

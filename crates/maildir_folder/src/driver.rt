@@ -5,15 +5,15 @@ ghost use Rattle.mail_base.specs.declared.kind.Kind.TheVariants.{Maildir};
 ghost use Rattle.folder_core.specs.Costs.{RaisesAtMost, cores_together, letters_behind};
 ghost use Rattle.folder_core.specs.DirectoryScan.{ListsFolder, ScansFolder};
 ghost use Rattle.folder_letters.specs.Letters.{plain_letter};
+ghost use Rattle.index_items.specs.Changes.{plain_changes};
+ghost use Rattle.folder_changes.specs.Asked.{AreListed, AreOnce};
+ghost use Rattle.folder_drivers.specs.Synced.{Syncs};
 ghost use Rattle.folder_core.specs.Maildir.{maildir_format};
 ghost use Rattle.folder_core.specs.MaildirNames.{order_of};
 ghost use Rattle.folder_core.specs.Right.{Right};
 ghost use Rattle.folder_core.specs.Scanned.{Scans};
 ghost use Rattle.maildir_folder.specs.KnownBase.{CanSearch};
-ghost use Rattle.index_items.specs.Changes.{plain_changes};
 ghost use Rattle.maildir_folder.specs.Scan as spec;
-ghost use Rattle.maildir_folder.specs.Synced.{Syncs};
-ghost use Rattle.folder_changes.specs.Asked.{AreListed, AreOnce};
 
 use crate::files::list_files;
 use crate::syncing::sync_folder;
@@ -34,30 +34,6 @@ impl MaildirDriver {
     pub fn new() -> Self {
         MaildirDriver
     }
-
-    /// Renames the files of messages whose flags change, and removes those of discarded ones. All
-    /// files are looked for before the first of them is touched. After Ok the known listing is the
-    /// old one with the changes; after a refusal it is as before, and the folder may have a part of
-    /// the changes. Whatever the answer, a stop in the middle leaves each message that is not
-    /// discarded.
-    pub fn sync(
-        &self,
-        alloc: Global,
-        dev: &mut Device,
-        known: &mut Known,
-        archive: &Archive,
-        changes: &Changes,
-    ) -> Result<(), SyncError>
-        requires right { Right Maildir (map plain_letter archive.now.items) known.old
-            (seen (dev.old.disk.vtable, dev.old.disk.value)).told }
-        requires listed { AreListed known.old.listing (plain_changes changes.now.items) }
-        requires once { AreOnce (plain_changes changes.now.items) }
-        ensures { Syncs (map plain_letter archive.now.items) (plain_changes changes.now.items)
-            known.old known.new result (seen (dev.old.disk.vtable, dev.old.disk.value))
-            (seen (dev.new.disk.vtable, dev.new.disk.value)) }
-    {
-        sync_folder(alloc, &mut *dev.disk, known, archive, changes.as_slice())
-    }
 }
 
 impl Driver for MaildirDriver {
@@ -76,6 +52,42 @@ impl Driver for MaildirDriver {
     ) -> Result<Found, ScanError> {
         scan_folder(alloc, &mut *dev.disk, known, archive)
     }
+
+    /// Renames the files of messages whose flags change, and removes those of discarded ones. All
+    /// files are looked for before the first of them is touched.
+    fn sync(
+        &self,
+        alloc: Global,
+        dev: &mut Device,
+        known: &mut Known,
+        _owner: &[u8],
+        purge_files: bool,
+        archive: &Archive,
+        changes: &Changes,
+    ) -> Result<(), SyncError> {
+        sync_changes(alloc, &mut *dev.disk, known, archive, changes, purge_files)
+    }
+}
+
+// Does changes to the files of a Maildir, as the driver's `sync`: a discarded message's file always
+// goes, so that there is nothing to purge.
+fn sync_changes(
+    alloc: Global,
+    disk: &mut dyn Disk,
+    known: &mut Known,
+    archive: &Archive,
+    changes: &Changes,
+    _purge_files: bool,
+) -> Result<(), SyncError>
+    requires right { Right Maildir (map plain_letter archive.now.items) known.old
+        (seen disk.old).told }
+    requires listed { AreListed known.old.listing (plain_changes changes.now.items) }
+    requires once { AreOnce (plain_changes changes.now.items) }
+    ensures { Syncs Maildir _purge_files (map plain_letter archive.now.items)
+        (plain_changes changes.now.items) known.old known.new result (seen disk.old)
+        (seen disk.new) }
+{
+    sync_folder(alloc, disk, known, archive, changes.as_slice())
 }
 
 /// Reads a Maildir of which this is known, as the driver's `scan`.

@@ -5,7 +5,7 @@ ghost use Rattle.std.specs.Option.{option_copied};
 ghost use Rattle.folder_core.specs.Keeping.{mail_of};
 ghost use Rattle.folder_core.specs.Maildir.{path_of};
 ghost use Rattle.folder_letters.specs.Letters.{plain_letter};
-ghost use Rattle.maildir_folder.specs.Steps.{IsSyncError};
+ghost use Rattle.folder_drivers.specs.MaildirSync.{IsSyncError};
 ghost use Rattle.folder_changes.specs.Serving.{IsErrorAt};
 ghost use Rattle.maildir_folder.specs.Synced as spec;
 

@@ -7,6 +7,7 @@ ghost use Rattle.index_items.specs.Changes.{Changed};
 ghost use Rattle.folder_changes.specs.Asked.{AreApart, discarded, ids_of, what_of};
 ghost use Rattle.folder_changes.specs.Serving.{IsErrorAt, Serves};
 ghost use Rattle.folder_changes.specs.Maildir.{DidWanted};
+ghost use Rattle.folder_drivers.specs.MaildirSync.{IsSyncError};
 ghost use Rattle.maildir_folder.specs.Steps as spec;
 
 use disk_model::{Disk, DiskError};
@@ -57,7 +58,7 @@ pub fn take_steps(alloc: Global, disk: &mut dyn Disk, steps: &[Step]) -> Result<
     ensures names { (path : List ℕ) → (mails : List Mail) → (changes : List Changed)
         → AreApart mails changes
         → spec.AreSteps path mails changes (map spec.plain_step steps.now)
-        → IfErr result (spec.IsSyncError path mails (ids_of changes)) }
+        → IfErr result (IsSyncError path mails (ids_of changes)) }
     ensures holds { (path : List ℕ) → (mails : List Mail) → (changes : List Changed)
         → spec.AreSteps path mails changes (map spec.plain_step steps.now)
         → spec.KeepsAllBut path (discarded mails changes)

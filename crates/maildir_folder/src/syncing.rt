@@ -1,6 +1,6 @@
 //! Syncs: all files are looked for first, then each changed one is renamed or removed.
 
-ghost use Rattle.std.specs.Prelude.{◌≡◌, ◌<◌, IfErr, IfOk, length, map};
+ghost use Rattle.std.specs.Prelude.{◌≡◌, ◌<◌, Bool, IfErr, IfOk, length, map};
 ghost use Rattle.mail_base.specs.declared.kind.Kind.TheVariants.{Maildir};
 ghost use Rattle.folder_core.specs.Right.{Right};
 ghost use Rattle.folder_letters.specs.Letters.{plain_letter};
@@ -9,10 +9,12 @@ ghost use Rattle.maildir_folder.specs.Steps.{AreSteps};
 ghost use Rattle.folder_changes.specs.Maildir.{DidWanted};
 ghost use Rattle.folder_changes.specs.Asked.{AreApart, AreListed, AreOnce};
 ghost use Rattle.folder_changes.specs.Serving.{IsErrorAt};
-ghost use Rattle.maildir_folder.specs.Steps.{IsSyncError, KeepsAllBut, LeavesAll};
+ghost use Rattle.maildir_folder.specs.Steps.{KeepsAllBut, LeavesAll};
+ghost use Rattle.folder_drivers.specs.MaildirSync.{IsSyncError};
 ghost use Rattle.folder_changes.specs.Serving.{Serves};
 ghost use Rattle.maildir_folder.specs.Steps.{plain_step};
 ghost use Rattle.folder_changes.specs.Asked.{discarded, ids_of, what_of};
+ghost use Rattle.folder_drivers.specs.Synced.{Syncs};
 ghost use Rattle.maildir_folder.specs.Synced as spec;
 
 use crate::candidates::Candidate;
@@ -126,8 +128,8 @@ pub fn sync_folder(
         (seen disk.old).told }
     requires listed { AreListed known.old.listing (plain_changes changes.now) }
     requires once { AreOnce (plain_changes changes.now) }
-    ensures { spec.Syncs (map plain_letter archive.now.items) (plain_changes changes.now)
-        known.old known.new result (seen disk.old) (seen disk.new) }
+    ensures { (purge : Bool) → Syncs Maildir purge (map plain_letter archive.now.items)
+        (plain_changes changes.now) known.old known.new result (seen disk.old) (seen disk.new) }
 {
     let listing = known.listing().as_slice();
     let synced = match listing_synced(alloc, Kind::Maildir, archive.len(), changes, listing) {

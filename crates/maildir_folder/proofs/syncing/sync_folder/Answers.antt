@@ -6,7 +6,7 @@ use Rattle.index_items.specs.Changes.{plain_changes}
 use Rattle.folder_changes.specs.Left.{listing_synced}
 use Rattle.folder_changes.specs.Asked.{AreApart, ids_of}
 use Rattle.maildir_folder.proofs.SyncedLemmas.{right_apart}
-use Rattle.maildir_folder.proofs.StopLemmas.{holds_letters}
+use Rattle.maildir_folder.proofs.StopLemmas.{here_only, holds_letters}
 use Rattle.maildir_folder.proofs.SyncedLemmas.{did_letters, letters_below, names_letters}
 use Rattle.maildir_folder.proofs.SyncedLemmas.{syncs_done, syncs_none, syncs_not}
 use Rattle.maildir_folder.proofs.syncing.sync_folder.Goals as goal
@@ -42,6 +42,7 @@ returns-in-Ok-change_files g c =
     (holds_letters c.as_slice.result.now c.args.archive.now.items
     (plain_changes c.args.changes.now) c.args.known.now.path _ _ c.as_slice.ensures
     c.in-Ok-change_files.ensures.holds)
+    (here_only c.args.known.now.path _ c.in-Ok-change_files.ensures.holds)
     c.in-Ok-change_files.ensures.serves
 
 pub returns-in-Err-change_files : goal.returns-in-Err-change_files
@@ -54,6 +55,7 @@ returns-in-Err-change_files g c =
     (holds_letters c.as_slice.result.now c.args.archive.now.items
     (plain_changes c.args.changes.now) c.args.known.now.path _ _ c.as_slice.ensures
     c.in-Err-change_files.ensures.holds)
+    (here_only c.args.known.now.path _ c.in-Err-change_files.ensures.holds)
     (names_letters c.as_slice.result.now c.args.archive.now.items
     (ids_of (plain_changes c.args.changes.now)) c.args.known.now.path c.in-Err-change_files.why
     c.as_slice.ensures c.in-Err-change_files.ensures.names)
