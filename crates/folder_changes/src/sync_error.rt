@@ -1,5 +1,6 @@
 //! Why a folder was not written.
 
+use disk_model::DiskError;
 use mail_base::{Bytes, NoMemory};
 
 /// What in a folder is not as it is known.
@@ -40,5 +41,23 @@ impl From<NoMemory> for SyncError {
 
     fn from(_: NoMemory) -> Self {
         SyncError::NoMemory
+    }
+}
+
+/// What a refused call makes of a folder that is made or added to: one that is none, where a step
+/// does not find it as it needs it.
+impl From<DiskError> for SyncError {
+    ghost use Rattle.std.specs.Prelude.{◌≡◌};
+    ghost use Rattle.folder_changes.specs.Refused.{refused_by};
+
+    ghost from_gives = { λ why e. e ≡ refused_by why };
+
+    fn from(why: DiskError) -> Self {
+        match why {
+            DiskError::Missing | DiskError::WrongNode | DiskError::Exists | DiskError::Long(_) =>
+                SyncError::NotFolder,
+            DiskError::Fault => SyncError::Fault,
+            DiskError::NoMemory => SyncError::NoMemory,
+        }
     }
 }

@@ -4,7 +4,7 @@ use Rattle.std.specs.Prelude.{None, Result, IfErr, IfSome, OnOk, length, option_
 use Rattle.mail_base.specs.Ordered.{IsIn}
 use Rattle.mail_base.specs.declared.kind.Kind.{Kind}
 use Rattle.disk_model.specs.Journal.{Past}
-use Rattle.disk_model.specs.Judge.{GoesOn, IsLonger}
+use Rattle.disk_model.specs.Judge.{IsLonger}
 use Rattle.disk_model.specs.Seen.{Seen}
 use Rattle.index_items.specs.Changes.{Discards}
 use Rattle.folder_letters.specs.Letters.{Mail}
@@ -61,29 +61,20 @@ pub record AppendRow : Type 1 where
   -- the bytes that a message of this text has
   pub core : List ℕ → List ℕ
   -- what was done to the messages where the answer is Ok
-  pub Works : List ℕ → List Mail → Item → Past → Past → Type 0
+  pub Works : List ℕ → List Mail → Item → Option Past → Option Past → Type 0
   -- how it may be refused
   pub MayBe : SyncError → Type 0
-  -- why it was refused so between two marks of a past
-  pub Refused : List ℕ → List Mail → Item → SyncError → ℕ → ℕ → Past → Type 0
   -- what its first look has found, by the answer
   pub Looked : List ℕ → Result (Unit {0}) SyncError → Option Past → Option Past → Type 0
 
--- a refusal had its cause between the ends of two journals
-abbrev pub AppendHadCause : AppendRow → List ℕ → List Mail → Item → SyncError → Past → Past → Type 0
-AppendHadCause row path mails item why old new =
-    row.Refused path mails item why (length old.journal) (length new.journal) new
-
 -- A message was added to a folder of a kind, or not. Whatever the answer, each stop leaves all
 -- messages, and the new one from its first file on or not; where the answer is Ok it stands, and was
--- put in its place at one step. A refusal had its cause.
+-- put in its place at one step.
 pub record AppendsAs (row : AppendRow) (path : List ℕ) (mails : List Mail) (item : Item)
     (result : Result (Unit {0}) SyncError) (old new : Seen) : Type 0 where
   pub keeps : AddsSome (row.files path) (row.core item.text.items) old.told new.told
   pub adds : OnOk result (AddedSome (row.files path) (row.core item.text.items) old.told new.told)
-  pub works : OnOk result (GoesOn (row.Works path mails item) old.told new.told)
+  pub works : OnOk result (row.Works path mails item old.told new.told)
   pub looked : row.Looked path result old.told new.told
   pub may_be : IfErr result row.MayBe
-  pub cause : IfErr result
-      (λ why. GoesOn (AppendHadCause row path mails item why) old.told new.told)
   pub serves : Serves result old new

@@ -4,5 +4,7 @@ pub mod MhNames
 pub mod MhSync
 pub mod MhLeft
 pub mod Synced
+pub mod FirstLooking
 pub mod AppendRow
+pub mod MaildirAppend
 pub mod MhAppend

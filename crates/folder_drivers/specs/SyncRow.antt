@@ -1,7 +1,6 @@
 -- What a sync of a kind of folders is, for all that stands above the kinds.
 use Rattle.std.specs.Prelude.{◌≡◌, ℕ, Bool, List, Option, None, Result, IfErr, OnErr, OnOk, length}
 use Rattle.disk_model.specs.Journal.{Past}
-use Rattle.disk_model.specs.Judge.{GoesOn}
 use Rattle.disk_model.specs.Seen.{Seen}
 use Rattle.index_items.specs.Changes.{Changed}
 use Rattle.folder_letters.specs.Letters.{Mail}

@@ -19,12 +19,12 @@ use Rattle.folder_stops.specs.Appends.{AddsSome}
 use Rattle.folder_stops.specs.Folder.{FileFolder}
 use Rattle.folder_stops.proofs.Along.{grown_map, grown_none, grown_then, judged_grown}
 use Rattle.folder_stops.proofs.Along.{refused_grown}
-use Rattle.maildir_appends.specs.FirstLooking.{LooksFirst, MeetsFolder, TellsNoFolder, has_own}
-use Rattle.maildir_appends.specs.FirstLooking.{met_no_folder}
+use Rattle.folder_drivers.specs.FirstLooking.{LooksFirst, MeetsFolder, TellsNoFolder, has_own}
+use Rattle.folder_drivers.specs.FirstLooking.{met_no_folder}
 use Rattle.maildir_appends.specs.Preparing.{Prepares}
-use Rattle.maildir_appends.specs.Refusing.{refused_by}
-use Rattle.maildir_appends.specs.declared.addition.AppendError.{AppendError}
-use Rattle.maildir_appends.specs.declared.addition.AppendError.TheVariants.{NotFolder}
+use Rattle.folder_changes.specs.Refused.{refused_by}
+use Rattle.folder_changes.specs.declared.sync_error.SyncError.{SyncError}
+use Rattle.folder_changes.specs.declared.sync_error.SyncError.TheVariants.{NotFolder}
 
 by_bytes : (bytes : Option (List ℕ)) (names named : List (List ℕ))
     → Ok names ≡ answer_by (if is_none bytes then None else Some disk.WrongNode) named
@@ -134,7 +134,7 @@ module _ (dir : List ℕ) where
   refused_first T disk.NoMemory call wanted a b took =
       grown_map a b MetNone _ (nothing_done a b took.goes) (λ s es no met. absurd (no met))
 
-  refused_as : {T : Type 0} {why : DiskError} {e : AppendError} {call : Call}
+  refused_as : {T : Type 0} {why : DiskError} {e : SyncError} {call : Call}
       {wanted : List TreeNode → Result T DiskError} {a b : Option Past} → e ≡ refused_by why
       → Called (Err why) call wanted a b → TellsNoFolder dir e a b
   refused_as {T} {why} {e} {call} {wanted} {a} {b} is took = record {
@@ -142,7 +142,7 @@ module _ (dir : List ℕ) where
         (λ s es told met. is ∙ told met);
   }
 
-  pub refused_if : {A T : Type 0} (result : Result A AppendError) {why : DiskError} {call : Call}
+  pub refused_if : {A T : Type 0} (result : Result A SyncError) {why : DiskError} {call : Call}
       {wanted : List TreeNode → Result T DiskError} {a b : Option Past}
       → IsErrAnd result (λ e. e ≡ refused_by why) → Called (Err why) call wanted a b
       → LooksFirst dir result a b
@@ -150,7 +150,7 @@ module _ (dir : List ℕ) where
   refused_if (Err e) is took = refused_as is took
 
   -- nothing was looked at
-  pub not_looked : {A : Type 0} (result : Result A AppendError) (a : Option Past) → IsErr result
+  pub not_looked : {A : Type 0} (result : Result A SyncError) (a : Option Past) → IsErr result
       → LooksFirst dir result a a
   not_looked (Ok given) a is = absurd (cc)
   not_looked (Err e) a is = record { grown = grown_none a _ (λ s met. absurd (cc)) }
@@ -184,14 +184,14 @@ module _ (dir : List ℕ) where
   found_added {a = a} {b = b} {c = c} first rest = found_longer a b c _ first rest.grown
 
   -- a refusal behind it
-  pub found_then_refused : {why : AppendError} {a b : Option Past} → MeetsFolder dir a b
+  pub found_then_refused : {why : SyncError} {a b : Option Past} → MeetsFolder dir a b
       → TellsNoFolder dir why a b
   found_then_refused {a = a} {b = b} first = record {
     grown = grown_map a b _ _ first.grown (λ s es met no. absurd (no_more _ met.1 no));
   }
 
   -- whatever is answered behind it
-  pub found_first : {A : Type 0} (result : Result A AppendError) {a b : Option Past}
+  pub found_first : {A : Type 0} (result : Result A SyncError) {a b : Option Past}
       → MeetsFolder dir a b → LooksFirst dir result a b
   found_first (Ok given) first = first
   found_first (Err why) first = found_then_refused first

@@ -5,3 +5,4 @@ pub mod Adding
 pub mod Refusing
 pub mod FirstLooking
 pub mod Meeting
+pub mod Answering

@@ -15,7 +15,7 @@ use Rattle.disk_model.proofs.Runs.{run_entries-append}
 use Rattle.folder_stops.specs.Along.{Grown, Onward}
 use Rattle.folder_stops.specs.Folder.{FileFolder}
 use Rattle.folder_stops.proofs.Along.{grown_map, grown_then, judged_grown}
-use Rattle.maildir_appends.specs.Meeting.{IsListing, MetNames, SawNames}
+use Rattle.folder_drivers.specs.MaildirAppend.{IsListing, MetNames, SawNames}
 use Rattle.maildir_appends.specs.Preparing.{Prepares}
 use Rattle.maildir_appends.specs.Taken.{plain_names}
 
@@ -98,10 +98,12 @@ prepared_saw {dir = dir} {names = names} {a = a} {b = b} {c = c} first rest = re
   });
 }
 
-pub saw_prepared : {folder : FileFolder} {dir : List ℕ} {names : List (List ℕ)}
-    {a b c : Option Past} → SawNames dir names a b → Prepares folder b c → SawNames dir names a c
-saw_prepared {dir = dir} {names = names} {a = a} {b = b} {c = c} first rest = record {
-  grown = grown_then a b c _ _ _ first.grown (rest.does None).grown (λ s xs ys met done. record {
+-- whatever comes behind
+pub saw_longer : {dir : List ℕ} {names : List (List ℕ)} {a b c : Option Past}
+    (Q : State → List Entry → Type 0) → SawNames dir names a b → Grown b c Q
+    → SawNames dir names a c
+saw_longer {dir = dir} {names = names} {a = a} {b = b} {c = c} Q first rest = record {
+  grown = grown_then a b c _ Q _ first.grown rest (λ s xs ys met done. record {
     before = met.before;
     answer = met.answer;
     after = met.after ++ ys;
@@ -110,6 +112,10 @@ saw_prepared {dir = dir} {names = names} {a = a} {b = b} {c = c} first rest = re
     told = met.told;
   });
 }
+
+pub saw_prepared : {folder : FileFolder} {dir : List ℕ} {names : List (List ℕ)}
+    {a b c : Option Past} → SawNames dir names a b → Prepares folder b c → SawNames dir names a c
+saw_prepared first rest = saw_longer _ first (rest.does None).grown
 
 -- the names of a directory that was missing and is made
 pub saw_made : {E : Type 0} (result : Result (Held (Held ℕ)) E) {folder : FileFolder}

@@ -25,8 +25,8 @@ use Rattle.maildir_names.specs.MaildirName.{all_letters, has_letter, in_order, i
 use Rattle.maildir_names.specs.MaildirName.{is_whole_name, letter_if, letters_below, name_of}
 use Rattle.maildir_names.specs.MaildirName.{no_letters}
 use Rattle.maildir_names.proofs.NameLemmas.{made_is_split}
-use Rattle.maildir_appends.specs.Naming.{IsBase, IsFirstFree, base_at, begins_digit, is_plain}
-use Rattle.maildir_appends.specs.Naming.{name_for}
+use Rattle.folder_drivers.specs.MaildirAppend.{IsBase, IsFirstFree, base_at, begins_digit, is_plain}
+use Rattle.folder_drivers.specs.MaildirAppend.{name_for}
 
 -- a byte of a name: ASCII, and no slash
 abbrev pub is_part : ℕ → Bool

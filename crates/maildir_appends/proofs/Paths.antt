@@ -17,8 +17,9 @@ use Rattle.folder_shapes.specs.Maildir.{maildir_files, maildir_making, maildir_s
 use Rattle.folder_shapes.specs.Maildir.{name_key, or_else}
 use Rattle.folder_shapes.specs.Reading.{behind}
 use Rattle.folder_shapes.proofs.Nodes.{behind_is, behind_there}
-use Rattle.maildir_appends.specs.Naming.{IsBase, name_for}
-use Rattle.maildir_appends.specs.Placing.{AreOf, IsPlaced, is_in_cur}
+use Rattle.folder_drivers.specs.MaildirAppend.{IsBase, name_for}
+use Rattle.maildir_appends.specs.Placing.{AreOf, IsPlaced}
+use Rattle.folder_drivers.specs.MaildirAppend.{is_in_cur}
 use Rattle.maildir_appends.specs.declared.places.Places.{Places}
 use Rattle.maildir_appends.proofs.Naming.{base_shown, base_split, name_shown, name_split}
 

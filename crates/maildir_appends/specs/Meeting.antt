@@ -8,26 +8,9 @@ use Rattle.disk_model.specs.Tree.{TreeNode, node_at}
 use Rattle.folder_core.specs.Directory.{path_in}
 use Rattle.folder_core.specs.Maildir.{directory}
 use Rattle.folder_stops.specs.Along.{Grown}
+use Rattle.folder_drivers.specs.MaildirAppend.{SawNames}
 use Rattle.maildir_appends.specs.Taken.{plain_names}
 use Rattle.maildir_appends.specs.declared.listing.Present.{Present}
-
--- these are the names in the directory, or there are none and nothing stands there
-abbrev pub IsListing : List ℕ → List (List ℕ) → List TreeNode → Type 0
-IsListing dir names tree =
-    (Ok names ≡ list_of tree dir) ⊎ ((names ≡ []) × (node_at tree dir ≡ None))
-
--- One of our calls met these names in the directory.
-pub record MetNames (dir : List ℕ) (names : List (List ℕ)) (state : State) (entries : List Entry)
-    : Type 0 where
-  pub before : List Entry
-  pub answer : Answer
-  pub after : List Entry
-  pub is : entries ≡ before ++ Own (ListDir dir) answer ∷ after
-  pub told : IsListing dir names (tree_of (run_entries before state))
-
--- The past went on by entries of which that is so.
-pub record SawNames (dir : List ℕ) (names : List (List ℕ)) (old new : Option Past) : Type 0 where
-  pub grown : Grown old new (MetNames dir names)
 
 -- The names of all three directories were met.
 pub record SawPresent (dir : List ℕ) (present : Present) (old new : Option Past) : Type 0 where

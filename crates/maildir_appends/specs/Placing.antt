@@ -2,13 +2,15 @@
 use Rattle.std.specs.Prelude.{◌≡◌, ◌||◌, ℕ, Bool, List, Option, Some, None, codes}
 use Rattle.std.specs.String.{string_bytes}
 use Rattle.mail_base.specs.declared.flags.Flags.{Flags}
-use Rattle.disk_model.specs.Journal.{Past}
+use Rattle.disk_model.specs.Journal.{Create, Done, Own, Past, Rename}
+use Rattle.folder_stops.specs.Along.{Grown}
+use Rattle.folder_stops.specs.Words.{Among}
 use Rattle.folder_letters.specs.declared.letter.Letter.{Letter}
 use Rattle.folder_core.specs.Directory.{path_in}
 use Rattle.folder_core.specs.Maildir.{directory}
 use Rattle.folder_shapes.specs.Maildir.{maildir_making, maildir_shape}
 use Rattle.maildir_appends.specs.Meeting.{SawPresent}
-use Rattle.maildir_appends.specs.Naming.{IsBase, IsFirstFree, name_for}
+use Rattle.folder_drivers.specs.MaildirAppend.{IsBase, IsFirstFree, beside_at, place_at}
 use Rattle.maildir_appends.specs.Taken.{is_taken}
 use Rattle.maildir_appends.specs.declared.listing.Present.{Present}
 use Rattle.maildir_appends.specs.declared.places.Places.{Places}
@@ -23,17 +25,10 @@ pub record IsPlaced (dir beside place : List ℕ) : Type 0 where
 abbrev pub IsApart : List ℕ → List ℕ → Type 0
 IsApart dir word = (maildir_shape dir).slot (path_in dir word) ≡ None
 
--- the path of a base in `tmp`
-abbrev pub beside_at : List ℕ → List ℕ → List ℕ
-beside_at dir base = path_in (path_in dir (codes "tmp")) base
-
--- messages that are seen or aged stand in `cur`
-abbrev pub is_in_cur : Flags → Bool
-is_in_cur flags = flags.seen || flags.aged
-
--- the path of a base with flags, as a sync would put it
-abbrev pub place_at : List ℕ → List ℕ → Flags → List ℕ
-place_at dir base flags = path_in (directory (is_in_cur flags) dir) (name_for base flags)
+-- The file at one path was made, and then got the other one as its name.
+pub record PutsAt (beside place : List ℕ) (old new : Option Past) : Type 0 where
+  pub grown : Grown old new (λ state entries. Among (Own (Create beside) Done) entries
+      × Among (Own (Rename beside place) Done) entries)
 
 -- The paths are those of a base with flags.
 pub record AreOf (dir base : List ℕ) (flags : Flags) (places : Places) : Type 0 where

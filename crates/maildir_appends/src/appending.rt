@@ -1,20 +1,23 @@
 //! Adding a message to a Maildir.
 
-ghost use Rattle.std.specs.Prelude.{IfOk, OnOk, true};
+ghost use Rattle.std.specs.Prelude.{◌≡◌, IfErr, IfOk, map, true};
 ghost use Rattle.folder_core.specs.Maildir.{directory};
+ghost use Rattle.folder_drivers.specs.AppendRow.{AppendsAs};
+ghost use Rattle.folder_drivers.specs.FirstLooking.{LooksFirst};
+ghost use Rattle.folder_drivers.specs.MaildirAppend as spec;
+ghost use Rattle.folder_drivers.specs.MaildirAppend.{maildir_additions};
+ghost use Rattle.folder_letters.specs.Letters.{plain_letter};
 ghost use Rattle.folder_shapes.specs.Maildir.{maildir_files};
-ghost use Rattle.folder_stops.specs.Appends.{AddedSome, AddsSome};
-ghost use Rattle.maildir_appends.specs.FirstLooking.{LooksFirst};
 ghost use Rattle.maildir_appends.specs.Placing as placing;
 ghost use Rattle.maildir_appends.specs.Preparing.{Prepares};
 ghost use Rattle.maildir_appends.specs.Refusing.{BlamesDisk};
 
-use crate::addition::{Addition, AppendError};
 use crate::base::free_base;
+use folder_changes::{Item, SyncError, name_changed};
 use crate::listing::list_names;
 use crate::places::{Places, places_of};
 use crate::put::put;
-use disk_model::{Device, Disk, DiskError};
+use disk_model::{Disk, DiskError};
 use folder_core::{Archive, Letter};
 use mail_base::Flags;
 use std::alloc::Global;
@@ -27,7 +30,7 @@ fn choose_places(
     archive: &[Letter],
     moment: u64,
     flags: Flags,
-) -> Result<Places, AppendError>
+) -> Result<Places, SyncError>
     ensures prepares { Prepares (maildir_files path.now) (seen disk.old).told (seen disk.new).told }
     ensures first { LooksFirst (directory true path.now) result
         (seen disk.old).told (seen disk.new).told }
@@ -41,51 +44,36 @@ fn choose_places(
     Ok(places)
 }
 
-// Adds a message to a Maildir, as `append`.
-fn append_to(
-    alloc: Global,
-    disk: &mut dyn Disk,
-    path: &str,
-    archive: &[Letter],
-    item: &Addition,
-) -> Result<(), AppendError>
-    ensures some { AddsSome (maildir_files path.now) item.now.text.items
-        (seen disk.old).told (seen disk.new).told }
-    ensures ok { OnOk result (AddedSome (maildir_files path.now) item.now.text.items
-        (seen disk.old).told (seen disk.new).told) }
-    ensures first { LooksFirst (directory true path.now) result
-        (seen disk.old).told (seen disk.new).told }
-    ensures blames { BlamesDisk result (seen disk.old) (seen disk.new) }
-{
-    let places = choose_places(alloc, disk, path, archive, item.moment, item.flags)?;
-    match put(alloc, disk, path, &places, item.text.as_slice()) {
-        Ok(()) => Ok(()),
-        Err(DiskError::Exists) => Err(AppendError::Changed(places.base)),
-        Err(why) => Err(AppendError::from(why)),
-    }
-}
-
 /// Adds one message to the Maildir at a path. Its name has the first base of the moment that no
 /// file in `tmp`, `new` and `cur` and no letter of the archive has. It is written in `tmp`, put on
 /// the disk, and then named in `cur` where it is seen or aged, and else in `new`.
 pub fn append(
     alloc: Global,
-    dev: &mut Device,
+    disk: &mut dyn Disk,
     path: &str,
     archive: &Archive,
-    item: &Addition,
-) -> Result<(), AppendError>
-    ensures some { AddsSome (maildir_files path.now) item.now.text.items
-        (seen (dev.old.disk.vtable, dev.old.disk.value)).told
-        (seen (dev.new.disk.vtable, dev.new.disk.value)).told }
-    ensures ok { OnOk result (AddedSome (maildir_files path.now) item.now.text.items
-        (seen (dev.old.disk.vtable, dev.old.disk.value)).told
-        (seen (dev.new.disk.vtable, dev.new.disk.value)).told) }
-    ensures first { LooksFirst (directory true path.now) result
-        (seen (dev.old.disk.vtable, dev.old.disk.value)).told
-        (seen (dev.new.disk.vtable, dev.new.disk.value)).told }
-    ensures blames { BlamesDisk result (seen (dev.old.disk.vtable, dev.old.disk.value))
-        (seen (dev.new.disk.vtable, dev.new.disk.value)) }
+    item: &Item,
+) -> Result<(), SyncError>
+    ensures { AppendsAs maildir_additions path.now (map plain_letter archive.now.items) item.now
+        result (seen disk.old) (seen disk.new) }
 {
-    append_to(alloc, &mut *dev.disk, path, archive.as_slice(), item)
+    let letters = archive.as_slice();
+    let moment = seconds_of(item);
+    let places = match choose_places(alloc, disk, path, letters, moment, item.flags) {
+        Ok(places) => places,
+        Err(why) => return Err(why),
+    };
+    match put(alloc, disk, path, &places, item.text.as_slice()) {
+        Ok(()) => Ok(()),
+        Err(DiskError::Exists) => Err(name_changed(alloc, places.beside.as_str())),
+        Err(why) => Err(SyncError::from(why)),
+    }
+}
+
+// The seconds at which a message was received, which are none before 1970.
+fn seconds_of(item: &Item) -> u64
+    ensures { result ≡ spec.seconds_of item.now.moment }
+{
+    let moment = item.moment;
+    if moment < 0 { 0 } else { moment as u64 }
 }

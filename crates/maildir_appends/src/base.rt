@@ -2,8 +2,8 @@
 
 ghost use Rattle.std.specs.Prelude.{◌≡◌, ◌||◌, IfOk, map};
 ghost use Rattle.std.specs.String.{string_bytes};
-ghost use Rattle.maildir_appends.specs.Naming as spec;
-ghost use Rattle.maildir_appends.specs.Taken.{is_taken as is_taken_lem, keys_of};
+ghost use Rattle.folder_drivers.specs.MaildirAppend as spec;
+ghost use Rattle.maildir_appends.specs.Taken.{is_taken as is_taken_lem, letter_keys};
 
 use crate::listing::Present;
 use folder_core::Letter;
@@ -27,7 +27,7 @@ fn has_base(names: &[Bytes], base: &[u8]) -> bool
 
 // Whether the key of a letter is this one.
 fn has_key(archive: &[Letter], base: &[u8]) -> bool
-    ensures { result ≡ spec.has_key (keys_of archive.now) base.now }
+    ensures { result ≡ spec.has_key (letter_keys archive.now) base.now }
 {
     let mut left = archive;
     while let [letter, rest @ ..] = left {

@@ -4,14 +4,15 @@ ghost use Rattle.std.specs.Prelude.{◌≡◌, [], IfOk, None, true};
 ghost use Rattle.folder_core.specs.Directory.{path_in as path_in_lem};
 ghost use Rattle.folder_core.specs.Maildir.{directory};
 ghost use Rattle.folder_shapes.specs.Maildir.{maildir_files};
-ghost use Rattle.maildir_appends.specs.FirstLooking.{LooksFirst};
-ghost use Rattle.maildir_appends.specs.Meeting.{SawNames, SawPresent};
+ghost use Rattle.folder_drivers.specs.FirstLooking.{LooksFirst};
+ghost use Rattle.folder_drivers.specs.MaildirAppend.{SawNames};
+ghost use Rattle.maildir_appends.specs.Meeting.{SawPresent};
 ghost use Rattle.maildir_appends.specs.Placing.{IsApart};
 ghost use Rattle.maildir_appends.specs.Preparing.{Prepares};
 ghost use Rattle.maildir_appends.specs.Refusing.{BlamesDisk};
 ghost use Rattle.maildir_appends.specs.Taken.{plain_names};
 
-use crate::addition::AppendError;
+use folder_changes::SyncError;
 use disk_model::{Disk, DiskError};
 use folder_core::path_in;
 use mail_base::Names;
@@ -26,7 +27,7 @@ pub struct Present {
 }
 
 // The names in `cur`.
-fn cur_names(alloc: Global, disk: &mut dyn Disk, path: &str) -> Result<Names, AppendError>
+fn cur_names(alloc: Global, disk: &mut dyn Disk, path: &str) -> Result<Names, SyncError>
     ensures prepares { Prepares (maildir_files path.now) (seen disk.old).told (seen disk.new).told }
     ensures first { LooksFirst (directory true path.now) result
         (seen disk.old).told (seen disk.new).told }
@@ -40,7 +41,7 @@ fn cur_names(alloc: Global, disk: &mut dyn Disk, path: &str) -> Result<Names, Ap
 }
 
 // Makes a directory, in which there is nothing then.
-fn make_dir(alloc: Global, disk: &mut dyn Disk, path: &str, dir: &str) -> Result<Names, AppendError>
+fn make_dir(alloc: Global, disk: &mut dyn Disk, path: &str, dir: &str) -> Result<Names, SyncError>
     requires apart { (maildir_files path.now).shape.slot dir.now ≡ None }
     requires inside { (maildir_files path.now).shape.home dir.now ≡ true }
     ensures prepares { Prepares (maildir_files path.now) (seen disk.old).told (seen disk.new).told }
@@ -57,7 +58,7 @@ fn names_or_none(
     disk: &mut dyn Disk,
     path: &str,
     word: &str,
-) -> Result<Names, AppendError>
+) -> Result<Names, SyncError>
     requires { IsApart path.now word.now }
     ensures prepares { Prepares (maildir_files path.now) (seen disk.old).told (seen disk.new).told }
     ensures saw { IfOk result (λ names. SawNames (path_in_lem path.now word.now)
@@ -68,12 +69,12 @@ fn names_or_none(
     match disk.list(alloc, dir.as_str()) {
         Ok(names) => Ok(names),
         Err(DiskError::Missing) => make_dir(alloc, disk, path, dir.as_str()),
-        Err(why) => Err(AppendError::from(why)),
+        Err(why) => Err(SyncError::from(why)),
     }
 }
 
 /// Looks at the directories of a Maildir, and makes `new` and `tmp` where they are missing.
-pub fn list_names(alloc: Global, disk: &mut dyn Disk, path: &str) -> Result<Present, AppendError>
+pub fn list_names(alloc: Global, disk: &mut dyn Disk, path: &str) -> Result<Present, SyncError>
     ensures prepares { Prepares (maildir_files path.now) (seen disk.old).told (seen disk.new).told }
     ensures first { LooksFirst (directory true path.now) result
         (seen disk.old).told (seen disk.new).told }

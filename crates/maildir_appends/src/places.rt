@@ -5,7 +5,7 @@ ghost use Rattle.std.specs.Str.{IsUtf8};
 ghost use Rattle.std.specs.String.{string_bytes};
 ghost use Rattle.folder_core.specs.Directory.{path_in as path_in_lem};
 ghost use Rattle.folder_core.specs.Maildir.{directory};
-ghost use Rattle.maildir_appends.specs.Naming as spec;
+ghost use Rattle.folder_drivers.specs.MaildirAppend as spec;
 ghost use Rattle.maildir_appends.specs.Placing as placing;
 
 use folder_core::path_in;
@@ -26,7 +26,7 @@ pub struct Places {
 
 // The path of the base in `tmp`.
 fn beside_of(alloc: Global, path: &str, base: &str) -> Result<String, NoMemory>
-    ensures { IfOk result (λ beside. string_bytes beside ≡ placing.beside_at path.now base.now) }
+    ensures { IfOk result (λ beside. string_bytes beside ≡ spec.beside_at path.now base.now) }
 {
     let dir = path_in(alloc, path, "tmp")?;
     path_in(alloc, dir.as_str(), base)
@@ -49,7 +49,7 @@ fn name_of(alloc: Global, base: &str, flags: Flags) -> Result<Bytes, NoMemory>
 
 // Whether a message with these flags stands in `cur`.
 fn is_in_cur(flags: Flags) -> bool
-    ensures { result ≡ placing.is_in_cur flags }
+    ensures { result ≡ spec.is_in_cur flags }
 {
     flags.seen || flags.aged
 }
@@ -58,7 +58,7 @@ fn is_in_cur(flags: Flags) -> bool
 fn place_of(alloc: Global, path: &str, base: &str, flags: Flags) -> Result<String, NoMemory>
     requires { spec.IsBase base.now }
     ensures { IfOk result (λ place. string_bytes place
-        ≡ placing.place_at path.now base.now flags) }
+        ≡ spec.place_at path.now base.now flags) }
 {
     let dir = path_in(alloc, path, if is_in_cur(flags) { "cur" } else { "new" })?;
     let name = name_of(alloc, base, flags)?;

@@ -25,6 +25,8 @@ pub fn put(
         (seen disk.old).told (seen disk.new).told }
     ensures ok { OnOk result (AddedSome (maildir_files path.now) text.now
         (seen disk.old).told (seen disk.new).told) }
+    ensures puts { OnOk result (spec.PutsAt (string_bytes places.now.beside)
+        (string_bytes places.now.place) (seen disk.old).told (seen disk.new).told) }
     ensures counts { Counted result (seen disk.old) (seen disk.new) }
 {
     let beside = places.beside.as_str();

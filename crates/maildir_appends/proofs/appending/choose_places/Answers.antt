@@ -1,7 +1,7 @@
 use Rattle.std.proofs.Common.{List, subst, sym, true, ℕ}
 use Rattle.folder_core.specs.Maildir.{directory}
 use Rattle.std.specs.String.{string_bytes}
-use Rattle.maildir_appends.specs.Naming.{IsBase}
+use Rattle.folder_drivers.specs.MaildirAppend.{IsBase}
 use Rattle.maildir_appends.specs.Placing.{AreOf}
 use Rattle.maildir_appends.proofs.FirstLooking as F
 use Rattle.maildir_appends.proofs.Naming.{first_is_base}

@@ -1,5 +1,5 @@
 use Rattle.std.proofs.Common.{◌≡◌, ◌<◌, ℕ, true}
-use Rattle.maildir_appends.specs.Naming as spec
+use Rattle.folder_drivers.specs.MaildirAppend as spec
 use Rattle.maildir_appends.specs.Taken.{is_taken}
 use Rattle.maildir_appends.proofs.base.free_base.Given as goal
 

@@ -1,5 +1,5 @@
 use Rattle.std.proofs.Common.{◌≡◌, length, map}
-use Rattle.maildir_appends.specs.Naming as spec
+use Rattle.folder_drivers.specs.MaildirAppend as spec
 use Rattle.maildir_appends.proofs.base.has_base.Given as goal
 
 -- the names that are left tell as all of them

@@ -62,3 +62,9 @@ returns-clause-ok g c =
     let kept = A.kept _ _ _ _ is named c.in_ok-sync_dir.ensures.called in
     let last = A.still_kept _ _ _ _ is kept c.sync_dir-2.ensures.called in
     A.on_ok _ (A.was_added _ _ _ _ is last)
+
+pub returns-clause-puts : goal.returns-clause-puts
+returns-clause-puts g c =
+    A.on_ok _ (A.puts_at _ _ c.as_str-beside.ensures.value c.as_str.ensures.value
+    c.in_ok-create.ensures.called c.in_ok-write_at.ensures.grows c.in_ok-sync.ensures.grows
+    c.in_ok-rename.ensures.called c.in_ok-sync_dir.ensures.grows c.sync_dir-2.ensures.grows)

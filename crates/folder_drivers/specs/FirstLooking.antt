@@ -1,4 +1,4 @@
--- What the first look of an append has found.
+-- What the first look of a call that adds a message has found.
 use Rattle.std.specs.Prelude.{◌≡◌, ◌&&◌, ℕ, Bool, true, false, not, List, [], ◌∷◌, Option, Result}
 use Rattle.std.specs.Prelude.{Ok, Err}
 use Rattle.disk_model.specs.Journal.{Entry, Own, Others, Past}
@@ -6,8 +6,8 @@ use Rattle.disk_model.specs.State.{State, after_entry, tree_of}
 use Rattle.folder_core.specs.Directory.{is_folder_at}
 use Rattle.folder_core.specs.FirstLook.{has_failed}
 use Rattle.folder_stops.specs.Along.{Grown}
-use Rattle.maildir_appends.specs.declared.addition.AppendError.{AppendError}
-use Rattle.maildir_appends.specs.declared.addition.AppendError.TheVariants.{NotFolder}
+use Rattle.folder_changes.specs.declared.sync_error.SyncError.{SyncError}
+use Rattle.folder_changes.specs.declared.sync_error.SyncError.TheVariants.{NotFolder}
 
 -- a call of ours is among the entries
 abbrev pub has_own : List Entry → Bool
@@ -33,12 +33,12 @@ pub record MeetsFolder (dir : List ℕ) (old new : Option Past) : Type 0 where
   pub grown : Grown old new (MetFolder dir)
 
 -- Where the first look met no folder at the path, the refusal is for that.
-pub record TellsNoFolder (dir : List ℕ) (why : AppendError) (old new : Option Past) : Type 0 where
+pub record TellsNoFolder (dir : List ℕ) (why : SyncError) (old new : Option Past) : Type 0 where
   pub grown : Grown old new (λ state entries. met_no_folder dir state entries ≡ true
       → why ≡ NotFolder)
 
 -- what is done has met a folder at its first look; where that met none the refusal is for that
-abbrev pub LooksFirst : {A : Type 0} → List ℕ → Result A AppendError → Option Past → Option Past
+abbrev pub LooksFirst : {A : Type 0} → List ℕ → Result A SyncError → Option Past → Option Past
     → Type 0
 LooksFirst dir (Ok given) old new = MeetsFolder dir old new
 LooksFirst dir (Err why) old new = TellsNoFolder dir why old new
