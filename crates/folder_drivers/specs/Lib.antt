@@ -7,4 +7,6 @@ pub mod Synced
 pub mod FirstLooking
 pub mod AppendRow
 pub mod MaildirAppend
+pub mod Appended
+pub mod Recovered
 pub mod MhAppend

@@ -6,10 +6,12 @@ ghost use Rattle.folder_letters.specs.Letters.{plain_letter};
 ghost use Rattle.folder_core.specs.Right.{Right};
 ghost use Rattle.folder_core.specs.Scanned.{Scans};
 ghost use Rattle.folder_changes.specs.Asked.{AreListed, AreOnce};
+ghost use Rattle.folder_drivers.specs.Appended.{Appends};
+ghost use Rattle.folder_drivers.specs.Recovered.{Recovers};
 ghost use Rattle.folder_drivers.specs.Synced.{Syncs};
 ghost use Rattle.index_items.specs.Changes.{plain_changes};
 
-use folder_changes::SyncError;
+use folder_changes::{Item, SyncError};
 use folder_core::{Archive, Found, Known, ScanError};
 use folder_letters::Changes;
 use disk_model::Device;
@@ -64,5 +66,33 @@ pub trait Driver: Drop {
         ensures { Syncs (sort self.now) purge_files (map plain_letter archive.now.items)
             (plain_changes changes.now.items) known.old known.new result
             (seen (dev.old.disk.vtable, dev.old.disk.value))
+            (seen (dev.new.disk.vtable, dev.new.disk.value)) };
+
+    /// Finishes or takes away what an earlier call left over.
+    fn recover(
+        &self,
+        alloc: Global,
+        dev: &mut Device,
+        known: &mut Known,
+        owner: &[u8],
+    ) -> Result<(), ScanError>
+        requires { known.old.kind ≡ sort self.now }
+        ensures { Recovers (sort self.now) known.old known.new result
+            (seen (dev.old.disk.vtable, dev.old.disk.value))
+            (seen (dev.new.disk.vtable, dev.new.disk.value)) };
+
+    /// Adds one message to the folder at a path. Whatever the answer, a stop in the middle leaves
+    /// each message that was there.
+    fn append(
+        &self,
+        alloc: Global,
+        dev: &mut Device,
+        path: &str,
+        owner: &[u8],
+        archive: &Archive,
+        item: &Item,
+    ) -> Result<(), SyncError>
+        ensures { Appends (sort self.now) path.now (map plain_letter archive.now.items) item.now
+            result (seen (dev.old.disk.vtable, dev.old.disk.value))
             (seen (dev.new.disk.vtable, dev.new.disk.value)) };
 }

@@ -6,11 +6,13 @@ ghost use Rattle.folder_letters.specs.Letters.{plain_letter};
 ghost use Rattle.folder_core.specs.Right.{Right};
 ghost use Rattle.folder_core.specs.Scanned.{Scans};
 ghost use Rattle.folder_changes.specs.Asked.{AreListed, AreOnce};
+ghost use Rattle.folder_drivers.specs.Appended.{Appends};
+ghost use Rattle.folder_drivers.specs.Recovered.{Recovers};
 ghost use Rattle.folder_drivers.specs.Synced.{Syncs};
 ghost use Rattle.index_items.specs.Changes.{plain_changes};
 
 use crate::{Driver, DriversError};
-use folder_changes::SyncError;
+use folder_changes::{Item, SyncError};
 use folder_core::{Archive, Found, Known, ScanError};
 use folder_letters::Changes;
 use disk_model::Device;
@@ -121,6 +123,49 @@ impl Drivers {
         };
         sync_at(&**driver, alloc, dev, known, owner, purge_files, archive, changes)
     }
+
+    /// Recovers by the driver of the kind, as its own `recover`.
+    pub fn recover(
+        &self,
+        alloc: Global,
+        kind: Kind,
+        dev: &mut Device,
+        known: &mut Known,
+        owner: &[u8],
+    ) -> Result<(), ScanError>
+        requires has { Any (λ d. sort d ≡ kind) self.now.list.items }
+        requires kind { known.old.kind ≡ kind }
+        ensures { Recovers kind known.old known.new result
+            (seen (dev.old.disk.vtable, dev.old.disk.value))
+            (seen (dev.new.disk.vtable, dev.new.disk.value)) }
+    {
+        let Some(driver) = self.get(kind) else {
+            unreachable!()
+        };
+        recover_at(&**driver, alloc, dev, known, owner)
+    }
+
+    /// Adds a message by the driver of the kind, as its own `append`.
+    pub fn append(
+        &self,
+        alloc: Global,
+        kind: Kind,
+        dev: &mut Device,
+        path: &str,
+        owner: &[u8],
+        archive: &Archive,
+        item: &Item,
+    ) -> Result<(), SyncError>
+        requires has { Any (λ d. sort d ≡ kind) self.now.list.items }
+        ensures { Appends kind path.now (map plain_letter archive.now.items) item.now result
+            (seen (dev.old.disk.vtable, dev.old.disk.value))
+            (seen (dev.new.disk.vtable, dev.new.disk.value)) }
+    {
+        let Some(driver) = self.get(kind) else {
+            unreachable!()
+        };
+        append_at(&**driver, alloc, dev, path, owner, archive, item)
+    }
 }
 
 fn kind_of_box(driver: &Box<dyn Driver>) -> Kind
@@ -169,4 +214,37 @@ fn sync_at(
         (seen (dev.new.disk.vtable, dev.new.disk.value)) }
 {
     driver.sync(alloc, dev, known, owner, purge_files, archive, changes)
+}
+
+/// Hands the device on to the driver's own method.
+fn recover_at(
+    driver: &dyn Driver,
+    alloc: Global,
+    dev: &mut Device,
+    known: &mut Known,
+    owner: &[u8],
+) -> Result<(), ScanError>
+    requires { known.old.kind ≡ sort driver.now }
+    ensures { Recovers (sort driver.now) known.old known.new result
+        (seen (dev.old.disk.vtable, dev.old.disk.value))
+        (seen (dev.new.disk.vtable, dev.new.disk.value)) }
+{
+    driver.recover(alloc, dev, known, owner)
+}
+
+/// Hands the device on to the driver's own method.
+fn append_at(
+    driver: &dyn Driver,
+    alloc: Global,
+    dev: &mut Device,
+    path: &str,
+    owner: &[u8],
+    archive: &Archive,
+    item: &Item,
+) -> Result<(), SyncError>
+    ensures { Appends (sort driver.now) path.now (map plain_letter archive.now.items) item.now
+        result (seen (dev.old.disk.vtable, dev.old.disk.value))
+        (seen (dev.new.disk.vtable, dev.new.disk.value)) }
+{
+    driver.append(alloc, dev, path, owner, archive, item)
 }

@@ -19,10 +19,11 @@ use crate::files::list_files;
 use crate::syncing::sync_folder;
 use crate::walk::take_all;
 use disk_model::{Device, Disk};
-use folder_changes::SyncError;
+use folder_changes::{Item, SyncError};
 use folder_core::{Archive, Found, Known, ListedSoFar, Listing, ScanError, put_listing};
 use folder_drivers::Driver;
 use folder_letters::Changes;
+use maildir_appends::append;
 use mail_base::{Bytes, Kind, NoMemory, Stamps};
 use std::alloc::Global;
 
@@ -66,6 +67,29 @@ impl Driver for MaildirDriver {
         changes: &Changes,
     ) -> Result<(), SyncError> {
         sync_changes(alloc, &mut *dev.disk, known, archive, changes, purge_files)
+    }
+
+    /// Does nothing: neither a sync nor an append leaves something over.
+    fn recover(
+        &self,
+        _alloc: Global,
+        _dev: &mut Device,
+        _known: &mut Known,
+        _owner: &[u8],
+    ) -> Result<(), ScanError> {
+        Ok(())
+    }
+
+    fn append(
+        &self,
+        alloc: Global,
+        dev: &mut Device,
+        path: &str,
+        _owner: &[u8],
+        archive: &Archive,
+        item: &Item,
+    ) -> Result<(), SyncError> {
+        append(alloc, &mut *dev.disk, path, archive, item)
     }
 }
 

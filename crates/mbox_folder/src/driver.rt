@@ -15,7 +15,9 @@ use crate::listing::{count_refusal, list_file};
 use crate::read::read_changed;
 use disk_model::{Device, Disk, FileRead};
 use folder_core::{Archive, Found, Known, Listing, ScanError, put_listing};
+use folder_changes::{Item, SyncError};
 use folder_drivers::Driver;
+use folder_letters::Changes;
 use mail_base::{Ids, Kind, NoMemory, Stamps};
 use std::alloc::Global;
 
@@ -44,6 +46,44 @@ impl Driver for MboxDriver {
         archive: &mut Archive,
     ) -> Result<Found, ScanError> {
         scan_file(alloc, &mut *dev.disk, known, archive)
+    }
+
+    /// Refused: mailboxes in one file are not written yet.
+    fn sync(
+        &self,
+        _alloc: Global,
+        _dev: &mut Device,
+        _known: &mut Known,
+        _owner: &[u8],
+        _purge_files: bool,
+        _archive: &Archive,
+        _changes: &Changes,
+    ) -> Result<(), SyncError> {
+        Err(SyncError::NotFolder)
+    }
+
+    /// Does nothing, since nothing is written.
+    fn recover(
+        &self,
+        _alloc: Global,
+        _dev: &mut Device,
+        _known: &mut Known,
+        _owner: &[u8],
+    ) -> Result<(), ScanError> {
+        Ok(())
+    }
+
+    /// Refused: mailboxes in one file are not written yet.
+    fn append(
+        &self,
+        _alloc: Global,
+        _dev: &mut Device,
+        _path: &str,
+        _owner: &[u8],
+        _archive: &Archive,
+        _item: &Item,
+    ) -> Result<(), SyncError> {
+        Err(SyncError::NotFolder)
     }
 }
 
