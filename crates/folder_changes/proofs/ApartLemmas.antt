@@ -70,7 +70,8 @@ module _ (order_of : List ℕ → ℕ) where
       → (mail_of mails listed.id.0).order ≡ order_of (mail_of mails listed.id.0).key
   placed_in mails [] listed placed held = absurd held
   placed_in mails (first ∷ listing) listed placed (inl same) =
-      subst (λ (l : Listed). (mail_of mails l.id.0).order ≡ order_of (mail_of mails l.id.0).key) same
+      subst (λ (l : Listed). (mail_of mails l.id.0).order ≡ order_of (mail_of mails l.id.0).key)
+      same
       placed.0
   placed_in mails (first ∷ listing) listed placed (inr held) =
       placed_in mails listing listed placed.1 held

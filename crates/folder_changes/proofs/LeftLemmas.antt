@@ -73,7 +73,8 @@ module _ (kind : Kind) (changes : List Changed) where
   stays : (listed : Listed) → GoesOrStays listed (one listed)
   stays listed = changed_stays kind listed (change_for changes listed.id.0)
 
-  pub synced_few : (listing : List Listed) → length (listing_synced kind changes listing) ≤ length listing
+  pub synced_few : (listing : List Listed)
+      → length (listing_synced kind changes listing) ≤ length listing
   synced_few [] = omega arith
   synced_few (listed ∷ listing) = by (one listed) (stays listed) (synced_few listing)
     where
@@ -108,7 +109,8 @@ module _ (kind : Kind) (changes : List Changed) where
           (All-head (λ l. l.id.0 < bound) listed listing within)) rest)
 
   module _ (mails : List Mail) where
-    pub synced_placed : (order_of : List ℕ → ℕ) (listing : List Listed) → PlacedByKey order_of (mails_of mails listing)
+    pub synced_placed : (order_of : List ℕ → ℕ) (listing : List Listed)
+        → PlacedByKey order_of (mails_of mails listing)
         → PlacedByKey order_of (mails_of mails (listing_synced kind changes listing))
     synced_placed order_of [] placed = placed
     synced_placed order_of (listed ∷ listing) placed =

@@ -8,8 +8,8 @@ use Rattle.folder_changes.specs.declared.sync_error.SyncError.{SyncError}
 use Rattle.folder_changes.specs.declared.sync_error.SyncError.TheVariants.{Changed as IsChanged}
 use Rattle.folder_changes.specs.declared.sync_error.SyncError.TheVariants.{Fault, NoMemory}
 
--- What every part of such a call keeps: a told past only grows, neither marks nor faults fall, and a
--- fault has its cause.
+-- What every part of such a call keeps: a told past only grows, neither marks nor faults fall,
+-- and a fault has its cause.
 pub record Serves {A : Type 0} (result : Result A SyncError) (old new : Seen) : Type 0 where
   pub grows : Grows old.told new.told
   pub marks : old.marks ≤ new.marks

@@ -68,8 +68,8 @@ pub record AppendRow : Type 1 where
   pub Looked : List ℕ → Result (Unit {0}) SyncError → Option Past → Option Past → Type 0
 
 -- A message was added to a folder of a kind, or not. Whatever the answer, each stop leaves all
--- messages, and the new one from its first file on or not; where the answer is Ok it stands, and was
--- put in its place at one step.
+-- messages, and the new one from its first file on or not; where the answer is Ok it stands, and
+-- was put in its place at one step.
 pub record AppendsAs (row : AppendRow) (path : List ℕ) (mails : List Mail) (item : Item)
     (result : Result (Unit {0}) SyncError) (old new : Seen) : Type 0 where
   pub keeps : AddsSome (row.files path) (row.core item.text.items) old.told new.told

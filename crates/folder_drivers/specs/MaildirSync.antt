@@ -1,5 +1,15 @@
 -- What a sync of a Maildir is, and why it is refused (maildir(5)).
-use Rattle.std.specs.Prelude.{◌≡◌, ◌⊎◌, ℕ, Bool, not, List}
+use Rattle.std.specs.List.{filter}
+use Rattle.mail_base.specs.Flags.{applied, stored}
+use Rattle.mail_base.specs.declared.flags.Flags.{Flags}
+use Rattle.folder_stops.specs.Along.{Grown}
+use Rattle.folder_stops.specs.Words.{Among}
+use Rattle.maildir_names.specs.MaildirName.{is_new, is_other, name_of, split_name}
+use Rattle.index_items.specs.Changes.{PlainChange, Alters, Discards}
+use Rattle.folder_changes.specs.Maildir.{flags_named}
+use Rattle.folder_core.specs.Maildir.{is_shown}
+use Rattle.disk_model.specs.Journal.{Done, Own}
+use Rattle.std.specs.Prelude.{◌≡◌, ◌⊎◌, ◌∷◌, [], ℕ, Bool, List, OnOk, Option, Result, not, true}
 use Rattle.mail_base.specs.Ordered.{IsIn}
 use Rattle.mail_base.specs.declared.kind.Id.{Id}
 use Rattle.mail_base.specs.declared.kind.Kind.TheVariants.{Maildir}
@@ -86,13 +96,60 @@ MaildirRefused known mails changes Fault m n past = Unit {0}
 MaildirRefused known mails changes NoMemory m n past = Unit {0}
 MaildirRefused known mails changes why m n past = ⊥
 
+-- By which names files go.
+
+-- a file by another name, which tells these flags, and the letters of its own that stand for none
+abbrev pub file_with : Flags → MaildirFile → MaildirFile
+file_with flags file = record {
+  in_cur = not (is_new flags);
+  name = name_of (record {
+    base = base_of file;
+    flags = flags;
+    others = filter is_other (split_name file.name).1;
+  });
+}
+
+-- a file with a change of the flags that its name tells
+abbrev pub file_changed : Flags → Flags → MaildirFile → MaildirFile
+file_changed added cleared file =
+    file_with (stored Maildir (applied (flags_named file) added cleared)) file
+
+-- A call of ours gave a file of a base the name that tells its flags with a change.
+pub record WasRenamed (path base : List ℕ) (added cleared : Flags) (old new : Option Past) : Type 0
+  where
+    pub file : MaildirFile
+    pub shown : is_shown file.name ≡ true
+    pub named : base_of file ≡ base
+    pub made : Grown old new (λ state entries. Among
+        (Own (Rename (path_of path file) (path_of path (file_changed added cleared file))) Done)
+        entries)
+
+-- the file of a message with a key got its name, where its flags change
+abbrev pub WasNamed : List ℕ → List ℕ → PlainChange → Option Past → Option Past → Type 0
+WasNamed path key (Alters added cleared) old new = WasRenamed path key added cleared old new
+WasNamed path key Discards old new = Unit {0}
+
+-- the file of each message whose flags change got its name
+abbrev pub AllNamed : List ℕ → List Mail → List Changed → Option Past → Option Past → Type 0
+AllNamed path mails [] old new = Unit {0}
+AllNamed path mails (changed ∷ changes) old new =
+    WasNamed path (mail_of mails changed.id.0).key changed.change old new
+    × AllNamed path mails changes old new
+
+-- What was wanted was done where the answer is Ok, and then each file has the name that tells its
+-- flags; else a part of it was done.
+pub record WorksByName (path : List ℕ) (mails : List Mail) (changes : List Changed)
+    (result : Result (Unit {0}) SyncError) (old new : Option Past) : Type 0 where
+  pub does : DidWanted path (what_of mails changes) result old new
+  pub names : OnOk result (AllNamed path mails changes old new)
+
 -- What it is.
 
 -- syncs of Maildirs
 abbrev pub maildir_syncs : SyncRow
 maildir_syncs = record {
   Works = λ purge known mails changes result old new.
-      DidWanted known.path (what_of mails changes) result old new;
+      WorksByName known.path mails changes result old new;
   Keeps = λ known mails changes old new.
       KeepsHolds (maildir_files known.path) (discarded mails changes) old new;
   synced = λ changes known.

@@ -33,9 +33,9 @@ HadCause row known mails changes why old new =
     row.Refused known mails changes why (length old.journal) (length new.journal) new
 
 -- A sync of a folder of a kind. Where it is answered Ok, all that is wanted was done, and what is
--- known is so; after a refusal a part of it was done or nothing, what is known is as before, and the
--- refusal had its cause. Whatever the answer, each stop leaves the messages, and our calls changed
--- the folder alone.
+-- known is so; after a refusal a part of it was done or nothing, what is known is as before, and
+-- the refusal had its cause. Whatever the answer, each stop leaves the messages, and our calls
+-- changed the folder alone.
 pub record SyncsAs (row : SyncRow) (purge : Bool) (mails : List Mail) (changes : List Changed)
     (known new_known : KnownFolder) (result : Result (Unit {0}) SyncError) (old new : Seen)
     : Type 0 where

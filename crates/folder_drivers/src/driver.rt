@@ -11,10 +11,10 @@ ghost use Rattle.folder_drivers.specs.Recovered.{Recovers};
 ghost use Rattle.folder_drivers.specs.Synced.{Syncs};
 ghost use Rattle.index_items.specs.Changes.{plain_changes};
 
+use disk_model::Device;
 use folder_changes::{Item, SyncError};
 use folder_core::{Archive, Found, Known, ScanError};
 use folder_letters::Changes;
-use disk_model::Device;
 use mail_base::Kind;
 use std::alloc::Global;
 

@@ -12,10 +12,10 @@ ghost use Rattle.folder_drivers.specs.Synced.{Syncs};
 ghost use Rattle.index_items.specs.Changes.{plain_changes};
 
 use crate::{Driver, DriversError};
+use disk_model::Device;
 use folder_changes::{Item, SyncError};
 use folder_core::{Archive, Found, Known, ScanError};
 use folder_letters::Changes;
-use disk_model::Device;
 use mail_base::Kind;
 use std::alloc::Global;
 
@@ -121,7 +121,16 @@ impl Drivers {
         let Some(driver) = self.get(kind) else {
             unreachable!()
         };
-        sync_at(&**driver, alloc, dev, known, owner, purge_files, archive, changes)
+        sync_at(
+            &**driver,
+            alloc,
+            dev,
+            known,
+            owner,
+            purge_files,
+            archive,
+            changes,
+        )
     }
 
     /// Recovers by the driver of the kind, as its own `recover`.

@@ -155,7 +155,8 @@ module _ (shape : Shape) (formed : IsWellFormed shape) where
   refused_elsewhere (WriteAt path at piece) wrote all s is h = ⊎_elim
       (λ (e : (wrote == 0) ≡ true). subst (Holds shape all) (sym (cond-true (wrote == 0) _ _ e)) h)
       (λ (e : (wrote == 0) ≡ false). subst (Holds shape all) (sym (cond-false (wrote == 0) _ _ e))
-      (other_changed (name_at s.names path) path (written at (take wrote piece)) all s refl (is e) h))
+      (other_changed (name_at s.names path) path (written at (take wrote piece)) all s refl (is e)
+      h))
       (cases_Bool (wrote == 0))
   refused_elsewhere (Cut path size) wrote all s is h = h
   refused_elsewhere (Sync path) wrote all s is h = h

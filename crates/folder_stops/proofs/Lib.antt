@@ -24,3 +24,4 @@ pub mod Waiting
 pub mod LawsOfFolders
 pub mod LawsOfAppends
 pub mod WorkedFolders
+pub mod Among

@@ -25,7 +25,8 @@ use Rattle.disk_model.specs.Judge.{Grows}
 use Rattle.disk_model.proofs.Looking.{grows_then}
 use Rattle.folder_stops.specs.Along.{Grown}
 use Rattle.folder_stops.specs.Words.{Among}
-use Rattle.folder_stops.proofs.Along.{done_grown, grown_map, grown_then}
+use Rattle.folder_stops.proofs.Along.{grown_map, grown_then}
+use Rattle.folder_stops.proofs.Among.{among_left, among_more, among_right, done_among}
 use Rattle.std.proofs.Common.{◌++◌, ◌∷◌, inl, map, subst, sym}
 
 -- the making of its file was refused
@@ -177,48 +178,11 @@ on_ok (Err e) p = tt
 
 -- Which calls were made.
 
--- the past went on, by any entries
-grown_on : (a b : Option Past) → Grows a b → Grown a b (λ s es. Unit {0})
-grown_on None b grows = grows
-grown_on (Some past) None grows = absurd grows
-grown_on (Some past) (Some new) grows = record {
-  same_first = grows.same_first;
-  more = grows.more;
-  journal = grows.journal;
-  along = tt;
-}
-
-among_last : (e : Entry) (actions : List Action) → Among e (map Others actions ++ e ∷ [])
-among_last e [] = inl refl
-among_last e (action ∷ actions) = inr (among_last e actions)
-
-among_left : (e : Entry) (xs ys : List Entry) → Among e xs → Among e (xs ++ ys)
-among_left e [] ys held = absurd held
-among_left e (x ∷ xs) ys (inl same) = inl same
-among_left e (x ∷ xs) ys (inr held) = inr (among_left e xs ys held)
-
-pub among_right : (e : Entry) (xs ys : List Entry) → Among e ys → Among e (xs ++ ys)
-among_right e [] ys held = held
-among_right e (x ∷ xs) ys held = inr (among_right e xs ys held)
-
--- a call that was done is among the entries
-done_among : {v : Unit {0}} {call : Call} {wanted : List TreeNode → Result (Unit {0}) DiskError}
-    {a b : Option Past} → Called (Ok v) call wanted a b
-    → Grown a b (λ s es. Among (Own call Done) es)
-done_among {v} {call} {wanted} {a} {b} took =
-    grown_map a b _ _ (done_grown v call wanted a b took.goes)
-    (λ s es is. subst (Among (Own call Done)) (sym is.1) (among_last (Own call Done) is.0))
-
-among_more : (e : Entry) (a b c : Option Past) → Grown a b (λ s es. Among e es) → Grows b c
-    → Grown a c (λ s es. Among e es)
-among_more e a b c first rest =
-    grown_then a b c _ _ _ first (grown_on b c rest)
-    (λ s xs ys held any. among_left e xs ys held)
-
 -- the file was made, written, put on the disk, and got its name
 pub puts_at : {beside place at to : List ℕ} {v w : Unit {0}}
     {made named : List TreeNode → Result (Unit {0}) DiskError} {a b d e h : Option Past}
-    (c f : Option Past) → at ≡ beside → to ≡ place → Called (Ok v) (Create at) made a b → Grows b c → Grows c d
+    (c f : Option Past) → at ≡ beside → to ≡ place → Called (Ok v) (Create at) made a b → Grows b c
+    → Grows c d
     → Called (Ok w) (Rename at to) named d e → Grows e f → Grows f h → PutsAt beside place a h
 puts_at {beside} {place} {at} {to} {a = a} {b = b} {d = d} {e = e} {h = h} c f
     is_at is_to makes writes syncs names keeps keeps_more = record {

@@ -39,14 +39,15 @@ use Rattle.maildir_appends.specs.Preparing.{Prepares}
 use Rattle.maildir_appends.specs.Refusing.{BlamesDisk}
 use Rattle.maildir_appends.specs.Taken.{is_taken, plain_names}
 use Rattle.maildir_appends.specs.declared.places.Places.{Places}
-use Rattle.maildir_appends.proofs.Adding.{among_right}
+use Rattle.folder_stops.proofs.Among.{among_right}
 use Rattle.maildir_appends.proofs.FirstLooking as F
 use Rattle.maildir_appends.proofs.Meeting.{saw_longer}
 use Rattle.maildir_appends.proofs.Paths.{item_fits}
 use Rattle.maildir_appends.proofs.Preparing as P
 
 -- the past only grew
-adds_grows : (path core : List ℕ) {old new : Option Past} → AddsSome (maildir_files path) core old new
+adds_grows : (path core : List ℕ) {old new : Option Past} → AddsSome (maildir_files path) core old
+    new
     → Grows old new
 adds_grows path core {old = old} {new = new} adds = goes_as old new (λ p q grown. record {
   same_first = grown.same_first;

@@ -13,11 +13,11 @@ ghost use Rattle.maildir_appends.specs.Preparing.{Prepares};
 ghost use Rattle.maildir_appends.specs.Refusing.{BlamesDisk};
 
 use crate::base::free_base;
-use folder_changes::{Item, SyncError, name_changed};
 use crate::listing::list_names;
 use crate::places::{Places, places_of};
 use crate::put::put;
 use disk_model::{Disk, DiskError};
+use folder_changes::{Item, SyncError, name_changed};
 use folder_core::{Archive, Letter};
 use mail_base::Flags;
 use std::alloc::Global;

@@ -12,8 +12,8 @@ ghost use Rattle.maildir_appends.specs.Preparing.{Prepares};
 ghost use Rattle.maildir_appends.specs.Refusing.{BlamesDisk};
 ghost use Rattle.maildir_appends.specs.Taken.{plain_names};
 
-use folder_changes::SyncError;
 use disk_model::{Disk, DiskError};
+use folder_changes::SyncError;
 use folder_core::path_in;
 use mail_base::Names;
 use std::alloc::Global;

@@ -8,6 +8,7 @@ pub mod Finding
 pub mod Driving
 pub mod RenamingLemmas
 pub mod NamedFileLemmas
+pub mod NamingLemmas
 pub mod StepLemmas
 pub mod StopLemmas
 pub mod PlanLemmas

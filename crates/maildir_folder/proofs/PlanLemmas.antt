@@ -24,6 +24,7 @@ use Rattle.maildir_folder.specs.Candidates.{IsCandidate, plain_file}
 use Rattle.maildir_folder.specs.NamedFile.{file_named}
 use Rattle.maildir_folder.specs.Plan.{AddsStep, IsPlanRefusal}
 use Rattle.folder_changes.specs.Asked.{ids_changed}
+use Rattle.folder_drivers.specs.MaildirSync.{file_with}
 use Rattle.maildir_folder.specs.Steps.{AreSteps, GoesTo, IsStep, IsStepOf, PlainStep}
 use Rattle.maildir_folder.specs.declared.candidates.Candidate.{Candidate}
 use Rattle.maildir_folder.specs.declared.plan.PlanError.{PlanError}
@@ -39,18 +40,21 @@ letter_key (letter ∷ archive) (suc i) d within = letter_key archive i d (omega
 -- a file goes to the path of the one under its new name
 pub goes_renamed : (path : List ℕ) (file target : Candidate) (change : Change) (delta : Delta)
     (to : List ℕ) → change ≡ Alter delta → IsCandidate target
+    → plain_file target ≡ file_with (stored Maildir
+    (applied (flags_named (plain_file file)) delta.added delta.cleared)) (plain_file file)
     → base_of (plain_file target) ≡ base_of (plain_file file)
     → flags_named (plain_file target)
     ≡ stored Maildir (applied (flags_named (plain_file file)) delta.added delta.cleared)
     → to ≡ path_of path (plain_file target)
     → GoesTo path (plain_file file) (plain_change change) (Some to)
-goes_renamed path file target change delta to is each same tells goes =
+goes_renamed path file target change delta to is each named same tells goes =
     subst (λ (c : Change). GoesTo path (plain_file file) (plain_change c) (Some to)) (sym is)
     (record {
       target = plain_file target;
       shown = each.shown;
       base = same;
       tells = tells;
+      named = named;
       goes = goes;
     })
 

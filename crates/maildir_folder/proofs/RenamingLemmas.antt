@@ -36,7 +36,7 @@ use Rattle.maildir_names.specs.MaildirName.{is_new, is_other, letter_if, letters
 use Rattle.maildir_names.specs.MaildirName.{is_whole_name, last_letters, mark, no_letters}
 use Rattle.maildir_names.specs.MaildirName.{split_at_mark, split_name}
 use Rattle.maildir_folder.specs.Candidates.{IsCandidate, plain_file}
-use Rattle.maildir_folder.specs.Renaming.{file_with}
+use Rattle.folder_drivers.specs.MaildirSync.{file_with}
 use Rattle.maildir_folder.specs.declared.candidates.Candidate.{Candidate}
 use Rattle.maildir_names.proofs.NameLemmas.{made_is_split}
 

@@ -8,14 +8,15 @@ use Rattle.std.proofs.Common.{Result, Ok, Err, refl, ◌∙◌, ap, subst, if◌
 use Rattle.std.specs.Option.{option_or}
 use Rattle.std.specs.Str.{bytes_eq}
 use Rattle.disk_model.specs.Journal.{Refused}
+use Rattle.maildir_folder.proofs.NamingLemmas.{all_longer, named_longer, step_named}
 use Rattle.maildir_folder.specs.Steps.{DidNothing}
 use Rattle.folder_changes.specs.Maildir.{DoesPart}
 use Rattle.disk_model.specs.Journal.{Answer, Call, MakeDir, Own, Past, Remove, Rename}
-use Rattle.disk_model.specs.Judge.{GoesOn, OneStep, StepBy, done_by}
+use Rattle.disk_model.specs.Judge.{GoesOn, Grows, OneStep, StepBy, done_by}
 use Rattle.disk_model.specs.Looking.{LooksOnly}
 use Rattle.disk_model.specs.declared.answers.DiskError.{DiskError}
 use Rattle.disk_model.specs.declared.answers.DiskError.TheVariants.{Exists}
-use Rattle.disk_model.proofs.Looking.{looks_same}
+use Rattle.disk_model.proofs.Looking.{grows_then, looks_grows, looks_same}
 use Rattle.disk_model.proofs.Trees.{bytes_same}
 use Rattle.index_items.specs.Changes.{Changed, PlainChange, Alters, Discards}
 use Rattle.folder_letters.specs.Letters.{Mail}
@@ -32,7 +33,7 @@ use Rattle.folder_changes.specs.declared.sync_error.SyncError.TheVariants.{TooMa
 use Rattle.folder_changes.specs.declared.sync_error.SyncError.TheVariants.{Fault, NoMemory}
 use Rattle.folder_changes.specs.declared.sync_error.SyncError.TheVariants.{NotFolder}
 use Rattle.folder_changes.specs.declared.sync_error.Spot.TheVariants.{Name, At}
-use Rattle.folder_drivers.specs.MaildirSync.{IsFileOf, IsSyncError}
+use Rattle.folder_drivers.specs.MaildirSync.{AllNamed, IsFileOf, IsSyncError, WasNamed, WorksByName}
 use Rattle.folder_changes.specs.Serving.{IsErrorAt}
 use Rattle.folder_changes.specs.Asked.{ids_of}
 use Rattle.folder_changes.proofs.CallLemmas.{call_does, does_then, looked_does, removed_does}
@@ -243,6 +244,9 @@ pub record SoFar (path : List ℕ) (mails : List Mail) (changes : List Changed)
   pub finishes : (result : Result (Unit {0}) SyncError) (later : Option Past)
       → DidWanted path (what_of mails rest) result now later
       → DidWanted path (what_of mails changes) result old later
+  pub grows : Grows old now
+  pub names : (later : Option Past) → Grows now later → AllNamed path mails rest now later
+      → AllNamed path mails changes old later
 
 -- no step is taken
 pub so_far_first : (path : List ℕ) (mails : List Mail) (changes : List Changed)
@@ -254,6 +258,8 @@ so_far_first path mails changes steps told apart are = record {
   steps = are;
   among = λ id held. held;
   finishes = λ result later does. does;
+  grows = looks_grows told told (looks_same told);
+  names = λ later grows named. named;
 }
 
 -- a change of one key, and changes of others
@@ -270,19 +276,21 @@ one_apart base change what none key some = by (bytes_eq key base) refl some
 -- one step more is taken
 pub so_far_next : (path : List ℕ) (mails : List Mail) (changes : List Changed)
     (step : PlainStep) (left : List PlainStep) (old now next : Option Past)
-    → SoFar path mails changes (step ∷ left) old now → WasDone (call_of step) now next
-    → SoFar path mails changes left old next
-so_far_next path mails changes step left old now next so_far done =
-    by so_far.rest so_far.apart so_far.steps so_far.among so_far.finishes
+    → SoFar path mails changes (step ∷ left) old now → Grows now next
+    → WasDone (call_of step) now next → SoFar path mails changes left old next
+so_far_next path mails changes step left old now next so_far went done =
+    by so_far.rest so_far.apart so_far.steps so_far.among so_far.finishes so_far.names
   where
     by : (rest : List Changed) → AreApart mails rest → AreSteps path mails rest (step ∷ left)
         → ((id : Id) → IsIn id (ids_of rest) → IsIn id (ids_of changes))
         → ((result : Result (Unit {0}) SyncError) (later : Option Past)
         → DidWanted path (what_of mails rest) result now later
         → DidWanted path (what_of mails changes) result old later)
+        → ((later : Option Past) → Grows now later → AllNamed path mails rest now later
+        → AllNamed path mails changes old later)
         → SoFar path mails changes left old next
-    by [] apart are among finishes = absurd are
-    by (changed ∷ rest) apart are among finishes = record {
+    by [] apart are among finishes names = absurd are
+    by (changed ∷ rest) apart are among finishes names = record {
       rest = rest;
       apart = apart.1;
       steps = are.1;
@@ -293,47 +301,63 @@ so_far_next path mails changes step left old now next so_far done =
           (one_apart (mail_of mails changed.id.0).key changed.change (what_of mails rest) apart.0)
           (step_does path (mail_of mails changed.id.0).key changed.change step now next
           are.0 done) does);
+      grows = grows_then old now next so_far.grows went;
+      names = λ later grows named. names later (grows_then now next later went grows) (
+        named_longer path (mail_of mails changed.id.0).key changed.change now now next later
+            (looks_grows now now (looks_same now))
+            (step_named path (mail_of mails changed.id.0).key changed.change step now next are.0
+            done) grows,
+        all_longer path mails rest now next later later went named
+            (looks_grows later later (looks_same later)),
+      );
     }
 
 -- all steps are taken
 pub so_far_done : (path : List ℕ) (mails : List Mail) (changes : List Changed)
     (old now : Option Past)
     → SoFar path mails changes [] old now
-    → DidWanted path (what_of mails changes) (Ok tt) old now
-so_far_done path mails changes old now so_far = by so_far.rest so_far.steps so_far.finishes
+    → WorksByName path mails changes (Ok tt) old now
+so_far_done path mails changes old now so_far =
+    by so_far.rest so_far.steps so_far.finishes so_far.names
   where
     by : (rest : List Changed) → AreSteps path mails rest []
         → ((result : Result (Unit {0}) SyncError) (later : Option Past)
         → DidWanted path (what_of mails rest) result now later
         → DidWanted path (what_of mails changes) result old later)
-        → DidWanted path (what_of mails changes) (Ok tt) old now
-    by [] are finishes = finishes (Ok tt) now (looks_did path now now
-        (looks_same now))
-    by (changed ∷ rest) are finishes = absurd are
+        → ((later : Option Past) → Grows now later → AllNamed path mails rest now later
+        → AllNamed path mails changes old later)
+        → WorksByName path mails changes (Ok tt) old now
+    by [] are finishes names = record {
+      does = finishes (Ok tt) now (looks_did path now now (looks_same now));
+      names = names now (looks_grows now now (looks_same now)) tt;
+    }
+    by (changed ∷ rest) are finishes names = absurd are
 
 -- a step is refused, and does nothing
 pub so_far_failed : (path : List ℕ) (mails : List Mail) (changes : List Changed)
     (left : List PlainStep) (why : SyncError) (old now next : Option Past)
     → SoFar path mails changes left old now → DidNothing path now next
-    → DidWanted path (what_of mails changes) (Err why) old next
-so_far_failed path mails changes left why old now next so_far nothing =
-    so_far.finishes (Err why) next
-    (did_none path (what_of mails so_far.rest) why now next nothing)
+    → WorksByName path mails changes (Err why) old next
+so_far_failed path mails changes left why old now next so_far nothing = record {
+  does = so_far.finishes (Err why) next
+      (did_none path (what_of mails so_far.rest) why now next nothing);
+  names = tt;
+}
 
 -- the same, where the steps that are left are split
 pub so_far_more : (path : List ℕ) (mails : List Mail) (changes : List Changed)
     (step : PlainStep) (all left : List PlainStep) (old now next : Option Past)
-    → all ≡ step ∷ left → SoFar path mails changes all old now → WasDone (call_of step) now next
-    → SoFar path mails changes left old next
-so_far_more path mails changes step all left old now next whole so_far done =
+    → all ≡ step ∷ left → SoFar path mails changes all old now → Grows now next
+    → WasDone (call_of step) now next → SoFar path mails changes left old next
+so_far_more path mails changes step all left old now next whole so_far went done =
     so_far_next path mails changes step left old now next
-    (subst (λ (l : List PlainStep). SoFar path mails changes l old now) whole so_far) done
+    (subst (λ (l : List PlainStep). SoFar path mails changes l old now) whole so_far) went done
 
 -- the same, where no step is left
 pub so_far_end : (path : List ℕ) (mails : List Mail) (changes : List Changed)
     (left : List PlainStep) (old now : Option Past) → left ≡ []
     → SoFar path mails changes left old now
-    → DidWanted path (what_of mails changes) (Ok tt) old now
+    → WorksByName path mails changes (Ok tt) old now
 so_far_end path mails changes left old now none so_far =
     so_far_done path mails changes old now
     (subst (λ (l : List PlainStep). SoFar path mails changes l old now) none so_far)

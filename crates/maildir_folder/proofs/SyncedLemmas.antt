@@ -8,7 +8,12 @@ use Rattle.disk_model.specs.Seen.{Seen}
 use Rattle.disk_model.proofs.Looking.{looks_same}
 use Rattle.folder_core.proofs.SeenLemmas.{only_same}
 use Rattle.folder_changes.specs.declared.sync_error.SyncError.TheVariants.{NoMemory}
-use Rattle.maildir_folder.proofs.StepLemmas.{did_none, looks_did}
+use Rattle.maildir_folder.proofs.StepLemmas.{did_after, did_end, did_none, looks_did}
+use Rattle.maildir_folder.proofs.NamingLemmas.{all_longer}
+use Rattle.maildir_folder.specs.Steps.{DidNothing}
+use Rattle.folder_drivers.specs.MaildirSync.{WorksByName}
+use Rattle.disk_model.specs.Judge.{Grows}
+use Rattle.std.specs.Prelude.{OnOk}
 use Rattle.std.specs.Prelude.{Option}
 use Rattle.mail_base.specs.declared.kind.Id.{Id}
 use Rattle.index_items.specs.Changes.{AreBelow, Changed, plain_changes}
@@ -87,6 +92,40 @@ pub right_apart : (mails : List Mail) (known : KnownFolder) (told : Option Past)
 right_apart mails known told changes right listed once =
     apart_of order_of mails known.listing right.ordered right.read.placed changes listed once
 
+-- nothing was done up to a refusal
+pub works_none : (path : List ℕ) (mails : List Mail) (changes : List Changed) (why : SyncError)
+    (old new : Option Past) → DidNothing path old new
+    → WorksByName path mails changes (Err why) old new
+works_none path mails changes why old new nothing = record {
+  does = did_none path (what_of mails changes) why old new nothing;
+  names = tt;
+}
+
+-- nothing was done, and then a part
+pub works_part : (path : List ℕ) (mails : List Mail) (changes : List Changed) (why : SyncError)
+    (old mid new : Option Past) → DidNothing path old mid
+    → WorksByName path mails changes (Err why) mid new
+    → WorksByName path mails changes (Err why) old new
+works_part path mails changes why old mid new first part = record {
+  does = did_after path (what_of mails changes) (Err why) old mid new first part.does;
+  names = tt;
+}
+
+-- nothing was done, then all that is wanted, and then nothing, whatever that answers
+pub works_between : (path : List ℕ) (mails : List Mail) (changes : List Changed)
+    (result : Result (Unit {0}) SyncError) (old mid late new : Option Past)
+    → DidNothing path old mid → Grows old mid → WorksByName path mails changes (Ok tt) mid late
+    → DidNothing path late new → Grows late new → WorksByName path mails changes result old new
+works_between path mails changes result old mid late new first grows works last more = record {
+  does = did_after path (what_of mails changes) result old mid new first
+      (did_end path (what_of mails changes) result mid late new works.does last);
+  names = on_ok result (all_longer path mails changes old mid late new grows works.names more);
+}
+  where
+    on_ok : {P : Type 0} (r : Result (Unit {0}) SyncError) → P → OnOk r P
+    on_ok (Ok done) p = p
+    on_ok (Err why) p = tt
+
 -- our calls changed the folder alone
 abbrev pub IsHere : List ℕ → Seen → Seen → Type 0
 IsHere path old new =
@@ -95,7 +134,7 @@ IsHere path old new =
 -- a sync that was refused
 pub syncs_not : (mails : List Mail) (changes : List Changed) (known new_known : KnownFolder)
     (why : SyncError) (old new : Seen) → new_known ≡ known → Right Maildir mails known old.told
-    → DidWanted known.path (what_of mails changes) (Err why) old.told new.told
+    → WorksByName known.path mails changes (Err why) old.told new.told
     → KeepsHolds (maildir_files known.path) (discarded mails changes) old.told new.told
     → IsHere known.path old new
     → IsSyncError known.path mails (ids_of changes) why → Serves {A = Unit {0}} (Err why) old new
@@ -121,7 +160,7 @@ pub syncs_done : (mails : List Mail) (changes : List Changed) (known new_known :
     → listing ≡ listing_synced Maildir changes known.listing → bytes ≡ [] → stamps ≡ []
     → new_known ≡ record known { listing = listing; bytes = bytes; stamps = stamps }
     → Right Maildir mails known old.told
-    → DidWanted known.path (what_of mails changes) (Ok tt) old.told new.told
+    → WorksByName known.path mails changes (Ok tt) old.told new.told
     → KeepsHolds (maildir_files known.path) (discarded mails changes) old.told new.told
     → IsHere known.path old new → Serves {A = Unit {0}} (Ok tt) old new
     → (purge : Bool) → Syncs Maildir purge mails changes known new_known (Ok tt) old new
@@ -175,11 +214,10 @@ letters_below letters bound known told changes is right listed =
 -- what was done of changes, by the letters as a slice
 pub did_letters : (slice letters : List Letter) (changes : List Changed) (path : List ℕ)
     (result : Result (Unit {0}) SyncError) (old new : Option Past) → slice ≡ letters
-    → DidWanted path (what_of (map plain_letter slice) changes) result old new
-    → DidWanted path (what_of (map plain_letter letters) changes) result old new
+    → WorksByName path (map plain_letter slice) changes result old new
+    → WorksByName path (map plain_letter letters) changes result old new
 did_letters slice letters changes path result old new is did =
-    subst (λ (l : List Letter). DidWanted path (what_of (map plain_letter l) changes) result old
-    new) is did
+    subst (λ (l : List Letter). WorksByName path (map plain_letter l) changes result old new) is did
 
 -- a message of which no file is there is refused among all that change
 pub gone_named : (path : List ℕ) (files : List MaildirFile) (mails : List Mail)
@@ -220,7 +258,7 @@ pub syncs_none : (mails : List Mail) (changes : List Changed) (known : KnownFold
     → (purge : Bool) → Syncs Maildir purge mails changes known known (Err NoMemory) seen seen
 syncs_none mails changes known seen right =
     syncs_not mails changes known known NoMemory seen seen refl right
-    (did_none known.path (what_of mails changes) NoMemory seen.told seen.told
+    (works_none known.path mails changes NoMemory seen.told seen.told
     (looks_did known.path seen.told seen.told (looks_same seen.told)))
     (holds_first known.path (discarded mails changes) seen.told)
     (here_only known.path [] (keeps_first known.path [] seen.told)) tt

@@ -2,7 +2,6 @@ pub mod Candidates
 pub mod Files
 pub mod NamedFile
 pub mod KnownBase
-pub mod Renaming
 pub mod Steps
 pub mod Plan
 pub mod Synced

@@ -20,6 +20,7 @@ use Rattle.folder_changes.specs.declared.sync_error.Spot.TheVariants.{Name}
 use Rattle.folder_changes.specs.declared.sync_error.SyncError.{SyncError}
 use Rattle.folder_changes.specs.declared.sync_error.SyncError.TheVariants.{Changed as IsChanged}
 use Rattle.folder_changes.specs.declared.sync_error.SyncError.TheVariants.{Fault, NoMemory}
+use Rattle.folder_drivers.specs.MaildirSync.{file_with}
 use Rattle.folder_shapes.specs.Maildir.{maildir_making, maildir_shape}
 use Rattle.folder_stops.specs.Does.{Does}
 use Rattle.folder_stops.specs.Syncs.{Syncs as HoldsOn}
@@ -38,13 +39,14 @@ abbrev pub plain_step : Step → PlainStep
 plain_step step =
     record { from = string_bytes step.from; to = option_map string_bytes step.to }
 
--- the path of a file with the same base, by a name that tells these flags
+-- the path of a file with the same base, by the name that tells these flags and its own letters
 pub record IsNewPath (path : List ℕ) (file : MaildirFile) (flags : Flags) (to : List ℕ) : Type 0
   where
     pub target : MaildirFile
     pub shown : is_shown target.name ≡ true
     pub base : base_of target ≡ base_of file
     pub tells : flags_named target ≡ flags
+    pub named : target ≡ file_with flags file
     pub goes : to ≡ path_of path target
 
 -- where the file of a message goes that is to change so: to another name, or away
@@ -96,8 +98,8 @@ WasDone call old new = GoesOn (OneStep {A = Unit {0}} (Ok tt) call (done_by call
 abbrev pub DidNothing : List ℕ → Option Past → Option Past → Type 0
 DidNothing path old new = GoesOn (DoesWanted path nothing_wanted) old new
 
--- The folder holds its messages at each mark, and those with these keys may go; our calls changed the
--- folder alone, and began no message.
+-- The folder holds its messages at each mark, and those with these keys may go; our calls changed
+-- the folder alone, and began no message.
 pub record KeepsAllBut (path : List ℕ) (keys : List (List ℕ)) (old new : Option Past) : Type 0
   where
     pub holds : HoldsOn (maildir_shape path) [] keys old new

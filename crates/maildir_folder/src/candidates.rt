@@ -7,9 +7,8 @@ ghost use Rattle.disk_model.specs.Answers.{AreText};
 ghost use Rattle.folder_core.specs.Maildir.{files_in, is_shown as is_shown_lem};
 ghost use Rattle.maildir_folder.specs.Candidates as spec;
 
-use maildir_names::order_of;
-use maildir_names::split_name;
 use mail_base::{Bytes, NoMemory};
+use maildir_names::{order_of, split_name};
 use std::alloc::Global;
 
 /// A file that may be a message, in `new` or else in `cur`. The order of the fields is that of the

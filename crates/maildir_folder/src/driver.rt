@@ -23,8 +23,8 @@ use folder_changes::{Item, SyncError};
 use folder_core::{Archive, Found, Known, ListedSoFar, Listing, ScanError, put_listing};
 use folder_drivers::Driver;
 use folder_letters::Changes;
-use maildir_appends::append;
 use mail_base::{Bytes, Kind, NoMemory, Stamps};
+use maildir_appends::append;
 use std::alloc::Global;
 
 /// Reads folders of a file a message (maildir(5)), and does changes to their files.

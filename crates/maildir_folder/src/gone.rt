@@ -9,10 +9,10 @@ ghost use Rattle.folder_drivers.specs.MaildirSync.{IsSyncError};
 ghost use Rattle.folder_changes.specs.Serving.{IsErrorAt};
 ghost use Rattle.maildir_folder.specs.Synced as spec;
 
-use maildir_names::{MaildirName, make_name};
 use folder_changes::{Spot, SyncError, name_changed};
 use folder_core::{Known, Letter, Listed, path_in};
 use mail_base::{Bytes, Flags, Id, NoMemory};
+use maildir_names::{MaildirName, make_name};
 use std::alloc::Global;
 
 // The path of the file of a base by these flags.

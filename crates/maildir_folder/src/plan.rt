@@ -12,7 +12,6 @@ ghost use Rattle.folder_changes.specs.Asked.{ids_changed};
 ghost use Rattle.maildir_folder.specs.Plan as spec;
 ghost use Rattle.maildir_folder.specs.Steps.{AreSteps, GoesTo, IsStep, IsStepOf, plain_step};
 
-use maildir_names::order_of;
 use crate::candidates::Candidate;
 use crate::named_file::find_file;
 use crate::renaming::renamed;
@@ -21,6 +20,7 @@ use crate::walk::file_path;
 use folder_core::Letter;
 use folder_letters::{Change, Changed1};
 use mail_base::{Id, NoMemory};
+use maildir_names::order_of;
 use std::alloc::Global;
 
 /// Why the steps of a sync were not found.

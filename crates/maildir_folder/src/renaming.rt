@@ -6,11 +6,11 @@ ghost use Rattle.mail_base.specs.declared.kind.Kind.TheVariants.{Maildir};
 ghost use Rattle.folder_changes.specs.Maildir.{flags_named};
 ghost use Rattle.folder_core.specs.Maildir.{base_of};
 ghost use Rattle.maildir_folder.specs.Candidates.{IsCandidate, plain_file};
-ghost use Rattle.maildir_folder.specs.Renaming.{file_with};
+ghost use Rattle.folder_drivers.specs.MaildirSync.{file_with};
 
 use crate::candidates::Candidate;
-use maildir_names::{MaildirName, flags_of, make_name, other_letters, split_name};
 use mail_base::{Bytes, Delta, Flags, Kind, NoMemory};
+use maildir_names::{MaildirName, flags_of, make_name, other_letters, split_name};
 use std::alloc::Global;
 
 /// A file under the name that it gets where flags of its message change: its base, the flags with

@@ -7,7 +7,7 @@ ghost use Rattle.index_items.specs.Changes.{Changed};
 ghost use Rattle.folder_changes.specs.Asked.{AreApart, discarded, ids_of, what_of};
 ghost use Rattle.folder_changes.specs.Serving.{IsErrorAt, Serves};
 ghost use Rattle.folder_changes.specs.Maildir.{DidWanted};
-ghost use Rattle.folder_drivers.specs.MaildirSync.{IsSyncError};
+ghost use Rattle.folder_drivers.specs.MaildirSync.{IsSyncError, WorksByName};
 ghost use Rattle.maildir_folder.specs.Steps as spec;
 
 use disk_model::{Disk, DiskError};
@@ -53,8 +53,7 @@ pub fn take_steps(alloc: Global, disk: &mut dyn Disk, steps: &[Step]) -> Result<
     ensures does { (path : List ℕ) → (mails : List Mail) → (changes : List Changed)
         → AreApart mails changes
         → spec.AreSteps path mails changes (map spec.plain_step steps.now)
-        → DidWanted path (what_of mails changes) result
-        (seen disk.old).told (seen disk.new).told }
+        → WorksByName path mails changes result (seen disk.old).told (seen disk.new).told }
     ensures names { (path : List ℕ) → (mails : List Mail) → (changes : List Changed)
         → AreApart mails changes
         → spec.AreSteps path mails changes (map spec.plain_step steps.now)

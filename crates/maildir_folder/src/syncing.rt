@@ -10,7 +10,7 @@ ghost use Rattle.folder_changes.specs.Maildir.{DidWanted};
 ghost use Rattle.folder_changes.specs.Asked.{AreApart, AreListed, AreOnce};
 ghost use Rattle.folder_changes.specs.Serving.{IsErrorAt};
 ghost use Rattle.maildir_folder.specs.Steps.{KeepsAllBut, LeavesAll};
-ghost use Rattle.folder_drivers.specs.MaildirSync.{IsSyncError};
+ghost use Rattle.folder_drivers.specs.MaildirSync.{IsSyncError, WorksByName};
 ghost use Rattle.folder_changes.specs.Serving.{Serves};
 ghost use Rattle.maildir_folder.specs.Steps.{plain_step};
 ghost use Rattle.folder_changes.specs.Asked.{discarded, ids_of, what_of};
@@ -96,9 +96,8 @@ fn change_files(
     requires within { AreBelow (length archive.now) changes.now }
     requires apart { AreApart (map plain_letter archive.now) (plain_changes changes.now) }
     ensures serves { Serves result (seen disk.old) (seen disk.new) }
-    ensures does { DidWanted known.now.path
-        (what_of (map plain_letter archive.now) (plain_changes changes.now)) result
-        (seen disk.old).told (seen disk.new).told }
+    ensures does { WorksByName known.now.path (map plain_letter archive.now)
+        (plain_changes changes.now) result (seen disk.old).told (seen disk.new).told }
     ensures holds { KeepsAllBut known.now.path
         (discarded (map plain_letter archive.now) (plain_changes changes.now))
         (seen disk.old).told (seen disk.new).told }

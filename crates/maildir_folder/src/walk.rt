@@ -22,12 +22,12 @@ ghost use Rattle.maildir_folder.specs.Walk as spec;
 
 use crate::candidates::Candidate;
 use crate::known_base::{core_size, known_id};
-use maildir_names::{flags_of, split_name};
 use disk_model::{Disk, Stat};
 use folder_core::{
     Archive, Content, Known, Letter, ListedSoFar, ScanError, content_of, look_at, path_in,
 };
 use mail_base::{Bytes, Flags, Id, NoMemory};
+use maildir_names::{flags_of, split_name};
 use std::alloc::Global;
 
 /// The last moment of a clock.

@@ -8,6 +8,4 @@ mod maildir_name;
 
 pub use base_order::order_of;
 pub use laws::made_names_are_split;
-pub use maildir_name::{
-    MaildirName, flags_of, make_name, other_letters, read_name, split_name,
-};
+pub use maildir_name::{MaildirName, flags_of, make_name, other_letters, read_name, split_name};

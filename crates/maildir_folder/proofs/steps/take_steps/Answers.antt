@@ -28,7 +28,8 @@ loop-left-preserved g c =
           so_far_more path mails changes (plain_step c.step-item.result)
           (map plain_step c.loop-left.left.now) _ _ _ _
           (ap (map plain_step) whole)
-          (c.loop-left.invariant.does path mails changes apart are) c.in-Ok.ensures.takes.done;
+          (c.loop-left.invariant.does path mails changes apart are) c.in-Ok.ensures.serves.grows
+          c.in-Ok.ensures.takes.done;
       holds = λ path mails changes are.
           held_more path (discarded mails changes) mails (plain_step c.step-item.result)
           (map plain_step c.loop-left.left.now) _ _ _ _ (ap (map plain_step) whole)

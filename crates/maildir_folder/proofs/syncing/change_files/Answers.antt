@@ -4,6 +4,7 @@ use Rattle.index_items.specs.Changes.{plain_changes}
 use Rattle.maildir_folder.specs.Steps.{AreSteps, plain_step}
 use Rattle.folder_changes.specs.Asked.{discarded, ids_of, what_of}
 use Rattle.maildir_folder.specs.declared.steps.Step.{Step}
+use Rattle.maildir_folder.proofs.SyncedLemmas.{works_between, works_none, works_part}
 use Rattle.maildir_folder.proofs.StepLemmas.{did_after, did_end, did_none, errors_folder}
 use Rattle.folder_changes.proofs.ServingLemmas.{serves_then}
 use Rattle.maildir_folder.proofs.StopLemmas.{keeps_then, leaves_at}
@@ -25,24 +26,25 @@ returns-clause-does g c =
     let mails = map plain_letter c.args.archive.now in
     let changes = plain_changes c.args.changes.now in
     let path = c.args.known.now.path in
-    did_after path (what_of mails changes) c.keep_names.result _ _ _ c.in-Ok.ensures.leaves.does
-    (did_end path (what_of mails changes) c.keep_names.result _ _ _
+    works_between path mails changes c.keep_names.result _ _ _ _ c.in-Ok.ensures.leaves.does
+    c.in-Ok.ensures.serves.grows
     (c.in-Ok-take_steps.ensures.does path mails changes c.requires.apart
     (subst (λ (l : List Step). AreSteps path mails changes (map plain_step l))
     (sym c.as_slice.ensures.value) c.in-Ok.ensures.steps))
-    (leaves_at c.path.result.now path _ _ c.path.ensures c.keep_names.ensures.leaves).does)
+    (leaves_at c.path.result.now path _ _ c.path.ensures c.keep_names.ensures.leaves).does
+    c.keep_names.ensures.serves.grows
 
 pub returns-in-Err-clause-does : goal.returns-in-Err-clause-does
 returns-in-Err-clause-does g c =
-    did_none c.args.known.now.path _ c.in-Err.why _ _ c.in-Err.ensures.leaves.does
+    works_none c.args.known.now.path (map plain_letter c.args.archive.now)
+    (plain_changes c.args.changes.now) c.in-Err.why _ _ c.in-Err.ensures.leaves.does
 
 pub returns-in-Err-take_steps-clause-does : goal.returns-in-Err-take_steps-clause-does
 returns-in-Err-take_steps-clause-does g c =
     let mails = map plain_letter c.args.archive.now in
     let changes = plain_changes c.args.changes.now in
     let path = c.args.known.now.path in
-    did_after path (what_of mails changes) (Err c.in-Err-take_steps.why) _ _ _
-    c.in-Ok.ensures.leaves.does
+    works_part path mails changes c.in-Err-take_steps.why _ _ _ c.in-Ok.ensures.leaves.does
     (c.in-Err-take_steps.ensures.does path mails changes c.requires.apart
     (subst (λ (l : List Step). AreSteps path mails changes (map plain_step l))
     (sym c.as_slice.ensures.value) c.in-Ok.ensures.steps))
