@@ -163,7 +163,7 @@ sync_dir_leaves path dir (Refused why wrote) state own single = (single, refl)
 
 -- The directory `new` is made.
 
-made_stays : (state : State) (dir q : List ℕ) → (dir ≡ q → ⊥)
+pub made_stays : (state : State) (dir q : List ℕ) → (dir ≡ q → ⊥)
     → node_at (tree_of (with_folder dir state)) q ≡ node_at (tree_of state) q
 made_stays state dir q other =
     at_same state (record { path = dir; file = None } ∷ state.names) q

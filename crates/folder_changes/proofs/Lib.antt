@@ -1,5 +1,6 @@
 pub mod StepLemmas
 pub mod CauseLemmas
+pub mod TraceLemmas
 pub mod OrderLemmas
 pub mod MemberLemmas
 pub mod MaildirLemmas

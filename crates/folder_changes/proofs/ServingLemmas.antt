@@ -1,19 +1,27 @@
 -- Parts of a call that writes, one behind another.
-use Rattle.std.proofs.Common.{◌≡◌, Result, Ok, Err, ap, arith}
+use Rattle.std.proofs.Common.{◌≡◌, Option, Some, None, Result, Ok, Err, ap, arith}
 use Rattle.std.specs.Prelude.{IsErrOf}
 use Rattle.mail_base.specs.Faults.{Rose}
+use Rattle.disk_model.specs.Journal.{Past}
 use Rattle.disk_model.specs.Looking.{OnlyLooks}
 use Rattle.disk_model.specs.Seen.{Seen}
 use Rattle.disk_model.proofs.Looking.{grows_then, looks_grows, looks_same}
 use Rattle.folder_core.proofs.SeenLemmas.{goes_as, rose_later}
 use Rattle.folder_core.specs.declared.error.ScanError.{ScanError}
 use Rattle.folder_core.specs.declared.error.ScanError.TheVariants.{Fault as ScanFault}
+use Rattle.folder_changes.specs.Refused.{IsBetween, Untold}
 use Rattle.folder_changes.specs.Serving.{Serves}
 use Rattle.folder_changes.specs.declared.sync_error.SyncError.{SyncError}
 use Rattle.folder_changes.specs.declared.sync_error.SyncError.TheVariants.{Fault}
 
 ok_err : ◌≡◌ {A = Result (Unit {0}) SyncError} (Ok tt) (Err Fault) → ⊥
 ok_err e = cc
+
+-- of a cause of which nothing is told there is nothing to show
+pub untold : (old new : Option Past) → IsBetween Untold old new
+untold None new = tt
+untold (Some old) None = tt
+untold (Some old) (Some new) = tt
 
 -- nothing was called
 pub serves_first : (seen : Seen) → Serves {A = Unit {0}} (Ok tt) seen seen

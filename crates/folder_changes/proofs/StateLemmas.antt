@@ -58,7 +58,7 @@ unnamed p (name ∷ names) = by (bytes_eq name.path p) refl (unnamed p names)
     by false is again =
         ap (λ (b : Bool). if b then Some name.file else name_in (without p names) p) is ∙ again
 
-still_named : (p q : List ℕ) (names : List Name) → (p ≡ q → ⊥)
+pub still_named : (p q : List ℕ) (names : List Name) → (p ≡ q → ⊥)
     → name_in (without p names) q ≡ name_in names q
 still_named p q [] other = refl
 still_named p q (name ∷ names) other =

@@ -54,7 +54,7 @@ entry_at Is (entry ∷ front) rest (suc place) each low =
     record { entry = at.entry; behind = at.behind; here = at.here; is = at.is }
 
 -- the state behind the entry at a mark
-next_state : (past : Past) (mark : ℕ) (entry : Entry) (behind : List Entry)
+pub next_state : (past : Past) (mark : ℕ) (entry : Entry) (behind : List Entry)
     → drop mark past.journal ≡ entry ∷ behind
     → state_at past (mark + 1) ≡ after_entry (state_at past mark) entry
 next_state past mark entry behind here =

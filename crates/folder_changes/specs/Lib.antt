@@ -1,6 +1,7 @@
 pub mod Wanted
 pub mod Worked
 pub mod Refused
+pub mod Calls
 pub mod Maildir
 pub mod Asked
 pub mod Serving

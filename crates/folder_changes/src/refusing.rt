@@ -1,6 +1,7 @@
 //! Refusals of calls that write, by what the disk refuses.
 
 ghost use Rattle.std.specs.Prelude.{◌≡◌};
+ghost use Rattle.folder_changes.specs.Refused.{IsOfTree, OnChanged};
 ghost use Rattle.folder_changes.specs.Serving.{IsErrorAt};
 
 use crate::{Spot, SyncError};
@@ -23,6 +24,7 @@ pub fn name_changed(alloc: Global, path: &str) -> SyncError
 pub fn error_at(alloc: Global, path: &str, why: DiskError) -> SyncError
     ensures at { IsErrorAt path.now result }
     ensures fault { result ≡ SyncError.Fault → why ≡ DiskError.Fault }
+    ensures changed { OnChanged result (IsOfTree why) }
 {
     match why {
         DiskError::Fault => SyncError::Fault,

@@ -1,17 +1,16 @@
 -- What adding a message to a folder of a kind is, for all that stands above the kinds.
-use Rattle.std.specs.Prelude.{◌≡◌, ◌≢◌, ◌≤◌, ◌<◌, ◌+◌, ℕ, true, false, List, Option, Some}
-use Rattle.std.specs.Prelude.{None, Result, IfErr, IfSome, OnOk, length, option_map}
+use Rattle.std.specs.Prelude.{◌≡◌, ℕ, false, List, Option, Some}
+use Rattle.std.specs.Prelude.{None, Result, IfErr, IfSome, OnOk, option_map}
 use Rattle.mail_base.specs.Ordered.{IsIn}
 use Rattle.mail_base.specs.declared.kind.Kind.{Kind}
 use Rattle.disk_model.specs.Journal.{Past}
-use Rattle.disk_model.specs.Judge.{IsLonger}
 use Rattle.disk_model.specs.Seen.{Seen}
 use Rattle.index_items.specs.Changes.{Discards}
 use Rattle.folder_letters.specs.Letters.{Mail}
 use Rattle.folder_core.specs.Message.{Message, has_key}
+use Rattle.folder_changes.specs.Refused.{IsBetween}
 use Rattle.folder_changes.specs.Serving.{Serves}
 use Rattle.folder_changes.specs.Wanted.{change_at, wanted}
-use Rattle.folder_changes.specs.Worked.{own_at}
 use Rattle.folder_changes.specs.declared.item.Item.{Item}
 use Rattle.folder_changes.specs.declared.sync_error.SyncError.{SyncError}
 use Rattle.folder_stops.specs.Appends.{AddedSome, AddsSome}
@@ -30,28 +29,6 @@ abbrev pub lacks : List ℕ → Option (List Message) → Type 0
 lacks key None = ⊥
 lacks key (Some messages) = has_key key messages ≡ false
 
--- Between two marks one step of ours put a message in its place, where no message had its key; each
--- other call of ours left the messages as they were.
-pub record WorksAdding (kind : Kind) (IsNew : Past → ℕ → Message → Type 0)
-    (reads_at : ℕ → Option (List Message)) (m n : ℕ) (past : Past) : Type 0 where
-  pub placed : ℕ
-  pub from : m ≤ placed
-  pub to : placed < n
-  pub own : own_at placed past ≡ true
-  pub message : Message
-  pub is_new : IsNew past placed message
-  pub adds : lacks message.key (reads_at placed)
-      → GainsOne kind message (reads_at placed) (reads_at (placed + 1))
-  pub does : (mark : ℕ) → m ≤ mark → mark < n → own_at mark past ≡ true → mark ≢ placed
-      → reads_at (mark + 1) ≡ reads_at mark
-
--- A told past goes on so, however it goes on behind.
-pub record DoesAdding (kind : Kind) (IsNew : ℕ → Past → ℕ → Message → Type 0)
-    (reads_at : Past → ℕ → Option (List Message)) (old new : Past) : Type 0 where
-  pub longer : IsLonger old new
-  pub does : (past : Past) → IsLonger new past → WorksAdding kind (IsNew (length old.journal))
-      (reads_at past) (length old.journal) (length new.journal) past
-
 -- What adding a message is.
 
 -- what adding a message to a kind of folders is
@@ -64,6 +41,8 @@ pub record AppendRow : Type 1 where
   pub Works : List ℕ → List Mail → Item → Option Past → Option Past → Type 0
   -- how it may be refused
   pub MayBe : SyncError → Type 0
+  -- why it was refused so between two marks of a past, as far as that is told
+  pub Refused : List ℕ → SyncError → ℕ → ℕ → Past → Type 0
   -- what its first look has found, by the answer
   pub Looked : List ℕ → Result (Unit {0}) SyncError → Option Past → Option Past → Type 0
 
@@ -77,4 +56,5 @@ pub record AppendsAs (row : AppendRow) (path : List ℕ) (mails : List Mail) (it
   pub works : OnOk result (row.Works path mails item old.told new.told)
   pub looked : row.Looked path result old.told new.told
   pub may_be : IfErr result row.MayBe
+  pub cause : IfErr result (λ why. IsBetween (row.Refused path why) old.told new.told)
   pub serves : Serves result old new

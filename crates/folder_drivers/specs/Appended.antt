@@ -9,6 +9,7 @@ use Rattle.folder_changes.specs.declared.sync_error.SyncError.{SyncError}
 use Rattle.folder_changes.specs.declared.sync_error.SyncError.TheVariants.{NotFolder}
 use Rattle.folder_drivers.specs.AppendRow.{AppendsAs}
 use Rattle.folder_drivers.specs.MaildirAppend.{maildir_additions}
+use Rattle.folder_drivers.specs.MhAppend.{mh_additions}
 
 -- Folders in one file are not written yet: each call is refused and does nothing.
 pub record IsUnwritten (result : Result (Unit {0}) SyncError) (old new : Seen) : Type 0 where
@@ -21,5 +22,6 @@ abbrev pub Appends : Kind → List ℕ → List Mail → Item → Result (Unit {
 Appends Mbox path mails item result old new = IsUnwritten result old new
 Appends Maildir path mails item result old new =
     AppendsAs maildir_additions path mails item result old new
-Appends Mh path mails item result old new = IsUnwritten result old new
+Appends Mh path mails item result old new =
+    AppendsAs mh_additions path mails item result old new
 Appends Mmdf path mails item result old new = IsUnwritten result old new

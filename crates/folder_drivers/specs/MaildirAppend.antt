@@ -1,50 +1,38 @@
 -- What adding a message to a Maildir is (maildir(5)).
-use Rattle.std.specs.Prelude.{◌≡◌, ◌⊎◌, ◌<◌, ◌^◌, ◌==◌, ◌&&◌, ◌||◌, ℕ, ℤ, pos, negsuc, Bool, true}
-use Rattle.std.specs.Prelude.{false, not, nat_lt, List, [], ◌∷◌, ◌++◌, Option, None, Ok, codes, map}
+use Rattle.std.specs.Prelude.{◌≡◌, ◌<◌, ◌^◌, ◌==◌, ◌&&◌, ◌||◌, ℕ, ℤ, pos, negsuc, Bool, true}
+use Rattle.std.specs.Prelude.{false, not, nat_lt, List, [], ◌∷◌, ◌++◌, Option, codes, map}
 use Rattle.std.specs.Char.{is_ascii_digit}
 use Rattle.std.specs.Fmt.{decimal}
 use Rattle.std.specs.List.{list_all, list_any}
 use Rattle.std.specs.Str.{bytes_eq}
 use Rattle.mail_base.specs.declared.flags.Flags.{Flags}
-use Rattle.disk_model.specs.Journal.{Answer, Create, Done, Entry, ListDir, Own, Past, Rename}
-use Rattle.disk_model.specs.Judge.{list_of}
-use Rattle.disk_model.specs.State.{State, run_entries, tree_of}
-use Rattle.disk_model.specs.Tree.{TreeNode, node_at}
+use Rattle.disk_model.specs.Journal.{Create, Done, Entry, Own, Past, Rename}
+use Rattle.disk_model.specs.State.{State}
 use Rattle.folder_letters.specs.Letters.{Mail}
 use Rattle.folder_core.specs.Directory.{path_in}
 use Rattle.folder_core.specs.Maildir.{directory}
 use Rattle.folder_core.specs.MaildirNames.{split_name}
+use Rattle.folder_changes.specs.Refused.{StepRefused}
+use Rattle.folder_changes.specs.Worked.{WasCause}
+use Rattle.disk_model.specs.State.{tree_at}
+use Rattle.disk_model.specs.Journal.{Refused}
+use Rattle.disk_model.specs.declared.answers.DiskError.TheVariants.{Exists}
+use Rattle.std.specs.Prelude.{◌≤◌, drop, is_some, take}
 use Rattle.folder_changes.specs.declared.item.Item.{Item}
-use Rattle.folder_changes.specs.declared.sync_error.Spot.TheVariants.{Name}
-use Rattle.folder_changes.specs.declared.sync_error.SyncError.{SyncError}
-use Rattle.folder_changes.specs.declared.sync_error.SyncError.TheVariants.{Changed, Fault}
-use Rattle.folder_changes.specs.declared.sync_error.SyncError.TheVariants.{NoMemory, NotFolder}
 use Rattle.folder_drivers.specs.AppendRow.{AppendRow}
 use Rattle.folder_drivers.specs.FirstLooking.{LooksFirst}
+use Rattle.folder_drivers.specs.MetNames.{SawNames}
+use Rattle.folder_drivers.specs.Refusing.{AppendErrors}
 use Rattle.folder_shapes.specs.Maildir.{maildir_files}
 use Rattle.folder_stops.specs.Along.{Grown}
 use Rattle.folder_stops.specs.Words.{Among}
 use Rattle.maildir_names.specs.MaildirName.{name_of}
-
--- Names that looks have met.
-
--- these are the names in the directory, or there are none and nothing stands there
-abbrev pub IsListing : List ℕ → List (List ℕ) → List TreeNode → Type 0
-IsListing dir names tree =
-    (Ok names ≡ list_of tree dir) ⊎ ((names ≡ []) × (node_at tree dir ≡ None))
-
--- One of our calls met these names in the directory.
-pub record MetNames (dir : List ℕ) (names : List (List ℕ)) (state : State) (entries : List Entry)
-    : Type 0 where
-  pub before : List Entry
-  pub answer : Answer
-  pub after : List Entry
-  pub is : entries ≡ before ++ Own (ListDir dir) answer ∷ after
-  pub told : IsListing dir names (tree_of (run_entries before state))
-
--- The past went on by entries of which that is so.
-pub record SawNames (dir : List ℕ) (names : List (List ℕ)) (old new : Option Past) : Type 0 where
-  pub grown : Grown old new (MetNames dir names)
+use Rattle.disk_model.specs.Journal.{Answer, ListDir, Refused}
+use Rattle.disk_model.specs.Tree.{TreeNode, node_at}
+use Rattle.folder_changes.specs.declared.sync_error.Spot.TheVariants.{Name}
+use Rattle.folder_changes.specs.declared.sync_error.SyncError.{SyncError}
+use Rattle.folder_changes.specs.declared.sync_error.SyncError.TheVariants.{Changed, Fault}
+use Rattle.folder_changes.specs.declared.sync_error.SyncError.TheVariants.{NoMemory, NotFolder}
 
 -- The base.
 
@@ -137,13 +125,36 @@ pub record WasNamed (dir : List ℕ) (mails : List Mail) (item : Item) (old new 
   pub first : IsFirstFree (is_taken cur new_names tmp (keys_of mails)) (seconds_of item.moment) base
   pub steps : Grown old new (MadeAndNamed dir base item.flags)
 
--- how it may be refused
-abbrev pub MaildirAppendErrors : SyncError → Type 0
-MaildirAppendErrors (Changed (Name name)) = Unit {0}
-MaildirAppendErrors Fault = Unit {0}
-MaildirAppendErrors NoMemory = Unit {0}
-MaildirAppendErrors NotFolder = Unit {0}
-MaildirAppendErrors why = ⊥
+-- Why it was refused.
+
+-- something stands at the path
+abbrev pub is_there : List ℕ → List TreeNode → Bool
+is_there at tree = is_some (node_at tree at)
+
+-- Others put a file there with which a message was to begin: nothing stood there when our call
+-- listed `tmp`, something did when our call was to make it, and that was no doing of ours.
+pub record WasPut (dir name : List ℕ) (m n : ℕ) (past : Past) : Type 0 where
+  pub base : List ℕ
+  pub is_base : IsBase base
+  pub named : name ≡ beside_at dir base
+  pub listed : ℕ
+  pub from : m ≤ listed
+  pub answer : Answer
+  pub call : take 1 (drop listed past.journal)
+      ≡ Own (ListDir (path_in dir (codes "tmp"))) answer ∷ []
+  pub free : is_there name (tree_at past listed) ≡ false
+  pub put : WasCause (is_there name) listed n past
+  pub refused : take 1 (drop put.mark past.journal) ≡ Own (Create name) (Refused Exists 0) ∷ []
+
+-- why the adding of a message was refused between two marks: others put the file there with which
+-- it was to begin; a call of ours was refused for a state that is no doing of ours; the disk
+-- failed, or memory ran out
+abbrev pub MaildirAppendRefused : List ℕ → SyncError → ℕ → ℕ → Past → Type 0
+MaildirAppendRefused dir (Changed (Name name)) m n past = WasPut dir name.items m n past
+MaildirAppendRefused dir NotFolder m n past = StepRefused (λ call. Unit {0}) m n past
+MaildirAppendRefused dir Fault m n past = Unit {0}
+MaildirAppendRefused dir NoMemory m n past = Unit {0}
+MaildirAppendRefused dir why m n past = ⊥
 
 -- adding a message to a Maildir
 abbrev pub maildir_additions : AppendRow
@@ -151,6 +162,7 @@ maildir_additions = record {
   files = maildir_files;
   core = λ text. text;
   Works = WasNamed;
-  MayBe = MaildirAppendErrors;
+  MayBe = AppendErrors;
+  Refused = MaildirAppendRefused;
   Looked = λ path result old new. LooksFirst (directory true path) result old new;
 }

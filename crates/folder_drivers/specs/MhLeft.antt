@@ -1,13 +1,12 @@
--- What a sync of an MH folder leaves of what is known, which messages a stop may take, and why it is
--- refused.
+-- What a sync of an MH folder leaves of what is known, which messages a stop may take, and why it
+-- is refused.
 use Rattle.std.specs.Prelude.{◌≡◌, ◌≤◌, ◌==◌, ◌&&◌, ◌⊎◌, ◌∷◌, [], ℕ, Bool, true, false, not, length}
 use Rattle.std.specs.Prelude.{List, Option, Some, None, is_some}
 use Rattle.std.specs.Prelude.{if◌then◌else◌}
 use Rattle.mail_base.specs.Ordered.{IsIn}
 use Rattle.mail_base.specs.declared.kind.Id.{Id}
 use Rattle.mail_base.specs.declared.kind.Kind.TheVariants.{Mh}
-use Rattle.disk_model.specs.Journal.{Call, Create, Past, ReadAll, Remove, Rename}
-use Rattle.disk_model.specs.Journal.{StatPath, Sync, SyncDir, WriteAt}
+use Rattle.disk_model.specs.Journal.{Call, Create, Past, Remove, Rename, Sync, SyncDir, WriteAt}
 use Rattle.disk_model.specs.Judge.{GoesOn}
 use Rattle.disk_model.specs.State.{tree_at}
 use Rattle.disk_model.specs.Tree.{TreeNode, node_at}
@@ -17,10 +16,10 @@ use Rattle.folder_letters.specs.declared.listing.Listed.{Listed}
 use Rattle.folder_core.specs.Directory.{path_in}
 use Rattle.folder_core.specs.Keeping.{mail_of}
 use Rattle.folder_core.specs.Known.{KnownFolder}
-use Rattle.folder_core.specs.Mh.{sequences_path}
+use Rattle.folder_core.specs.Mh.{is_number, sequences_path}
 use Rattle.folder_changes.specs.Asked.{discarded, ids_of}
 use Rattle.folder_changes.specs.Left.{listing_synced}
-use Rattle.folder_changes.specs.Refused.{WasRefused}
+use Rattle.folder_changes.specs.Refused.{StepRefused}
 use Rattle.folder_changes.specs.Worked.{WasCause}
 use Rattle.folder_changes.specs.declared.sync_error.Spot.TheVariants.{Name}
 use Rattle.folder_changes.specs.declared.sync_error.SyncError.{SyncError}
@@ -76,7 +75,7 @@ stamp_known (listed ∷ listing) (stamp ∷ stamps) id =
 
 -- what stands there is a file with this stamp
 abbrev pub bears : Option ℕ → Option TreeNode → Bool
-bears None node = false
+bears None at = false
 bears (Some stamp) None = false
 bears (Some stamp) (Some node) = is_some node.bytes && node.stamp == stamp
 
@@ -107,8 +106,8 @@ pub record NamesDiscard (known : KnownFolder) (mails : List Mail) (changes : Lis
   pub bore : GoesOn (λ p q. BoreStamp known mails id (length p.journal) (length q.journal) q)
       old new
 
--- A stop leaves each message but some that are discarded, whose files were those that were read, and
--- what others brought.
+-- A stop leaves each message but some that are discarded, whose files were those that were read,
+-- and what others brought.
 pub record KeepsNumbers (known : KnownFolder) (mails : List Mail) (changes : List Changed)
     (old new : Option Past) : Type 0 where
   pub keys : List (List ℕ)
@@ -119,7 +118,6 @@ pub record KeepsNumbers (known : KnownFolder) (mails : List Mail) (changes : Lis
 
 -- the call needs the folder, its sequences or a side file of ours
 abbrev pub IsFolderCall : List ℕ → Call → Type 0
-IsFolderCall path (ReadAll at limit) = at ≡ sequences_path path
 IsFolderCall path (Create at) = at ≡ new_sequences_path path
 IsFolderCall path (WriteAt at place piece) = at ≡ new_sequences_path path
 IsFolderCall path (Sync at) = at ≡ new_sequences_path path
@@ -129,9 +127,8 @@ IsFolderCall path (Remove at) = (at ≡ new_sequences_path path) ⊎ (at ≡ app
 IsFolderCall path (SyncDir at) = at ≡ path
 IsFolderCall path call = ⊥
 
--- the call needs the file of a number
+-- the call takes the file of a number out of the folder
 abbrev pub IsNumberCall : List ℕ → List ℕ → Call → Type 0
-IsNumberCall path key (StatPath at) = at ≡ path_in path key
 IsNumberCall path key (Rename from to) =
     (from ≡ path_in path key) × (to ≡ away_path path key)
 IsNumberCall path key (Remove at) = at ≡ path_in path key
@@ -144,28 +141,29 @@ pub record IsNumberPath (known : KnownFolder) (mails : List Mail) (changes : Lis
   pub among : IsIn id (ids_of changes)
   pub at : name ≡ path_in known.path (mail_of mails id.0).key
 
--- A step of ours was refused that needs the folder.
-pub record FolderRefused (path : List ℕ) (m n : ℕ) (past : Past) : Type 0 where
-  pub call : Call
-  pub needs : IsFolderCall path call
-  pub refused : WasRefused call m n past
+-- No file with the stamp with which a message was read stood at a path, which is no doing of ours.
+pub record WasUnlike (known : KnownFolder) (id : Id) (name : List ℕ) (m n : ℕ) (past : Past)
+    : Type 0 where
+  pub stamp : ℕ
+  pub is_known : stamp_known known.listing known.stamps id.0 ≡ Some stamp
+  pub cause : WasCause (bears_no (Some stamp) name) m n past
 
--- The path is that of one of the messages that change, and at it no file stood with the stamp with
--- which it was read, or a step of ours was refused that needs it.
+-- The path is that of one of the messages that change. Its key is no number; or no file with the
+-- stamp with which it was read stood there; or the step that takes its file out of the folder was
+-- refused.
 pub record NumberRefused (known : KnownFolder) (mails : List Mail) (changes : List Changed)
     (name : List ℕ) (m n : ℕ) (past : Past) : Type 0 where
-  pub id : Id
-  pub among : IsIn id (ids_of changes)
-  pub at : name ≡ path_in known.path (mail_of mails id.0).key
-  pub cause : WasCause (bears_no (stamp_known known.listing known.stamps id.0) name) m n past
-      ⊎ ((call : Call) × IsNumberCall known.path (mail_of mails id.0).key call
-      × WasRefused call m n past)
+  pub of : IsNumberPath known mails changes name
+  pub why : (is_number (mail_of mails of.id.0).key ≡ false)
+      ⊎ WasUnlike known of.id name m n past
+      ⊎ StepRefused (IsNumberCall known.path (mail_of mails of.id.0).key) m n past
 
--- why a sync was refused between two marks: the folder or a message was not as it is known and as a
--- step needs it, the disk failed, or memory ran out
+-- why a sync was refused between two marks: a step was refused that needs the folder, a message was
+-- not as it is known, or the step of its file was refused; the disk failed, or memory ran out. No
+-- state is a cause that our own steps have made.
 abbrev pub MhRefused : KnownFolder → List Mail → List Changed → SyncError → ℕ → ℕ → Past → Type 0
 MhRefused known mails changes (IsChanged (Name name)) m n past =
-    ((name.items ≡ known.path) × FolderRefused known.path m n past)
+    ((name.items ≡ known.path) × StepRefused (IsFolderCall known.path) m n past)
     ⊎ NumberRefused known mails changes name.items m n past
 MhRefused known mails changes Fault m n past = Unit {0}
 MhRefused known mails changes NoMemory m n past = Unit {0}

@@ -1,5 +1,5 @@
 -- Paths in an MH folder that are not of messages (mh-mail(5)).
-use Rattle.std.specs.Prelude.{◌++◌, ℕ, Bool, true, false, List, codes}
+use Rattle.std.specs.Prelude.{◌≡◌, ◌⊎◌, ◌++◌, ℕ, Bool, true, false, List, codes}
 use Rattle.disk_model.specs.Journal.{Call, Remove, Rename}
 use Rattle.folder_core.specs.Directory.{path_in}
 
@@ -10,6 +10,10 @@ new_sequences_path path = path_in path (codes ".mh_sequences.new")
 -- the file in which a message that is added is written, before it is put in place
 abbrev pub append_path : List ℕ → List ℕ
 append_path path = path_in path (codes ".mutt_append")
+
+-- one of these two
+abbrev pub IsSidePath : List ℕ → List ℕ → Type 0
+IsSidePath path at = (at ≡ new_sequences_path path) ⊎ (at ≡ append_path path)
 
 -- where the file of a number goes that is taken out of the folder but kept
 abbrev pub away_path : List ℕ → List ℕ → List ℕ

@@ -1,12 +1,12 @@
--- What a sync of an MH folder does (mh-mail(5), mh-sequence(5)): the flags of all messages change at
--- once, as new sequences are put in place, and then the files of discarded messages go.
+-- What a sync of an MH folder does (mh-mail(5), mh-sequence(5)): the flags of all messages change
+-- at once, as new sequences are put in place, and then the files of discarded messages go.
 use Rattle.std.specs.Prelude.{◌≡◌, ◌≢◌, ◌≤◌, ◌<◌, ◌+◌, ◌⊎◌, ◌∷◌, [], ℕ, true, not, length}
 use Rattle.std.specs.Prelude.{Bool, List, Option, Some, None, Result, Ok, Err, map, option_map}
 use Rattle.std.specs.Prelude.{codes, drop, take}
 use Rattle.mail_base.specs.Flags.{applied, stored}
 use Rattle.mail_base.specs.declared.flags.Flags.{Flags}
 use Rattle.mail_base.specs.declared.kind.Kind.TheVariants.{Mh}
-use Rattle.disk_model.specs.Journal.{Done, Own, Past}
+use Rattle.disk_model.specs.Journal.{Action, Done, Others, Own, Past}
 use Rattle.disk_model.specs.Judge.{GoesOn, IsLonger}
 use Rattle.disk_model.specs.State.{tree_at}
 use Rattle.index_items.specs.Changes.{Changed, PlainChange, Alters, Discards}
@@ -19,7 +19,8 @@ use Rattle.folder_changes.specs.Asked.{what_of}
 use Rattle.folder_changes.specs.Wanted.{wanted}
 use Rattle.folder_changes.specs.Worked.{due, own_at}
 use Rattle.folder_changes.specs.declared.sync_error.SyncError.{SyncError}
-use Rattle.folder_drivers.specs.MhNames.{call_away}
+use Rattle.folder_drivers.specs.MhNames.{call_away, new_sequences_path}
+use Rattle.folder_stops.specs.Others.{SparesPath}
 use Rattle.mh_sequences.specs.SequenceLine.{PlainLine}
 use Rattle.mh_sequences.specs.Sequences.{file_of, put, sequences_of, without_number}
 
@@ -111,11 +112,18 @@ pub record WorksByNumber (purge : Bool) (path : List ℕ) (mails : List Mail) (c
       → mh_at path past (mark + 1)
       ≡ option_map (wanted Mh (due step part mark)) (mh_at path past mark)
 
--- A told past goes on so, however it goes on behind.
+-- between two marks others leave the file alone in which new sequences are written
+abbrev pub OthersSpare : List ℕ → ℕ → ℕ → Past → Type 0
+OthersSpare path m n past = (mark : ℕ) (action : Action) → m ≤ mark → mark < n
+    → take 1 (drop mark past.journal) ≡ Others action ∷ []
+    → SparesPath (new_sequences_path path) action
+
+-- A told past goes on so, however it goes on behind, where others leave that file alone.
 pub record DoesByNumber (purge : Bool) (path : List ℕ) (mails : List Mail) (changes : List Changed)
     (part : List ℕ → Option PlainChange) (old new : Past) : Type 0 where
   pub longer : IsLonger old new
   pub does : (past : Past) → IsLonger new past
+      → OthersSpare path (length old.journal) (length new.journal) past
       → WorksByNumber purge path mails changes part (length old.journal) (length new.journal) past
 
 -- A told past goes on by calls of ours that leave the messages as they were.
@@ -126,8 +134,8 @@ pub record LeavesNumbers (path : List ℕ) (old new : Past) : Type 0 where
       → mh_at path past (mark + 1) ≡ mh_at path past mark
 
 -- Nothing was done, or new sequences were put in place and a part of what is discarded went.
-pub record DoesSomeByNumber (purge : Bool) (path : List ℕ) (mails : List Mail) (changes : List Changed)
-    (old new : Past) : Type 0 where
+pub record DoesSomeByNumber (purge : Bool) (path : List ℕ) (mails : List Mail)
+    (changes : List Changed) (old new : Past) : Type 0 where
   pub part : List ℕ → Option PlainChange
   pub within : (key : List ℕ) → part key ≢ None
       → part key ≡ discards_of (what_of mails changes) key

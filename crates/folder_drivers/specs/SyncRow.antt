@@ -1,11 +1,12 @@
 -- What a sync of a kind of folders is, for all that stands above the kinds.
-use Rattle.std.specs.Prelude.{◌≡◌, ℕ, Bool, List, Option, None, Result, IfErr, OnErr, OnOk, length}
+use Rattle.std.specs.Prelude.{◌≡◌, ℕ, Bool, List, Option, None, Result, IfErr, OnErr, OnOk}
 use Rattle.disk_model.specs.Journal.{Past}
 use Rattle.disk_model.specs.Seen.{Seen}
 use Rattle.index_items.specs.Changes.{Changed}
 use Rattle.folder_letters.specs.Letters.{Mail}
 use Rattle.folder_core.specs.Known.{KnownFolder}
 use Rattle.folder_changes.specs.Serving.{Serves}
+use Rattle.folder_changes.specs.Refused.{IsBetween}
 use Rattle.folder_changes.specs.declared.sync_error.SyncError.{SyncError}
 use Rattle.folder_stops.specs.Does.{Does}
 
@@ -20,17 +21,11 @@ pub record SyncRow : Type 1 where
   pub synced : List Changed → KnownFolder → KnownFolder
   -- how it may be refused
   pub MayBe : KnownFolder → List Mail → List Changed → SyncError → Type 0
-  -- why it was refused so between two marks of a past
+  -- why it was refused so between two marks of a past, as far as that is told
   pub Refused : KnownFolder → List Mail → List Changed → SyncError → ℕ → ℕ → Past → Type 0
   -- the paths that it may change, and those of files with which a message begins
   pub home : List ℕ → List ℕ → Bool
   pub making : List ℕ → List ℕ → Option (List ℕ)
-
--- a refusal had its cause between the ends of two journals
-abbrev pub HadCause : SyncRow → KnownFolder → List Mail → List Changed → SyncError → Past → Past
-    → Type 0
-HadCause row known mails changes why old new =
-    row.Refused known mails changes why (length old.journal) (length new.journal) new
 
 -- A sync of a folder of a kind. Where it is answered Ok, all that is wanted was done, and what is
 -- known is so; after a refusal a part of it was done or nothing, what is known is as before, and
@@ -45,4 +40,6 @@ pub record SyncsAs (row : SyncRow) (purge : Bool) (mails : List Mail) (changes :
   pub ok_known : OnOk result (new_known ≡ row.synced changes known)
   pub err_known : OnErr result (new_known ≡ known)
   pub may_be : IfErr result (row.MayBe known mails changes)
+  pub cause : IfErr result (λ why.
+      IsBetween (row.Refused known mails changes why) old.told new.told)
   pub serves : Serves result old new

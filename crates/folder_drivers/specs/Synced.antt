@@ -8,6 +8,7 @@ use Rattle.index_items.specs.Changes.{Changed}
 use Rattle.folder_letters.specs.Letters.{Mail}
 use Rattle.folder_core.specs.Known.{KnownFolder}
 use Rattle.folder_core.specs.Right.{Right}
+use Rattle.folder_changes.specs.Refused.{Untold}
 use Rattle.folder_changes.specs.declared.sync_error.SyncError.{SyncError}
 use Rattle.folder_changes.specs.declared.sync_error.SyncError.TheVariants.{NotFolder}
 use Rattle.folder_drivers.specs.MaildirSync.{maildir_syncs}
@@ -25,7 +26,7 @@ unwritten_syncs = record {
   Keeps = λ known mails changes old new. new ≡ old;
   synced = λ changes known. known;
   MayBe = λ known mails changes why. why ≡ NotFolder;
-  Refused = λ known mails changes why m n past. Unit {0};
+  Refused = λ known mails changes why. Untold;
   home = λ path other. false;
   making = λ path other. None;
 }

@@ -7,6 +7,7 @@ ghost use Rattle.folder_core.specs.Right.{Right};
 ghost use Rattle.folder_core.specs.Scanned.{Scans};
 ghost use Rattle.folder_changes.specs.Asked.{AreListed, AreOnce};
 ghost use Rattle.folder_drivers.specs.Appended.{Appends};
+ghost use Rattle.folder_drivers.specs.Made.{Makes};
 ghost use Rattle.folder_drivers.specs.Recovered.{Recovers};
 ghost use Rattle.folder_drivers.specs.Synced.{Syncs};
 ghost use Rattle.index_items.specs.Changes.{plain_changes};
@@ -94,5 +95,12 @@ pub trait Driver: Drop {
     ) -> Result<(), SyncError>
         ensures { Appends (sort self.now) path.now (map plain_letter archive.now.items) item.now
             result (seen (dev.old.disk.vtable, dev.old.disk.value))
+            (seen (dev.new.disk.vtable, dev.new.disk.value)) };
+
+    /// Makes an empty folder at a path, or what is missing of one that was begun. A folder that
+    /// stands there keeps its messages.
+    fn make(&self, alloc: Global, dev: &mut Device, path: &str) -> Result<(), SyncError>
+        ensures { Makes (sort self.now) path.now result
+            (seen (dev.old.disk.vtable, dev.old.disk.value))
             (seen (dev.new.disk.vtable, dev.new.disk.value)) };
 }

@@ -7,6 +7,7 @@ ghost use Rattle.folder_core.specs.Right.{Right};
 ghost use Rattle.folder_core.specs.Scanned.{Scans};
 ghost use Rattle.folder_changes.specs.Asked.{AreListed, AreOnce};
 ghost use Rattle.folder_drivers.specs.Appended.{Appends};
+ghost use Rattle.folder_drivers.specs.Made.{Makes};
 ghost use Rattle.folder_drivers.specs.Recovered.{Recovers};
 ghost use Rattle.folder_drivers.specs.Synced.{Syncs};
 ghost use Rattle.index_items.specs.Changes.{plain_changes};
@@ -175,6 +176,24 @@ impl Drivers {
         };
         append_at(&**driver, alloc, dev, path, owner, archive, item)
     }
+
+    /// Makes a folder by the driver of the kind, as its own `make`.
+    pub fn make(
+        &self,
+        alloc: Global,
+        kind: Kind,
+        dev: &mut Device,
+        path: &str,
+    ) -> Result<(), SyncError>
+        requires has { Any (λ d. sort d ≡ kind) self.now.list.items }
+        ensures { Makes kind path.now result (seen (dev.old.disk.vtable, dev.old.disk.value))
+            (seen (dev.new.disk.vtable, dev.new.disk.value)) }
+    {
+        let Some(driver) = self.get(kind) else {
+            unreachable!()
+        };
+        make_at(&**driver, alloc, dev, path)
+    }
 }
 
 fn kind_of_box(driver: &Box<dyn Driver>) -> Kind
@@ -256,4 +275,18 @@ fn append_at(
         (seen (dev.new.disk.vtable, dev.new.disk.value)) }
 {
     driver.append(alloc, dev, path, owner, archive, item)
+}
+
+/// Hands the device on to the driver's own method.
+fn make_at(
+    driver: &dyn Driver,
+    alloc: Global,
+    dev: &mut Device,
+    path: &str,
+) -> Result<(), SyncError>
+    ensures { Makes (sort driver.now) path.now result
+        (seen (dev.old.disk.vtable, dev.old.disk.value))
+        (seen (dev.new.disk.vtable, dev.new.disk.value)) }
+{
+    driver.make(alloc, dev, path)
 }

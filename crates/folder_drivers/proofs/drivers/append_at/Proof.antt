@@ -18,7 +18,7 @@ use denote.Builtin.{u8, unit}
 use denote.Param.Laws.{Laws, of_field}
 use denote.Param.Shared.{copy_shared}
 use denote.Struct.Field.{unit-field}
-use denote.Struct.Laws.{FLaws, unit-laws, unit-copy}
+use denote.Struct.Laws.{unit-laws, unit-copy}
 use denote.Slice.{shr_slice_vals, shr_slice_Tells, shr_slice_Lawful}
 use denote.Text.{StrRefOf, str-laws}
 use denote.Exit.{yes}

@@ -1,0 +1,11 @@
+pub mod Preparing
+pub mod Refusing
+pub mod FirstLooking
+pub mod MetNames
+pub mod Sturdy
+pub mod Touching
+pub mod MhMessages
+pub mod MhCalls
+pub mod SliceLemmas
+pub mod NodeLemmas
+pub mod Causing
