@@ -20,14 +20,13 @@ use Rattle.folder_shapes.specs.Maildir.{maildir_files, maildir_making, maildir_s
 use Rattle.folder_shapes.proofs.MaildirLemmas.{a_maildir, maildir_formed}
 use Rattle.maildir_appends.proofs.Paths.{item_fits, made_side}
 use Rattle.maildir_appends.specs.Placing.{IsPlaced, PutsAt}
-use Rattle.disk_model.specs.Journal.{Action, Entry, Others, Own}
+use Rattle.disk_model.specs.Journal.{Own}
 use Rattle.disk_model.specs.Judge.{Grows}
 use Rattle.disk_model.proofs.Looking.{grows_then}
-use Rattle.folder_stops.specs.Along.{Grown}
 use Rattle.folder_stops.specs.Words.{Among}
 use Rattle.folder_stops.proofs.Along.{grown_map, grown_then}
 use Rattle.folder_stops.proofs.Among.{among_left, among_more, among_right, done_among}
-use Rattle.std.proofs.Common.{◌++◌, ◌∷◌, inl, map, subst, sym}
+use Rattle.std.proofs.Common.{subst}
 
 -- the making of its file was refused
 pub not_begun : (dir core : List ℕ) {e : DiskError} {beside key : List ℕ}

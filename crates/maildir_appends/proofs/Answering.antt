@@ -1,119 +1,51 @@
 -- What the adding of a message answers.
-use Rattle.std.proofs.Common.{◌≡◌, ◌≤◌, ℕ, ℤ, true, List, Option, Some, None, Result, Ok, Err, map}
-use Rattle.std.proofs.Common.{ap, arith, refl, subst, sym, ◌∙◌}
-use Rattle.std.specs.Prelude.{IfErr, OnOk}
+use Rattle.std.proofs.Common.{◌≡◌, ℕ, true, List, Option, None, Result, Ok, Err, map}
+use Rattle.std.proofs.Common.{ap, subst}
 use Rattle.std.specs.String.{string_bytes}
 use Rattle.mail_base.specs.declared.flags.Flags.{Flags}
-use Rattle.disk_model.specs.Judge.{Counted, Grows}
 use Rattle.disk_model.specs.Seen.{Seen}
-use Rattle.disk_model.specs.declared.answers.DiskError.{DiskError}
-use Rattle.disk_model.specs.declared.answers.DiskError.TheVariants as disk
 use Rattle.folder_core.specs.Maildir.{directory}
-use Rattle.folder_core.proofs.SeenLemmas.{goes_as}
 use Rattle.folder_letters.specs.Letters.{Mail, plain_letter}
 use Rattle.folder_letters.specs.declared.letter.Letter.{Letter}
-use Rattle.folder_changes.specs.Serving.{IsErrorAt, Serves}
-use Rattle.folder_changes.specs.Refused.{refused_by}
+use Rattle.folder_changes.specs.Refused.{IsBetween}
 use Rattle.folder_changes.specs.declared.item.Item.{Item}
-use Rattle.folder_changes.specs.declared.sync_error.Spot.TheVariants.{At, Name}
 use Rattle.folder_changes.specs.declared.sync_error.SyncError.{SyncError}
-use Rattle.folder_changes.specs.declared.sync_error.SyncError.TheVariants.{Changed, Fault, Locked}
-use Rattle.folder_changes.specs.declared.sync_error.SyncError.TheVariants.{NoMemory, NotFolder}
-use Rattle.folder_changes.specs.declared.sync_error.SyncError.TheVariants.{TooLarge, TooMany}
-use Rattle.folder_changes.specs.declared.sync_error.SyncError.TheVariants.{Unfinished}
+use Rattle.folder_changes.specs.declared.sync_error.SyncError.TheVariants.{Fault}
 use Rattle.folder_drivers.specs.AppendRow.{AppendsAs}
 use Rattle.folder_drivers.specs.FirstLooking.{LooksFirst, MeetsFolder}
 use Rattle.disk_model.specs.Journal.{Create, Done, Own, Past, Rename}
 use Rattle.folder_stops.specs.Words.{Among}
 use Rattle.std.proofs.Common.{◌++◌}
-use Rattle.folder_drivers.specs.MaildirAppend.{IsFirstFree, MadeAndNamed, MaildirAppendErrors}
-use Rattle.folder_drivers.specs.MaildirAppend.{MetNames, SawNames, WasNamed, beside_at}
-use Rattle.folder_drivers.specs.MaildirAppend.{maildir_additions, place_at, seconds_of}
+use Rattle.folder_drivers.specs.MaildirAppend.{IsFirstFree, MadeAndNamed}
+use Rattle.folder_drivers.specs.MaildirAppend.{MaildirAppendRefused}
+use Rattle.folder_drivers.specs.MaildirAppend.{beside_at}
+use Rattle.folder_drivers.specs.MaildirAppend.{maildir_additions, seconds_of}
 use Rattle.folder_shapes.specs.Maildir.{maildir_files}
 use Rattle.folder_shapes.proofs.MaildirLemmas.{a_maildir}
 use Rattle.folder_stops.specs.Along.{Grown}
 use Rattle.folder_stops.specs.Appends.{AddedSome, AddsSome}
-use Rattle.folder_stops.proofs.Along.{grown_map, grown_then}
+use Rattle.folder_stops.proofs.Along.{grown_then}
 use Rattle.maildir_appends.specs.Placing.{AreChosen, AreOf, PutsAt}
-use Rattle.maildir_appends.specs.Preparing.{Prepares}
-use Rattle.maildir_appends.specs.Refusing.{BlamesDisk}
-use Rattle.maildir_appends.specs.Taken.{is_taken, plain_names}
+use Rattle.folder_drivers.specs.Preparing.{Prepares}
+use Rattle.folder_drivers.specs.Refusing.{BlamesDisk}
+use Rattle.maildir_appends.specs.Taken.{is_taken}
+use Rattle.folder_drivers.specs.MetNames.{plain_names}
 use Rattle.maildir_appends.specs.declared.places.Places.{Places}
 use Rattle.folder_stops.proofs.Among.{among_right}
-use Rattle.maildir_appends.proofs.FirstLooking as F
-use Rattle.maildir_appends.proofs.Meeting.{saw_longer}
+use Rattle.folder_drivers.proofs.FirstLooking as F
+use Rattle.folder_drivers.proofs.Refusing.{err_same, serves_adding}
+use Rattle.folder_drivers.proofs.MetNames.{saw_longer}
 use Rattle.maildir_appends.proofs.Paths.{item_fits}
-use Rattle.maildir_appends.proofs.Preparing as P
-
--- the past only grew
-adds_grows : (path core : List ℕ) {old new : Option Past} → AddsSome (maildir_files path) core old
-    new
-    → Grows old new
-adds_grows path core {old = old} {new = new} adds = goes_as old new (λ p q grown. record {
-  same_first = grown.same_first;
-  more = grown.more;
-  journal = grown.journal;
-}) adds.grown
-
--- what was kept and what the disk is blamed for
-pub serves_adding : {A : Type 0} (path core : List ℕ) (result : Result A SyncError) {old new : Seen}
-    → AddsSome (maildir_files path) core old.told new.told → BlamesDisk result old new
-    → Serves result old new
-serves_adding path core result adds blames = record {
-  grows = adds_grows path core adds;
-  marks = blames.marks;
-  faults = blames.faults;
-  cause = blames.cause;
-}
-
--- a path was named, or memory ran out for that
-named_may : (path : List ℕ) (why : SyncError) → IsErrorAt path why → MaildirAppendErrors why
-named_may path (Changed (Name name)) is = tt
-named_may path (Changed (At place)) is = is
-named_may path Locked is = is
-named_may path Unfinished is = is
-named_may path (TooMany count) is = is
-named_may path (TooLarge bytes) is = is
-named_may path Fault is = tt
-named_may path NoMemory is = tt
-named_may path NotFolder is = tt
-
-err_same : (a b : SyncError) → ◌≡◌ {A = Result (Unit {0}) SyncError} (Err a) (Err b) → a ≡ b
-err_same a b e = cc
-
--- a file was in the way, which is named
-pub blames_named : {A B : Type 0} (first : Result A SyncError) (path : List ℕ) (why : SyncError)
-    {old mid new : Seen} {e : DiskError} → BlamesDisk first old mid → e ≡ disk.Exists
-    → Counted {A = B} (Err e) mid new → IsErrorAt path why → (why ≡ Fault → ⊥)
-    → BlamesDisk {A = Unit {0}} (Err why) old new
-blames_named first path why before exists counted at no_fault = record {
-  marks = let after = counted.marks in omega (arith, before.marks, after);
-  faults = let after = counted.faults in omega (arith, before.faults, after);
-  cause = λ is. absurd (no_fault (err_same why Fault is));
-  errors = named_may path why at;
-}
-
--- all was done
-pub blames_none : {A B : Type 0} (first : Result A SyncError) {old mid new : Seen} {v : B}
-    → BlamesDisk first old mid → Counted (Ok v) mid new
-    → BlamesDisk {A = Unit {0}} (Ok tt) old new
-blames_none first before counted = record {
-  marks = let after = counted.marks in omega (arith, before.marks, after);
-  faults = let after = counted.faults in omega (arith, before.faults, after);
-  cause = λ is. absurd (none is);
-  errors = tt;
-}
-  where
-    none : ◌≡◌ {A = Result (Unit {0}) SyncError} (Ok tt) (Err Fault) → ⊥
-    none e = cc
+use Rattle.folder_drivers.proofs.Preparing as P
 
 -- the paths were not chosen
 pub not_chosen : (path : List ℕ) (mails : List Mail) (item : Item) (why : SyncError)
     {B : Type 0} (old new : Seen) → Prepares (maildir_files path) old.told new.told
     → LooksFirst {A = B} (directory true path) (Err why) old.told new.told
     → BlamesDisk {A = B} (Err why) old new
+    → IsBetween (MaildirAppendRefused path why) old.told new.told
     → AppendsAs maildir_additions path mails item (Err why) old new
-not_chosen path mails item why {B} old new prepares first blames =
+not_chosen path mails item why {B} old new prepares first blames cause =
     let keeps : AddsSome (maildir_files path) item.text.items old.told new.told =
     P.nothing_added (maildir_files path) (a_maildir path) item.text.items prepares in
     record {
@@ -122,7 +54,8 @@ not_chosen path mails item why {B} old new prepares first blames =
       works = tt;
       looked = first;
       may_be = blames.errors;
-      serves = serves_adding path item.text.items (Err why) keeps (record {
+      cause = cause;
+      serves = serves_adding (maildir_files path) item.text.items (Err why) keeps (record {
         marks = blames.marks;
         faults = blames.faults;
         cause = λ is. blames.cause (again (err_same why Fault is));
@@ -140,8 +73,9 @@ pub not_put : (path : List ℕ) (mails : List Mail) (item : Item) (why : SyncErr
     → MeetsFolder (directory true path) old.told mid
     → AddsSome (maildir_files path) text mid new.told
     → BlamesDisk {A = Unit {0}} (Err why) old new
+    → IsBetween (MaildirAppendRefused path why) old.told new.told
     → AppendsAs maildir_additions path mails item (Err why) old new
-not_put path mails item why text old mid new is prepares first some blames =
+not_put path mails item why text old mid new is prepares first some blames cause =
     let keeps : AddsSome (maildir_files path) item.text.items old.told new.told =
     P.then_some (maildir_files path) (a_maildir path) item.text.items
     (item_fits path item.text.items) is prepares some in
@@ -152,7 +86,8 @@ not_put path mails item why text old mid new is prepares first some blames =
       looked = F.found_then_refused (directory true path)
           (F.found_added (directory true path) first some);
       may_be = blames.errors;
-      serves = serves_adding path item.text.items (Err why) keeps blames;
+      cause = cause;
+      serves = serves_adding (maildir_files path) item.text.items (Err why) keeps blames;
     }
 
 -- the calls by which the file was named are among all
@@ -211,5 +146,6 @@ was_put path letters all item moment places text old mid new is_all is_moment is
       };
       looked = F.found_added (directory true path) first some;
       may_be = tt;
-      serves = serves_adding path item.text.items (Ok tt) keeps blames;
+      cause = tt;
+      serves = serves_adding (maildir_files path) item.text.items (Ok tt) keeps blames;
     }

@@ -1,8 +1,9 @@
 pub mod Naming
 pub mod Paths
-pub mod Preparing
 pub mod Adding
-pub mod Refusing
-pub mod FirstLooking
-pub mod Meeting
 pub mod Answering
+pub mod Standing
+pub mod Freeing
+pub mod Causing
+pub mod Putting
+pub mod Placed

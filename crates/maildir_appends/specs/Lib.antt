@@ -1,5 +1,4 @@
-pub mod Preparing
 pub mod Placing
-pub mod Refusing
 pub mod Taken
 pub mod Meeting
+pub mod Causes

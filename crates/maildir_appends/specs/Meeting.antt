@@ -1,15 +1,11 @@
 -- The names that the looks of an append have met.
-use Rattle.std.specs.Prelude.{◌≡◌, ◌⊎◌, ℕ, true, false, List, [], ◌∷◌, ◌++◌, Option, None, Ok}
+use Rattle.std.specs.Prelude.{ℕ, true, false, List, Option}
 use Rattle.std.specs.Prelude.{codes}
-use Rattle.disk_model.specs.Journal.{Answer, Entry, ListDir, Own, Past}
-use Rattle.disk_model.specs.Judge.{list_of}
-use Rattle.disk_model.specs.State.{State, run_entries, tree_of}
-use Rattle.disk_model.specs.Tree.{TreeNode, node_at}
+use Rattle.disk_model.specs.Journal.{Past}
 use Rattle.folder_core.specs.Directory.{path_in}
 use Rattle.folder_core.specs.Maildir.{directory}
-use Rattle.folder_stops.specs.Along.{Grown}
-use Rattle.folder_drivers.specs.MaildirAppend.{SawNames}
-use Rattle.maildir_appends.specs.Taken.{plain_names}
+use Rattle.folder_drivers.specs.MetNames.{SawNames}
+use Rattle.folder_drivers.specs.MetNames.{plain_names}
 use Rattle.maildir_appends.specs.declared.listing.Present.{Present}
 
 -- The names of all three directories were met.

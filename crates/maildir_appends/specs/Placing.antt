@@ -1,14 +1,16 @@
 -- Where a message of a Maildir is written first, and where it is put.
-use Rattle.std.specs.Prelude.{◌≡◌, ◌||◌, ℕ, Bool, List, Option, Some, None, codes}
+use Rattle.std.specs.Prelude.{false, true}
+use Rattle.std.specs.Prelude.{◌≡◌, ℕ, List, Option, Some, None}
 use Rattle.std.specs.String.{string_bytes}
 use Rattle.mail_base.specs.declared.flags.Flags.{Flags}
 use Rattle.disk_model.specs.Journal.{Create, Done, Own, Past, Rename}
 use Rattle.folder_stops.specs.Along.{Grown}
 use Rattle.folder_stops.specs.Words.{Among}
 use Rattle.folder_letters.specs.declared.letter.Letter.{Letter}
-use Rattle.folder_core.specs.Directory.{path_in}
 use Rattle.folder_core.specs.Maildir.{directory}
+use Rattle.folder_core.specs.Directory.{path_in}
 use Rattle.folder_shapes.specs.Maildir.{maildir_making, maildir_shape}
+use Rattle.maildir_appends.specs.Causes.{MeetsNone}
 use Rattle.maildir_appends.specs.Meeting.{SawPresent}
 use Rattle.folder_drivers.specs.MaildirAppend.{IsBase, IsFirstFree, beside_at, place_at}
 use Rattle.maildir_appends.specs.Taken.{is_taken}
@@ -34,6 +36,8 @@ pub record PutsAt (beside place : List ℕ) (old new : Option Past) : Type 0 whe
 pub record AreOf (dir base : List ℕ) (flags : Flags) (places : Places) : Type 0 where
   pub beside : string_bytes places.beside ≡ beside_at dir base
   pub place : string_bytes places.place ≡ place_at dir base flags
+  pub new : string_bytes places.new ≡ directory false dir
+  pub cur : string_bytes places.cur ≡ directory true dir
 
 -- The paths are those of a base with flags, the first of the moment that neither the names which
 -- the looks met nor the letters have taken.
@@ -45,3 +49,4 @@ pub record AreChosen (dir : List ℕ) (letters : List Letter) (moment : ℕ) (fl
   pub first : IsFirstFree (is_taken present letters) moment base
   pub is_base : IsBase base
   pub paths : AreOf dir base flags places
+  pub met : MeetsNone dir base old new

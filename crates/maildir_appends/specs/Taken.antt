@@ -2,13 +2,9 @@
 use Rattle.std.specs.Prelude.{ℕ, Bool, List, map}
 use Rattle.folder_letters.specs.Letters.{plain_letter}
 use Rattle.folder_letters.specs.declared.letter.Letter.{Letter}
-use Rattle.mail_base.specs.Series.{Held}
+use Rattle.folder_drivers.specs.MetNames.{plain_names}
 use Rattle.folder_drivers.specs.MaildirAppend.{is_taken as is_taken_by, keys_of}
 use Rattle.maildir_appends.specs.declared.listing.Present.{Present}
-
--- names as plain lists
-abbrev pub plain_names : Held (Held ℕ) → List (List ℕ)
-plain_names names = map (λ name. name.items) names.items
 
 -- the keys of letters
 abbrev pub letter_keys : List Letter → List (List ℕ)

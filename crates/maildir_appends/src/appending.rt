@@ -1,7 +1,12 @@
 //! Adding a message to a Maildir.
 
 ghost use Rattle.std.specs.Prelude.{◌≡◌, IfErr, IfOk, map, true};
+ghost use Rattle.disk_model.specs.Judge.{GoesOn};
 ghost use Rattle.folder_core.specs.Maildir.{directory};
+ghost use Rattle.folder_changes.specs.Calls.{GoesBy};
+ghost use Rattle.folder_drivers.specs.Refusing.{IsAny, RefusedFor};
+ghost use Rattle.maildir_appends.specs.Causes.{IsMakeIn};
+ghost use Rattle.folder_changes.specs.Refused.{IsBetween};
 ghost use Rattle.folder_drivers.specs.AppendRow.{AppendsAs};
 ghost use Rattle.folder_drivers.specs.FirstLooking.{LooksFirst};
 ghost use Rattle.folder_drivers.specs.MaildirAppend as spec;
@@ -9,8 +14,8 @@ ghost use Rattle.folder_drivers.specs.MaildirAppend.{maildir_additions};
 ghost use Rattle.folder_letters.specs.Letters.{plain_letter};
 ghost use Rattle.folder_shapes.specs.Maildir.{maildir_files};
 ghost use Rattle.maildir_appends.specs.Placing as placing;
-ghost use Rattle.maildir_appends.specs.Preparing.{Prepares};
-ghost use Rattle.maildir_appends.specs.Refusing.{BlamesDisk};
+ghost use Rattle.folder_drivers.specs.Preparing.{Prepares};
+ghost use Rattle.folder_drivers.specs.Refusing.{BlamesDisk};
 
 use crate::base::free_base;
 use crate::listing::list_names;
@@ -37,6 +42,9 @@ fn choose_places(
     ensures chosen { IfOk result (placing.AreChosen path.now archive.now moment flags
         (seen disk.old).told (seen disk.new).told) }
     ensures blames { BlamesDisk result (seen disk.old) (seen disk.new) }
+    ensures calls { GoesOn (GoesBy (IsMakeIn path.now)) (seen disk.old).told (seen disk.new).told }
+    ensures cause { IfErr result (λ why. IsBetween (RefusedFor IsAny why)
+        (seen disk.old).told (seen disk.new).told) }
 {
     let present = list_names(alloc, disk, path)?;
     let base = free_base(alloc, moment, &present, archive)?;

@@ -1,16 +1,23 @@
 //! What stands in the directories of a Maildir to which a message is added.
 
-ghost use Rattle.std.specs.Prelude.{◌≡◌, [], IfOk, None, true};
+ghost use Rattle.std.specs.Prelude.{◌≡◌, [], IfErr, IfOk, None, codes, true};
+ghost use Rattle.disk_model.specs.Judge.{GoesOn};
+ghost use Rattle.disk_model.specs.Looking.{LooksOnly};
+ghost use Rattle.folder_changes.specs.Calls.{GoesBy};
+ghost use Rattle.folder_drivers.specs.Refusing.{IsAny, IsMake};
+ghost use Rattle.maildir_appends.specs.Causes.{IsListOrMake, IsMakeIn, MeetsFree};
+ghost use Rattle.folder_drivers.specs.Refusing.{RefusedFor};
+ghost use Rattle.folder_changes.specs.Refused.{IsBetween};
 ghost use Rattle.folder_core.specs.Directory.{path_in as path_in_lem};
 ghost use Rattle.folder_core.specs.Maildir.{directory};
 ghost use Rattle.folder_shapes.specs.Maildir.{maildir_files};
 ghost use Rattle.folder_drivers.specs.FirstLooking.{LooksFirst};
-ghost use Rattle.folder_drivers.specs.MaildirAppend.{SawNames};
+ghost use Rattle.folder_drivers.specs.MetNames.{SawNames};
 ghost use Rattle.maildir_appends.specs.Meeting.{SawPresent};
 ghost use Rattle.maildir_appends.specs.Placing.{IsApart};
-ghost use Rattle.maildir_appends.specs.Preparing.{Prepares};
-ghost use Rattle.maildir_appends.specs.Refusing.{BlamesDisk};
-ghost use Rattle.maildir_appends.specs.Taken.{plain_names};
+ghost use Rattle.folder_drivers.specs.Preparing.{Prepares};
+ghost use Rattle.folder_drivers.specs.Refusing.{BlamesDisk};
+ghost use Rattle.folder_drivers.specs.MetNames.{plain_names};
 
 use disk_model::{Disk, DiskError};
 use folder_changes::SyncError;
@@ -34,6 +41,9 @@ fn cur_names(alloc: Global, disk: &mut dyn Disk, path: &str) -> Result<Names, Sy
     ensures saw { IfOk result (λ names. SawNames (directory true path.now) (plain_names names)
         (seen disk.old).told (seen disk.new).told) }
     ensures blames { BlamesDisk result (seen disk.old) (seen disk.new) }
+    ensures looks { LooksOnly (seen disk.old).told (seen disk.new).told }
+    ensures cause { IfErr result (λ why. IsBetween (RefusedFor IsAny why)
+        (seen disk.old).told (seen disk.new).told) }
 {
     let dir = path_in(alloc, path, "cur")?;
     let names = disk.list(alloc, dir.as_str())?;
@@ -47,6 +57,9 @@ fn make_dir(alloc: Global, disk: &mut dyn Disk, path: &str, dir: &str) -> Result
     ensures prepares { Prepares (maildir_files path.now) (seen disk.old).told (seen disk.new).told }
     ensures none { IfOk result (λ names. names.items ≡ []) }
     ensures blames { BlamesDisk result (seen disk.old) (seen disk.new) }
+    ensures calls { GoesOn (GoesBy (IsMake dir.now)) (seen disk.old).told (seen disk.new).told }
+    ensures cause { IfErr result (λ why. IsBetween (RefusedFor (IsMake dir.now) why)
+        (seen disk.old).told (seen disk.new).told) }
 {
     disk.make_dir(alloc, dir)?;
     Ok(Names::new(alloc))
@@ -64,11 +77,22 @@ fn names_or_none(
     ensures saw { IfOk result (λ names. SawNames (path_in_lem path.now word.now)
         (plain_names names) (seen disk.old).told (seen disk.new).told) }
     ensures blames { BlamesDisk result (seen disk.old) (seen disk.new) }
+    ensures calls { GoesOn (GoesBy (IsMake (path_in_lem path.now word.now)))
+        (seen disk.old).told (seen disk.new).told }
+    ensures meets { IfOk result (λ names. MeetsFree (path_in_lem path.now word.now)
+        (plain_names names) (seen disk.old).told (seen disk.new).told) }
+    ensures cause { IfErr result (λ why. IsBetween
+        (RefusedFor (IsListOrMake (path_in_lem path.now word.now)) why)
+        (seen disk.old).told (seen disk.new).told) }
 {
     let dir = path_in(alloc, path, word)?;
     match disk.list(alloc, dir.as_str()) {
         Ok(names) => Ok(names),
-        Err(DiskError::Missing) => make_dir(alloc, disk, path, dir.as_str()),
+        Err(DiskError::Missing) => {
+            // That the past is lawful tells that nothing stands in a directory that is not there.
+            let _ = disk.mark();
+            make_dir(alloc, disk, path, dir.as_str())
+        }
         Err(why) => Err(SyncError::from(why)),
     }
 }
@@ -81,6 +105,11 @@ pub fn list_names(alloc: Global, disk: &mut dyn Disk, path: &str) -> Result<Pres
     ensures saw { IfOk result (λ present. SawPresent path.now present
         (seen disk.old).told (seen disk.new).told) }
     ensures blames { BlamesDisk result (seen disk.old) (seen disk.new) }
+    ensures calls { GoesOn (GoesBy (IsMakeIn path.now)) (seen disk.old).told (seen disk.new).told }
+    ensures meets { IfOk result (λ present. MeetsFree (path_in_lem path.now (codes "tmp"))
+        (plain_names present.tmp) (seen disk.old).told (seen disk.new).told) }
+    ensures cause { IfErr result (λ why. IsBetween (RefusedFor IsAny why)
+        (seen disk.old).told (seen disk.new).told) }
 {
     let cur = cur_names(alloc, disk, path)?;
     let new = match names_or_none(alloc, disk, path, "new") {

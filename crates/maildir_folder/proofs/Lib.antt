@@ -9,7 +9,9 @@ pub mod Driving
 pub mod RenamingLemmas
 pub mod NamedFileLemmas
 pub mod NamingLemmas
+pub mod UnmadeLemmas
 pub mod StepLemmas
+pub mod CauseLemmas
 pub mod StopLemmas
 pub mod PlanLemmas
 pub mod SyncedLemmas

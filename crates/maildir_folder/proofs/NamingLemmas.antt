@@ -1,8 +1,7 @@
 -- Files that got their names in a sync.
-use Rattle.std.proofs.Common.{◌≡◌, ◌∷◌, ◌∙◌, ℕ, List, [], Option, Some, None, Ok, ap, subst, sym}
+use Rattle.std.proofs.Common.{◌≡◌, ◌∷◌, ◌∙◌, ℕ, List, [], Option, Some, None, ap, subst}
 use Rattle.disk_model.specs.Journal.{Done, Entry, Own, Past, Rename}
 use Rattle.disk_model.specs.Judge.{Grows, done_by}
-use Rattle.disk_model.specs.State.{State}
 use Rattle.mail_base.specs.declared.flags.Flags.{Flags}
 use Rattle.index_items.specs.Changes.{Alters, Changed, Discards, PlainChange}
 use Rattle.folder_letters.specs.Letters.{Mail}

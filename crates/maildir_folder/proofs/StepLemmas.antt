@@ -4,11 +4,19 @@ use Rattle.mail_base.specs.declared.kind.Id.{Id}
 use Rattle.std.proofs.Common.{◌⊎◌, inl, inr, sym}
 use Rattle.std.specs.Prelude.{IfErr}
 use Rattle.std.proofs.Common.{◌≡◌, ◌≢◌, ℕ, Bool, true, false, List, [], ◌∷◌, Option, Some, None}
+use Rattle.std.proofs.Common.{length}
+use Rattle.std.proofs.lemmas.Slice.Eq.{bytes_eq-Decides}
 use Rattle.std.proofs.Common.{Result, Ok, Err, refl, ◌∙◌, ap, subst, if◌then◌else◌}
 use Rattle.std.specs.Option.{option_or}
 use Rattle.std.specs.Str.{bytes_eq}
 use Rattle.disk_model.specs.Journal.{Refused}
 use Rattle.maildir_folder.proofs.NamingLemmas.{all_longer, named_longer, step_named}
+use Rattle.folder_changes.specs.Calls.{GoesBy}
+use Rattle.folder_changes.specs.Refused.{IsBetween, refuses}
+use Rattle.folder_changes.proofs.TraceLemmas.{IsUnmade, between_earlier, calls_for, calls_looked}
+use Rattle.folder_changes.proofs.TraceLemmas.{calls_then, refused_earlier}
+use Rattle.maildir_folder.specs.Causes.{CallCause, IsCallOf, IsStepCall, StepsCause}
+use Rattle.maildir_folder.proofs.UnmadeLemmas.{IsStepApart, on_changed, step_no_refusal}
 use Rattle.maildir_folder.specs.Steps.{DidNothing}
 use Rattle.folder_changes.specs.Maildir.{DoesPart}
 use Rattle.disk_model.specs.Journal.{Answer, Call, MakeDir, Own, Past, Remove, Rename}
@@ -33,7 +41,7 @@ use Rattle.folder_changes.specs.declared.sync_error.SyncError.TheVariants.{TooMa
 use Rattle.folder_changes.specs.declared.sync_error.SyncError.TheVariants.{Fault, NoMemory}
 use Rattle.folder_changes.specs.declared.sync_error.SyncError.TheVariants.{NotFolder}
 use Rattle.folder_changes.specs.declared.sync_error.Spot.TheVariants.{Name, At}
-use Rattle.folder_drivers.specs.MaildirSync.{AllNamed, IsFileOf, IsSyncError, WasNamed, WorksByName}
+use Rattle.folder_drivers.specs.MaildirSync.{AllNamed, IsFileOf, IsSyncError, WorksByName}
 use Rattle.folder_changes.specs.Serving.{IsErrorAt}
 use Rattle.folder_changes.specs.Asked.{ids_of}
 use Rattle.folder_changes.proofs.CallLemmas.{call_does, does_then, looked_does, removed_does}
@@ -44,6 +52,9 @@ use Rattle.folder_changes.specs.Maildir.{DidWanted}
 use Rattle.folder_changes.specs.Asked.{AreApart}
 use Rattle.maildir_folder.specs.Steps.{PlainStep, WasDone, call_by, call_of}
 use Rattle.folder_changes.specs.Asked.{what_of}
+
+true_false : ◌≡◌ {A = Bool} true false → ⊥
+true_false e = cc
 
 some_none : {A : Type 0} (x : A) → ◌≡◌ {A = Option A} (Some x) None → ⊥
 some_none x e = cc
@@ -247,6 +258,7 @@ pub record SoFar (path : List ℕ) (mails : List Mail) (changes : List Changed)
   pub grows : Grows old now
   pub names : (later : Option Past) → Grows now later → AllNamed path mails rest now later
       → AllNamed path mails changes old later
+  pub calls : GoesOn (GoesBy (IsStepApart path (what_of mails rest))) old now
 
 -- no step is taken
 pub so_far_first : (path : List ℕ) (mails : List Mail) (changes : List Changed)
@@ -260,6 +272,7 @@ so_far_first path mails changes steps told apart are = record {
   finishes = λ result later does. does;
   grows = looks_grows told told (looks_same told);
   names = λ later grows named. named;
+  calls = calls_looked (IsStepApart path (what_of mails changes)) told told (looks_same told);
 }
 
 -- a change of one key, and changes of others
@@ -273,13 +286,19 @@ one_apart base change what none key some = by (bytes_eq key base) refl some
     by true is some = ap what (bytes_same key base is) ∙ none
     by false is some = absurd (some refl)
 
+-- of two of which nothing is said the next says nothing
+none_next : (first next : Option PlainChange) → option_or first next ≡ None → next ≡ None
+none_next None next none = none
+none_next (Some change) next none = absurd (some_none change none)
+
 -- one step more is taken
 pub so_far_next : (path : List ℕ) (mails : List Mail) (changes : List Changed)
     (step : PlainStep) (left : List PlainStep) (old now next : Option Past)
     → SoFar path mails changes (step ∷ left) old now → Grows now next
+    → GoesOn (GoesBy (IsCallOf step)) now next
     → WasDone (call_of step) now next → SoFar path mails changes left old next
-so_far_next path mails changes step left old now next so_far went done =
-    by so_far.rest so_far.apart so_far.steps so_far.among so_far.finishes so_far.names
+so_far_next path mails changes step left old now next so_far went called done =
+    by so_far.rest so_far.apart so_far.steps so_far.among so_far.finishes so_far.names so_far.calls
   where
     by : (rest : List Changed) → AreApart mails rest → AreSteps path mails rest (step ∷ left)
         → ((id : Id) → IsIn id (ids_of rest) → IsIn id (ids_of changes))
@@ -288,9 +307,10 @@ so_far_next path mails changes step left old now next so_far went done =
         → DidWanted path (what_of mails changes) result old later)
         → ((later : Option Past) → Grows now later → AllNamed path mails rest now later
         → AllNamed path mails changes old later)
+        → GoesOn (GoesBy (IsStepApart path (what_of mails rest))) old now
         → SoFar path mails changes left old next
-    by [] apart are among finishes names = absurd are
-    by (changed ∷ rest) apart are among finishes names = record {
+    by [] apart are among finishes names calls = absurd are
+    by (changed ∷ rest) apart are among finishes names calls = record {
       rest = rest;
       apart = apart.1;
       steps = are.1;
@@ -310,6 +330,24 @@ so_far_next path mails changes step left old now next so_far went done =
         all_longer path mails rest now next later later went named
             (looks_grows later later (looks_same later)),
       );
+      calls = calls_then (IsStepApart path (what_of mails rest)) old now next
+          (calls_for (IsStepApart path (what_of mails (changed ∷ rest)))
+          (IsStepApart path (what_of mails rest)) old now (λ call of. record {
+            step = of.step;
+            none = none_next (change_at (mail_of mails changed.id.0).key changed.change of.step.base)
+                (what_of mails rest of.step.base) of.none;
+          }) calls)
+          (calls_for (IsCallOf step) (IsStepApart path (what_of mails rest)) now next
+          (λ call is. record {
+            step = record {
+              base = (mail_of mails changed.id.0).key;
+              change = changed.change;
+              step = step;
+              is = are.0;
+              by = is;
+            };
+            none = apart.0;
+          }) called);
     }
 
 -- all steps are taken
@@ -348,10 +386,12 @@ so_far_failed path mails changes left why old now next so_far nothing = record {
 pub so_far_more : (path : List ℕ) (mails : List Mail) (changes : List Changed)
     (step : PlainStep) (all left : List PlainStep) (old now next : Option Past)
     → all ≡ step ∷ left → SoFar path mails changes all old now → Grows now next
+    → GoesOn (GoesBy (IsCallOf step)) now next
     → WasDone (call_of step) now next → SoFar path mails changes left old next
-so_far_more path mails changes step all left old now next whole so_far went done =
+so_far_more path mails changes step all left old now next whole so_far went called done =
     so_far_next path mails changes step left old now next
-    (subst (λ (l : List PlainStep). SoFar path mails changes l old now) whole so_far) went done
+    (subst (λ (l : List PlainStep). SoFar path mails changes l old now) whole so_far) went called
+    done
 
 -- the same, where no step is left
 pub so_far_end : (path : List ℕ) (mails : List Mail) (changes : List Changed)
@@ -446,3 +486,59 @@ so_far_refused path mails changes step all left old now why whole so_far is =
       base = are.0.named;
       at = are.0.does.from;
     }) is
+
+-- The calls of the steps.
+
+-- the calls so far are those of steps
+pub so_far_calls : (path : List ℕ) (mails : List Mail) (changes : List Changed)
+    (left : List PlainStep) (old now : Option Past) → SoFar path mails changes left old now
+    → GoesOn (GoesBy (IsStepCall path)) old now
+so_far_calls path mails changes left old now so_far =
+    calls_for (IsStepApart path (what_of mails so_far.rest)) (IsStepCall path) old now
+    (λ call of. of.step) so_far.calls
+
+-- something is wanted of the key of the first change
+first_some : (key : List ℕ) (change : PlainChange) (rest : List ℕ → Option PlainChange)
+    → option_or (change_at key change key) (rest key) ≡ None → ⊥
+first_some key change rest none = by (bytes_eq key key) ((bytes_eq-Decides key key).1 refl) none
+  where
+    by : (t : Bool) → t ≡ true
+        → option_or (if t then Some change else None) (rest key) ≡ None → ⊥
+    by true is none = some_none change none
+    by false is none = true_false (sym is)
+
+-- why the next step was refused
+pub so_far_cause : (path : List ℕ) (mails : List Mail) (changes : List Changed)
+    (step : PlainStep) (all left : List PlainStep) (old now next : Option Past) (why : SyncError)
+    → all ≡ step ∷ left → SoFar path mails changes all old now → Grows now next
+    → IsErrorAt step.from why → IsBetween (CallCause (IsCallOf step) why) now next
+    → IsBetween (StepsCause path mails (ids_of changes) why) old next
+so_far_cause path mails changes step all left old now next why whole so_far on at cause =
+    by so_far.rest so_far.among
+    (subst (λ (l : List PlainStep). AreSteps path mails so_far.rest l) whole so_far.steps)
+    so_far.calls
+  where
+    by : (rest : List Changed) → ((id : Id) → IsIn id (ids_of rest) → IsIn id (ids_of changes))
+        → AreSteps path mails rest (step ∷ left)
+        → GoesOn (GoesBy (IsStepApart path (what_of mails rest))) old now
+        → IsBetween (StepsCause path mails (ids_of changes) why) old next
+    by [] among are calls = absurd are
+    by (changed ∷ rest) among are calls =
+        between_earlier (GoesBy (IsStepApart path (what_of mails (changed ∷ rest))))
+        (CallCause (IsCallOf step) why) (StepsCause path mails (ids_of changes) why) old now next
+        (λ p q r goes more c. on_changed why (λ refused. record {
+          id = changed.id;
+          among = among changed.id (inl refl);
+          change = changed.change;
+          step = step;
+          is = are.0;
+          at = at;
+          refused = refused_earlier (IsStepApart path (what_of mails (changed ∷ rest)))
+              (IsCallOf step) p q r (length r.journal)
+              (λ call is. subst (λ (other : Call).
+              IsUnmade (IsStepApart path (what_of mails (changed ∷ rest))) (refuses other)) (sym is)
+              (step_no_refusal path (mail_of mails changed.id.0).key changed.change step
+              (what_of mails (changed ∷ rest)) are.0
+              (first_some (mail_of mails changed.id.0).key changed.change (what_of mails rest))))
+              goes more refused;
+        }) c) calls on cause

@@ -31,14 +31,14 @@ use Rattle.folder_shapes.specs.Maildir.{maildir_files}
 use Rattle.folder_changes.specs.Left.{listing_synced}
 use Rattle.maildir_folder.specs.Plan.{IsPlanRefusal}
 use Rattle.folder_changes.specs.Asked.{ids_changed}
-use Rattle.folder_drivers.specs.MaildirSync.{IsSyncError}
-use Rattle.folder_changes.specs.Maildir.{DidWanted}
+use Rattle.folder_changes.specs.Refused.{IsBetween, Untold}
+use Rattle.folder_drivers.specs.MaildirSync.{IsSyncError, MaildirRefused}
 use Rattle.folder_changes.specs.Serving.{Serves}
 use Rattle.folder_changes.specs.Asked.{discarded, ids_of, what_of}
 use Rattle.folder_changes.specs.Serving.{IsErrorAt}
 use Rattle.folder_drivers.specs.Synced.{Syncs}
 use Rattle.folder_stops.specs.Does.{Does}
-use Rattle.maildir_folder.specs.Synced.{file_known}
+use Rattle.folder_drivers.specs.MaildirSync.{file_known}
 use Rattle.folder_changes.specs.Asked.{AreListed}
 use Rattle.maildir_names.proofs.NameLemmas.{made_is_split}
 use Rattle.maildir_folder.proofs.StepLemmas.{error_among, error_file}
@@ -49,12 +49,16 @@ use Rattle.std.proofs.Common.{◌∷◌, inl, refl}
 use Rattle.folder_core.specs.Maildir.{path_of}
 use Rattle.maildir_folder.specs.declared.plan.PlanError.{PlanError}
 use Rattle.maildir_folder.specs.declared.plan.PlanError.TheVariants.{Gone}
-use Rattle.folder_changes.proofs.ServingLemmas.{serves_looked}
+use Rattle.folder_changes.proofs.ServingLemmas.{serves_looked, untold}
 use Rattle.folder_changes.proofs.ApartLemmas.{apart_of, below_in, right_below}
 use Rattle.folder_changes.proofs.LeftLemmas.{synced_few, synced_placed, synced_rise, synced_within}
 use Rattle.folder_core.specs.MaildirNames.{order_of}
 use Rattle.folder_changes.specs.Asked.{AreApart, AreOnce}
 use Rattle.std.proofs.Common.{arith}
+use Rattle.mail_base.specs.Ordered.{IsIn}
+use Rattle.maildir_folder.specs.Candidates.{plain_file}
+use Rattle.maildir_folder.specs.NamedFile.{file_named}
+use Rattle.maildir_folder.specs.declared.candidates.Candidate.{Candidate}
 
 -- what was right of a Maildir is right whatever its past
 right_told : (mails : List Mail) (known : KnownFolder) (old new : Option Past)
@@ -137,9 +141,12 @@ pub syncs_not : (mails : List Mail) (changes : List Changed) (known new_known : 
     → WorksByName known.path mails changes (Err why) old.told new.told
     → KeepsHolds (maildir_files known.path) (discarded mails changes) old.told new.told
     → IsHere known.path old new
-    → IsSyncError known.path mails (ids_of changes) why → Serves {A = Unit {0}} (Err why) old new
+    → IsSyncError known.path mails (ids_of changes) why
+    → IsBetween (MaildirRefused known mails changes why) old.told new.told
+    → Serves {A = Unit {0}} (Err why) old new
     → (purge : Bool) → Syncs Maildir purge mails changes known new_known (Err why) old new
-syncs_not mails changes known new_known why old new same right does holds here names serves purge =
+syncs_not mails changes known new_known why old new same right does holds here names cause serves
+    purge =
     record {
       syncs = record {
         works = does;
@@ -148,6 +155,7 @@ syncs_not mails changes known new_known why old new same right does holds here n
         ok_known = tt;
         err_known = same;
         may_be = names;
+        cause = cause;
         serves = serves;
       };
       right = subst (λ (k : KnownFolder). Right Maildir mails k new.told) (sym same)
@@ -177,6 +185,7 @@ syncs_done mails changes known new_known listing bytes stamps old new is no_byte
         });
         err_known = tt;
         may_be = tt;
+        cause = tt;
         serves = serves;
       };
       right = subst (λ (k : KnownFolder). Right Maildir mails k new.told) (sym whole)
@@ -201,6 +210,22 @@ pub gone_below : (bound : ℕ) (files : List MaildirFile) (mails : List Mail)
 gone_below bound files mails changes why id is refusal below =
     below_in bound id changes below
     (subst (IsPlanRefusal files mails (ids_changed changes)) is refusal).0
+
+-- it is one of those that change
+pub gone_among : (files : List MaildirFile) (mails : List Mail) (changes : List Changed1)
+    (why : PlanError) (id : Id) → why ≡ Gone id
+    → IsPlanRefusal files mails (ids_changed changes) why → IsIn id (ids_of (plain_changes changes))
+gone_among files mails changes why id is refusal =
+    (subst (IsPlanRefusal files mails (ids_changed changes)) is refusal).0
+
+-- and none of the files that were listed has its base
+pub gone_none : (slice files : List Candidate) (mails : List Mail) (changes : List Changed1)
+    (why : PlanError) (id : Id) → slice ≡ files → why ≡ Gone id
+    → IsPlanRefusal (map plain_file slice) mails (ids_changed changes) why
+    → file_named (map plain_file files) (mail_of mails id.0).key ≡ None
+gone_none slice files mails changes why id same is refusal =
+    subst (λ (l : List Candidate). file_named (map plain_file l) (mail_of mails id.0).key ≡ None)
+    same (subst (IsPlanRefusal (map plain_file slice) mails (ids_changed changes)) is refusal).1
 
 -- the ids of the changes are below the number of letters
 pub letters_below : (letters : List Letter) (bound : ℕ) (known : KnownFolder)
@@ -252,6 +277,19 @@ names_letters slice letters ids path why is names =
 no_fault : {A : Type 0} → ◌≡◌ {A = Result A SyncError} (Err NoMemory) (Err Fault) → ⊥
 no_fault e = cc
 
+-- no cause is told where memory ran out
+no_cause : (old new : Option Past) → IsBetween Untold old new
+no_cause old new = untold old new
+
+-- the cause of a refusal by the letters as a slice
+pub cause_letters : (slice letters : List Letter) (changes : List Changed) (known : KnownFolder)
+    (why : SyncError) (old new : Option Past) → slice ≡ letters
+    → IsBetween (MaildirRefused known (map plain_letter slice) changes why) old new
+    → IsBetween (MaildirRefused known (map plain_letter letters) changes why) old new
+cause_letters slice letters changes known why old new is cause =
+    subst (λ (l : List Letter). IsBetween (MaildirRefused known (map plain_letter l) changes why)
+    old new) is cause
+
 -- a sync for which memory ran out before its first call
 pub syncs_none : (mails : List Mail) (changes : List Changed) (known : KnownFolder) (seen : Seen)
     → Right Maildir mails known seen.told
@@ -262,15 +300,6 @@ syncs_none mails changes known seen right =
     (looks_did known.path seen.told seen.told (looks_same seen.told)))
     (holds_first known.path (discarded mails changes) seen.told)
     (here_only known.path [] (keeps_first known.path [] seen.told)) tt
+    (no_cause seen.told seen.told)
     (serves_looked {A = Unit {0}} (Err NoMemory) seen seen (only_same seen)
     (λ is. absurd (no_fault {A = Unit {0}} is)))
-
--- a sync, by the changes as a slice
-pub syncs_slice : {purge : Bool} {mails : List Mail} {known new_known : KnownFolder}
-    {result : Result (Unit {0}) SyncError} {old new : Seen} (slice changes : List Changed1)
-    → slice ≡ changes
-    → Syncs Maildir purge mails (plain_changes slice) known new_known result old new
-    → Syncs Maildir purge mails (plain_changes changes) known new_known result old new
-syncs_slice {purge} {mails} {known} {new_known} {result} {old} {new} slice changes is syncs =
-    subst (λ (l : List Changed1). Syncs Maildir purge mails (plain_changes l) known new_known result
-    old new) is syncs

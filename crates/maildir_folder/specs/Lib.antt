@@ -3,6 +3,7 @@ pub mod Files
 pub mod NamedFile
 pub mod KnownBase
 pub mod Steps
+pub mod Causes
 pub mod Plan
 pub mod Synced
 pub mod Walk

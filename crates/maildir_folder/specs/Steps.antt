@@ -1,10 +1,7 @@
 -- The steps of a sync, and what they do to the messages of a folder.
-use Rattle.std.specs.Prelude.{◌≢◌, Err}
 use Rattle.std.specs.Prelude.{◌≡◌, ℕ, true, List, [], ◌∷◌, Option, Some, None, Result, Ok}
-use Rattle.std.specs.Prelude.{◌⊎◌, OnErr, OnOk, option_map}
+use Rattle.std.specs.Prelude.{OnErr, OnOk, option_map}
 use Rattle.std.specs.String.{string_bytes}
-use Rattle.mail_base.specs.Ordered.{IsIn}
-use Rattle.mail_base.specs.declared.kind.Id.{Id}
 use Rattle.mail_base.specs.Flags.{applied, stored}
 use Rattle.mail_base.specs.declared.flags.Flags.{Flags}
 use Rattle.mail_base.specs.declared.kind.Kind.TheVariants.{Maildir}
@@ -16,10 +13,7 @@ use Rattle.folder_core.specs.Keeping.{mail_of}
 use Rattle.folder_core.specs.Maildir.{MaildirFile, base_of, is_shown, path_of}
 use Rattle.folder_changes.specs.Maildir.{DoesWanted, flags_named}
 use Rattle.folder_changes.specs.Worked.{nothing_wanted}
-use Rattle.folder_changes.specs.declared.sync_error.Spot.TheVariants.{Name}
 use Rattle.folder_changes.specs.declared.sync_error.SyncError.{SyncError}
-use Rattle.folder_changes.specs.declared.sync_error.SyncError.TheVariants.{Changed as IsChanged}
-use Rattle.folder_changes.specs.declared.sync_error.SyncError.TheVariants.{Fault, NoMemory}
 use Rattle.folder_drivers.specs.MaildirSync.{file_with}
 use Rattle.folder_shapes.specs.Maildir.{maildir_making, maildir_shape}
 use Rattle.folder_stops.specs.Does.{Does}

@@ -1,13 +1,20 @@
 //! The steps of a sync: files of a folder that are renamed or removed.
 
-ghost use Rattle.std.specs.Prelude.{ℕ, ◌≡◌, IfErr, List, codes, map};
-ghost use Rattle.disk_model.specs.Judge.{DoesStep};
+ghost use Rattle.std.specs.Prelude.{ℕ, ◌≡◌, IfErr, IfSome, List, None, OnOk, codes, map};
+ghost use Rattle.disk_model.specs.Journal.{SyncDir};
+ghost use Rattle.disk_model.specs.Judge.{DoesStep, GoesOn};
 ghost use Rattle.folder_letters.specs.Letters.{Mail};
 ghost use Rattle.index_items.specs.Changes.{Changed};
 ghost use Rattle.folder_changes.specs.Asked.{AreApart, discarded, ids_of, what_of};
+ghost use Rattle.folder_changes.specs.Calls.{GoesBy};
+ghost use Rattle.folder_changes.specs.Refused.{IsBetween, OnChanged};
 ghost use Rattle.folder_changes.specs.Serving.{IsErrorAt, Serves};
 ghost use Rattle.folder_changes.specs.Maildir.{DidWanted};
-ghost use Rattle.folder_drivers.specs.MaildirSync.{IsSyncError, WorksByName};
+ghost use Rattle.folder_core.specs.Directory.{path_in as path_in_lem};
+ghost use Rattle.folder_drivers.specs.MaildirSync.{IsSyncError, NeedsDirectory, WorksByName};
+ghost use Rattle.maildir_folder.specs.Causes.{CallCause, FolderCause, IsCallOf, IsMakeNew};
+ghost use Rattle.maildir_folder.specs.Causes.{IsNoFolder};
+ghost use Rattle.maildir_folder.specs.Causes.{IsStepCall, StepsCause};
 ghost use Rattle.maildir_folder.specs.Steps as spec;
 
 use disk_model::{Disk, DiskError};
@@ -40,6 +47,11 @@ fn take_step(alloc: Global, disk: &mut dyn Disk, step: &Step) -> Result<(), Sync
     ensures takes { spec.TakesStep result (spec.plain_step step.now)
         (seen disk.old).told (seen disk.new).told }
     ensures at { IfErr result (IsErrorAt (spec.plain_step step.now).from) }
+    ensures calls { GoesOn (GoesBy (IsCallOf (spec.plain_step step.now)))
+        (seen disk.old).told (seen disk.new).told }
+    ensures cause { IfErr result (λ why.
+        IsBetween (CallCause (IsCallOf (spec.plain_step step.now)) why)
+        (seen disk.old).told (seen disk.new).told) }
 {
     match call_step(alloc, disk, step) {
         Ok(()) => Ok(()),
@@ -62,6 +74,16 @@ pub fn take_steps(alloc: Global, disk: &mut dyn Disk, steps: &[Step]) -> Result<
         → spec.AreSteps path mails changes (map spec.plain_step steps.now)
         → spec.KeepsAllBut path (discarded mails changes)
         (seen disk.old).told (seen disk.new).told }
+    ensures calls { (path : List ℕ) → (mails : List Mail) → (changes : List Changed)
+        → AreApart mails changes
+        → spec.AreSteps path mails changes (map spec.plain_step steps.now)
+        → OnOk result (GoesOn (GoesBy (IsStepCall path))
+        (seen disk.old).told (seen disk.new).told) }
+    ensures cause { (path : List ℕ) → (mails : List Mail) → (changes : List Changed)
+        → AreApart mails changes
+        → spec.AreSteps path mails changes (map spec.plain_step steps.now)
+        → IfErr result (λ why. IsBetween (StepsCause path mails (ids_of changes) why)
+        (seen disk.old).told (seen disk.new).told) }
 {
     let mut left = steps;
     while let [step, rest @ ..] = left {
@@ -84,6 +106,11 @@ fn keep_names_in(
     ensures serves { Serves result (seen disk.old) (seen disk.new) }
     ensures leaves { spec.LeavesAll path.now (seen disk.old).told (seen disk.new).told }
     ensures at { IfErr result (IsErrorAt path.now) }
+    ensures calls { GoesOn (GoesBy (λ call. call ≡ SyncDir (path_in_lem path.now name.now)))
+        (seen disk.old).told (seen disk.new).told }
+    ensures cause { IfErr result (λ why.
+        IsBetween (CallCause (λ call. call ≡ SyncDir (path_in_lem path.now name.now)) why)
+        (seen disk.old).told (seen disk.new).told) }
 {
     let dir = match path_in(alloc, path, name) {
         Ok(dir) => dir,
@@ -100,6 +127,8 @@ pub fn keep_names(alloc: Global, disk: &mut dyn Disk, path: &str) -> Result<(), 
     ensures serves { Serves result (seen disk.old) (seen disk.new) }
     ensures leaves { spec.LeavesAll path.now (seen disk.old).told (seen disk.new).told }
     ensures at { IfErr result (IsErrorAt path.now) }
+    ensures cause { IfErr result (λ why. IsBetween (CallCause (NeedsDirectory path.now) why)
+        (seen disk.old).told (seen disk.new).told) }
 {
     match keep_names_in(alloc, disk, path, "new") {
         Ok(()) => {}
@@ -108,11 +137,28 @@ pub fn keep_names(alloc: Global, disk: &mut dyn Disk, path: &str) -> Result<(), 
     keep_names_in(alloc, disk, path, "cur")
 }
 
+// Why the directory `new` is not there, where making it was refused so.
+fn unmade(alloc: Global, path: &str, why: DiskError) -> Option<SyncError>
+    ensures there { result ≡ None → why ≡ DiskError.Exists }
+    ensures at { IfSome result (IsErrorAt path.now) }
+    ensures fault { IfSome result (λ told. told ≡ SyncError.Fault → why ≡ DiskError.Fault) }
+    ensures changed { IfSome result (λ told. OnChanged told (IsNoFolder why)) }
+{
+    match why {
+        DiskError::Exists => None,
+        _ => Some(error_at(alloc, path, why)),
+    }
+}
+
 /// Makes the directory `new`, where nothing stands there.
 pub fn make_new(alloc: Global, disk: &mut dyn Disk, path: &str) -> Result<(), SyncError>
     ensures serves { Serves result (seen disk.old) (seen disk.new) }
     ensures leaves { spec.LeavesAll path.now (seen disk.old).told (seen disk.new).told }
     ensures at { IfErr result (IsErrorAt path.now) }
+    ensures calls { GoesOn (GoesBy (IsMakeNew path.now))
+        (seen disk.old).told (seen disk.new).told }
+    ensures cause { IfErr result (λ why. IsBetween (FolderCause path.now why)
+        (seen disk.old).told (seen disk.new).told) }
 {
     let dir = match path_in(alloc, path, "new") {
         Ok(dir) => dir,
@@ -120,7 +166,9 @@ pub fn make_new(alloc: Global, disk: &mut dyn Disk, path: &str) -> Result<(), Sy
     };
     match disk.make_dir(alloc, dir.as_str()) {
         Ok(()) => Ok(()),
-        Err(DiskError::Exists) => Ok(()),
-        Err(why) => Err(error_at(alloc, path, why)),
+        Err(why) => match unmade(alloc, path, why) {
+            None => Ok(()),
+            Some(told) => Err(told),
+        },
     }
 }

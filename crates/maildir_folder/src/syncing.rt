@@ -8,9 +8,14 @@ ghost use Rattle.index_items.specs.Changes.{AreBelow, plain_changes};
 ghost use Rattle.maildir_folder.specs.Steps.{AreSteps};
 ghost use Rattle.folder_changes.specs.Maildir.{DidWanted};
 ghost use Rattle.folder_changes.specs.Asked.{AreApart, AreListed, AreOnce};
+ghost use Rattle.disk_model.specs.Judge.{GoesOn};
+ghost use Rattle.folder_changes.specs.Calls.{GoesBy};
+ghost use Rattle.folder_changes.specs.Refused.{IsBetween, OnChanged};
 ghost use Rattle.folder_changes.specs.Serving.{IsErrorAt};
 ghost use Rattle.maildir_folder.specs.Steps.{KeepsAllBut, LeavesAll};
-ghost use Rattle.folder_drivers.specs.MaildirSync.{IsSyncError, WorksByName};
+ghost use Rattle.folder_drivers.specs.MaildirSync.{IsSyncError, MaildirRefused, WorksByName};
+ghost use Rattle.maildir_folder.specs.Causes.{FolderCause, IsMakeNew, IsOfFolder};
+ghost use Rattle.maildir_folder.specs.Files.{ListsFiles};
 ghost use Rattle.folder_changes.specs.Serving.{Serves};
 ghost use Rattle.maildir_folder.specs.Steps.{plain_step};
 ghost use Rattle.folder_changes.specs.Asked.{discarded, ids_of, what_of};
@@ -33,6 +38,7 @@ use std::alloc::Global;
 fn unlisted(alloc: Global, path: &str, why: ScanError) -> SyncError
     ensures at { IsErrorAt path.now result }
     ensures fault { result ≡ SyncError.Fault → why ≡ ScanError.Fault }
+    ensures changed { OnChanged result (IsOfFolder why) }
 {
     match why {
         ScanError::Fault => SyncError::Fault,
@@ -46,7 +52,13 @@ fn find_files(alloc: Global, disk: &mut dyn Disk, path: &str) -> Result<Vec<Cand
     ensures serves { Serves result (seen disk.old) (seen disk.new) }
     ensures leaves { LeavesAll path.now (seen disk.old).told (seen disk.new).told }
     ensures files { IfOk result (λ files. spec.AreFiles files.items) }
+    ensures lists { IfOk result (λ files. ListsFiles path.now files.items
+        (seen disk.old).told (seen disk.new).told) }
     ensures at { IfErr result (IsErrorAt path.now) }
+    ensures calls { GoesOn (GoesBy (IsMakeNew path.now))
+        (seen disk.old).told (seen disk.new).told }
+    ensures cause { IfErr result (λ why. IsBetween (FolderCause path.now why)
+        (seen disk.old).told (seen disk.new).told) }
 {
     match make_new(alloc, disk, path) {
         Ok(()) => {}
@@ -66,13 +78,19 @@ fn find_steps(
     archive: &[Letter],
     changes: &[Changed1],
 ) -> Result<Vec<Step>, SyncError>
-    requires { AreBelow (length archive.now) changes.now }
+    requires within { AreBelow (length archive.now) changes.now }
+    requires listed { AreListed known.now.listing (plain_changes changes.now) }
     ensures serves { Serves result (seen disk.old) (seen disk.new) }
     ensures leaves { LeavesAll known.now.path (seen disk.old).told (seen disk.new).told }
     ensures steps { IfOk result (λ steps. AreSteps known.now.path (map plain_letter archive.now)
         (plain_changes changes.now) (map plain_step steps.items)) }
     ensures names { IfErr result (IsSyncError known.now.path (map plain_letter archive.now)
         (ids_of (plain_changes changes.now))) }
+    ensures calls { GoesOn (GoesBy (IsMakeNew known.now.path))
+        (seen disk.old).told (seen disk.new).told }
+    ensures cause { IfErr result (λ why. IsBetween (MaildirRefused known.now
+        (map plain_letter archive.now) (plain_changes changes.now) why)
+        (seen disk.old).told (seen disk.new).told) }
 {
     let files = match find_files(alloc, disk, known.path()) {
         Ok(files) => files,
@@ -94,6 +112,7 @@ fn change_files(
     changes: &[Changed1],
 ) -> Result<(), SyncError>
     requires within { AreBelow (length archive.now) changes.now }
+    requires listed { AreListed known.now.listing (plain_changes changes.now) }
     requires apart { AreApart (map plain_letter archive.now) (plain_changes changes.now) }
     ensures serves { Serves result (seen disk.old) (seen disk.new) }
     ensures does { WorksByName known.now.path (map plain_letter archive.now)
@@ -103,6 +122,9 @@ fn change_files(
         (seen disk.old).told (seen disk.new).told }
     ensures names { IfErr result (IsSyncError known.now.path (map plain_letter archive.now)
         (ids_of (plain_changes changes.now))) }
+    ensures cause { IfErr result (λ why. IsBetween (MaildirRefused known.now
+        (map plain_letter archive.now) (plain_changes changes.now) why)
+        (seen disk.old).told (seen disk.new).told) }
 {
     let steps = match find_steps(alloc, disk, known, archive, changes) {
         Ok(steps) => steps,

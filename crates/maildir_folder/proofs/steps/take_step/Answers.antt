@@ -1,3 +1,9 @@
+use Rattle.std.proofs.Common.{Err, Ok, refl}
+use Rattle.disk_model.specs.Judge.{done_by}
+use Rattle.folder_changes.proofs.TraceLemmas.{calls_one}
+use Rattle.maildir_folder.specs.Causes.{IsCallOf}
+use Rattle.maildir_folder.specs.Steps.{call_of}
+use Rattle.maildir_folder.proofs.CauseLemmas.{call_cause}
 use Rattle.maildir_folder.specs.Steps.{plain_step}
 use Rattle.maildir_folder.proofs.StepLemmas.{step_refused}
 use Rattle.maildir_folder.proofs.StopLemmas.{keeps_step}
@@ -21,3 +27,21 @@ returns-in-Err-clause-takes g c = record {
       keeps_step path base change keys (plain_step c.args.step.now) is may
       c.in-Err.ensures.called;
 }
+
+pub returns-in-Ok-clause-calls : goal.returns-in-Ok-clause-calls
+returns-in-Ok-clause-calls g c =
+    let step = plain_step c.args.step.now in
+    calls_one (IsCallOf step) (Ok _) (call_of step) (done_by (call_of step)) _ _ refl
+    c.in-Ok.ensures.called.goes
+
+pub returns-in-Err-clause-calls : goal.returns-in-Err-clause-calls
+returns-in-Err-clause-calls g c =
+    let step = plain_step c.args.step.now in
+    calls_one (IsCallOf step) (Err c.in-Err.why) (call_of step) (done_by (call_of step)) _ _ refl
+    c.in-Err.ensures.called.goes
+
+pub returns-in-Err-clause-cause : goal.returns-in-Err-clause-cause
+returns-in-Err-clause-cause g c =
+    let step = plain_step c.args.step.now in
+    call_cause (IsCallOf step) c.in-Err.why (call_of step) c.error_at.result _ _ refl
+    c.error_at.ensures.changed c.in-Err.ensures.called.goes

@@ -4,7 +4,8 @@ use Rattle.maildir_folder.specs.Steps.{plain_step}
 use Rattle.folder_changes.specs.Asked.{discarded}
 use Rattle.maildir_folder.proofs.StepLemmas.{so_far_end, so_far_first}
 use Rattle.folder_changes.proofs.ServingLemmas.{serves_first, serves_then}
-use Rattle.maildir_folder.proofs.StepLemmas.{so_far_failed, so_far_more, so_far_refused}
+use Rattle.maildir_folder.proofs.StepLemmas.{so_far_calls, so_far_cause, so_far_failed}
+use Rattle.maildir_folder.proofs.StepLemmas.{so_far_more, so_far_refused}
 use Rattle.maildir_folder.proofs.StopLemmas.{held_first, held_more}
 use Rattle.maildir_folder.proofs.steps.take_steps.Goals as goal
 
@@ -29,7 +30,7 @@ loop-left-preserved g c =
           (map plain_step c.loop-left.left.now) _ _ _ _
           (ap (map plain_step) whole)
           (c.loop-left.invariant.does path mails changes apart are) c.in-Ok.ensures.serves.grows
-          c.in-Ok.ensures.takes.done;
+          c.take_step.ensures.calls c.in-Ok.ensures.takes.done;
       holds = λ path mails changes are.
           held_more path (discarded mails changes) mails (plain_step c.step-item.result)
           (map plain_step c.loop-left.left.now) _ _ _ _ (ap (map plain_step) whole)
@@ -70,3 +71,18 @@ returns-in-Err-clause-holds g c path mails changes are =
     (map plain_step c.loop-left.left.now) _ _ _ _ (ap (map plain_step) whole)
     (c.loop-left.invariant.holds path mails changes are) c.in-Err.ensures.takes.holds in
     so_far.held
+
+pub returns-clause-calls : goal.returns-clause-calls
+returns-clause-calls g c path mails changes apart are =
+    so_far_calls path mails changes (map plain_step c.loop-left.left.now) _ _
+    (c.loop-left.invariant.does path mails changes apart are)
+
+pub returns-in-Err-clause-cause : goal.returns-in-Err-clause-cause
+returns-in-Err-clause-cause g c path mails changes apart are =
+    let whole =
+    first_and_rest c.loop-left.left.now _ c.step-item.result c.step-item.is
+    c.in-len1-up.len_at_least in
+    so_far_cause path mails changes (plain_step c.step-item.result)
+    (map plain_step c.loop-left.left.now) _ _ _ _ c.in-Err.why (ap (map plain_step) whole)
+    (c.loop-left.invariant.does path mails changes apart are) c.in-Err.ensures.serves.grows
+    c.in-Err.ensures.at c.in-Err.ensures.cause

@@ -1,11 +1,13 @@
+use Rattle.disk_model.proofs.Looking.{grows_then}
+use Rattle.maildir_folder.proofs.CauseLemmas.{names_refused, steps_refused}
 use Rattle.std.proofs.Common.{Err, List, map, subst, sym}
 use Rattle.folder_letters.specs.Letters.{plain_letter}
 use Rattle.index_items.specs.Changes.{plain_changes}
 use Rattle.maildir_folder.specs.Steps.{AreSteps, plain_step}
-use Rattle.folder_changes.specs.Asked.{discarded, ids_of, what_of}
+use Rattle.folder_changes.specs.Asked.{discarded, ids_of}
 use Rattle.maildir_folder.specs.declared.steps.Step.{Step}
 use Rattle.maildir_folder.proofs.SyncedLemmas.{works_between, works_none, works_part}
-use Rattle.maildir_folder.proofs.StepLemmas.{did_after, did_end, did_none, errors_folder}
+use Rattle.maildir_folder.proofs.StepLemmas.{errors_folder}
 use Rattle.folder_changes.proofs.ServingLemmas.{serves_then}
 use Rattle.maildir_folder.proofs.StopLemmas.{keeps_then, leaves_at}
 use Rattle.maildir_folder.proofs.syncing.change_files.Goals as goal
@@ -92,3 +94,30 @@ returns-clause-holds g c =
     keeps_then path keys _ _ _ (c.in-Ok.ensures.leaves.holds keys)
     (keeps_then path keys _ _ _ (c.in-Ok-take_steps.ensures.holds path mails changes steps)
     ((leaves_at c.path.result.now path _ _ c.path.ensures c.keep_names.ensures.leaves).holds keys))
+
+pub returns-in-Err-take_steps-clause-cause : goal.returns-in-Err-take_steps-clause-cause
+returns-in-Err-take_steps-clause-cause g c =
+    let mails = map plain_letter c.args.archive.now in
+    let changes = plain_changes c.args.changes.now in
+    let path = c.args.known.now.path in
+    let steps : AreSteps path mails changes (map plain_step c.as_slice.result.now) =
+    subst (λ (l : List Step). AreSteps path mails changes (map plain_step l))
+    (sym c.as_slice.ensures.value) c.in-Ok.ensures.steps in
+    steps_refused c.args.known.now mails changes c.in-Err-take_steps.why _ _ _
+    (c.in-Err-take_steps.ensures.names path mails changes c.requires.apart steps)
+    c.in-Ok.ensures.calls c.in-Err-take_steps.ensures.serves.grows
+    (c.in-Err-take_steps.ensures.cause path mails changes c.requires.apart steps)
+
+pub returns-clause-cause : goal.returns-clause-cause
+returns-clause-cause g c =
+    let mails = map plain_letter c.args.archive.now in
+    let changes = plain_changes c.args.changes.now in
+    let path = c.args.known.now.path in
+    let steps : AreSteps path mails changes (map plain_step c.as_slice.result.now) =
+    subst (λ (l : List Step). AreSteps path mails changes (map plain_step l))
+    (sym c.as_slice.ensures.value) c.in-Ok.ensures.steps in
+    names_refused c.args.known.now mails changes c.path.result.now c.keep_names.result _ _ _ _
+    c.path.ensures c.in-Ok.ensures.calls
+    (c.in-Ok-take_steps.ensures.calls path mails changes c.requires.apart steps)
+    (grows_then _ _ _ c.in-Ok-take_steps.ensures.serves.grows c.keep_names.ensures.serves.grows)
+    c.keep_names.ensures.serves.grows c.keep_names.ensures.at c.keep_names.ensures.cause

@@ -7,7 +7,8 @@ use Rattle.folder_changes.specs.Left.{listing_synced}
 use Rattle.folder_changes.specs.Asked.{AreApart, ids_of}
 use Rattle.maildir_folder.proofs.SyncedLemmas.{right_apart}
 use Rattle.maildir_folder.proofs.StopLemmas.{here_only, holds_letters}
-use Rattle.maildir_folder.proofs.SyncedLemmas.{did_letters, letters_below, names_letters}
+use Rattle.maildir_folder.proofs.SyncedLemmas.{cause_letters, did_letters, letters_below}
+use Rattle.maildir_folder.proofs.SyncedLemmas.{names_letters}
 use Rattle.maildir_folder.proofs.SyncedLemmas.{syncs_done, syncs_none, syncs_not}
 use Rattle.maildir_folder.proofs.syncing.sync_folder.Goals as goal
 
@@ -59,6 +60,9 @@ returns-in-Err-change_files g c =
     (names_letters c.as_slice.result.now c.args.archive.now.items
     (ids_of (plain_changes c.args.changes.now)) c.args.known.now.path c.in-Err-change_files.why
     c.as_slice.ensures c.in-Err-change_files.ensures.names)
+    (cause_letters c.as_slice.result.now c.args.archive.now.items
+    (plain_changes c.args.changes.now) c.args.known.now c.in-Err-change_files.why _ _
+    c.as_slice.ensures c.in-Err-change_files.ensures.cause)
     c.in-Err-change_files.ensures.serves
 
 pub returns-in-Err : goal.returns-in-Err
