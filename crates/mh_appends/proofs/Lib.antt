@@ -1,0 +1,15 @@
+pub mod Paths
+pub mod Numbers
+pub mod Calls
+pub mod Holding
+pub mod Tracing
+pub mod Leaving
+pub mod Working
+pub mod Hushing
+pub mod Meeting
+pub mod Refusing
+pub mod Taking
+pub mod Causing
+pub mod Stages
+pub mod Putting
+pub mod Answering

@@ -1,0 +1,4 @@
+pub mod Replacing
+pub mod Leftovers
+pub mod Placing
+pub mod Putting
