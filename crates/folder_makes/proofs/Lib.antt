@@ -1,0 +1,10 @@
+pub mod Calling
+pub mod Parting
+pub mod Leaving
+pub mod Looking
+pub mod Maildirs
+pub mod Making
+pub mod Placing
+pub mod Messages
+pub mod Whole
+pub mod MhMade
