@@ -23,6 +23,7 @@ use folder_changes::{Item, SyncError};
 use folder_core::{Archive, Found, Known, ListedSoFar, Listing, ScanError, put_listing};
 use folder_drivers::Driver;
 use folder_letters::Changes;
+use folder_makes::make_maildir;
 use mail_base::{Bytes, Kind, NoMemory, Stamps};
 use maildir_appends::append;
 use std::alloc::Global;
@@ -90,6 +91,10 @@ impl Driver for MaildirDriver {
         item: &Item,
     ) -> Result<(), SyncError> {
         append(alloc, &mut *dev.disk, path, archive, item)
+    }
+
+    fn make(&self, alloc: Global, dev: &mut Device, path: &str) -> Result<(), SyncError> {
+        make_maildir(alloc, &mut *dev.disk, path)
     }
 }
 

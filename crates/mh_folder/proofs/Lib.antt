@@ -7,3 +7,4 @@ pub mod WalkLemmas
 pub mod FolderLemmas
 pub mod DriverLemmas
 pub mod StampsLemmas
+pub mod RecoverLemmas

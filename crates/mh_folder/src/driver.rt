@@ -7,18 +7,27 @@ ghost use Rattle.folder_letters.specs.Letters.{plain_letter};
 ghost use Rattle.folder_core.specs.Mh.{mh_format, number_at};
 ghost use Rattle.folder_core.specs.Right.{Right};
 ghost use Rattle.folder_core.specs.Scanned.{Scans};
+ghost use Rattle.folder_changes.specs.Asked.{AreListed, AreOnce};
+ghost use Rattle.folder_drivers.specs.Recovered.{Recovers};
+ghost use Rattle.folder_drivers.specs.Synced.{Syncs};
+ghost use Rattle.index_items.specs.Changes.{plain_changes};
 ghost use Rattle.mh_folder.specs.Scan as spec;
 
 use crate::folder::list_numbers;
 use crate::visit::begin_visit;
 use crate::walk::Walk;
 use disk_model::{Device, Disk};
+use folder_changes::{Item, SyncError};
 use folder_core::{Archive, Found, Known, Listing, ScanError, put_listing};
 use folder_drivers::Driver;
+use folder_letters::Changes;
+use folder_makes::make_mh;
 use mail_base::{Bytes, Kind, Stamps};
+use mh_appends::{append, recover};
+use mh_syncs::sync_folder;
 use std::alloc::Global;
 
-/// Reads folders of a numbered file a message (mh-mail(5)).
+/// Reads and writes folders of a numbered file a message (mh-mail(5)).
 #[derive(Drop)]
 pub struct MhDriver;
 
@@ -44,6 +53,75 @@ impl Driver for MhDriver {
     ) -> Result<Found, ScanError> {
         scan_folder(alloc, &mut *dev.disk, known, archive)
     }
+
+    /// Puts new sequences in place, and then takes the files of discarded messages away: to names
+    /// of their own, or for good where they are to be purged.
+    fn sync(
+        &self,
+        alloc: Global,
+        dev: &mut Device,
+        known: &mut Known,
+        _owner: &[u8],
+        purge_files: bool,
+        archive: &Archive,
+        changes: &Changes,
+    ) -> Result<(), SyncError> {
+        sync_changes(alloc, &mut *dev.disk, known, purge_files, archive, changes)
+    }
+
+    /// Takes away what a call that was stopped left over: sequences and a message that were not put
+    /// in place.
+    fn recover(
+        &self,
+        alloc: Global,
+        dev: &mut Device,
+        known: &mut Known,
+        _owner: &[u8],
+    ) -> Result<(), ScanError> {
+        recover_known(alloc, &mut *dev.disk, known)
+    }
+
+    fn append(
+        &self,
+        alloc: Global,
+        dev: &mut Device,
+        path: &str,
+        _owner: &[u8],
+        archive: &Archive,
+        item: &Item,
+    ) -> Result<(), SyncError> {
+        append(alloc, &mut *dev.disk, path, archive, item)
+    }
+
+    fn make(&self, alloc: Global, dev: &mut Device, path: &str) -> Result<(), SyncError> {
+        make_mh(alloc, &mut *dev.disk, path)
+    }
+}
+
+// Does changes to a known MH folder, as the driver's `sync`.
+fn sync_changes(
+    alloc: Global,
+    disk: &mut dyn Disk,
+    known: &mut Known,
+    purge_files: bool,
+    archive: &Archive,
+    changes: &Changes,
+) -> Result<(), SyncError>
+    requires right { Right Mh (map plain_letter archive.now.items) known.old (seen disk.old).told }
+    requires listed { AreListed known.old.listing (plain_changes changes.now.items) }
+    requires once { AreOnce (plain_changes changes.now.items) }
+    ensures { Syncs Mh purge_files (map plain_letter archive.now.items)
+        (plain_changes changes.now.items) known.old known.new result (seen disk.old)
+        (seen disk.new) }
+{
+    sync_folder(alloc, disk, known, purge_files, archive, changes.as_slice())
+}
+
+// Takes away what was left over in a known MH folder, as the driver's `recover`.
+fn recover_known(alloc: Global, disk: &mut dyn Disk, known: &mut Known) -> Result<(), ScanError>
+    ensures { Recovers Mh known.old known.new result (seen disk.old) (seen disk.new) }
+{
+    recover(alloc, disk, known.path())
 }
 
 /// Reads a known MH folder, as the driver's `scan`.

@@ -1,4 +1,4 @@
-//! Folders of a numbered file a message (mh-mail(5)): the driver that scans a folder, `MhDriver`.
+//! Folders of a numbered file a message (mh-mail(5)): their driver, `MhDriver`.
 #![tactic(auto)]
 
 mod driver;
