@@ -1,11 +1,6 @@
 pub mod Changing
 pub mod Driving
-pub mod MessageLemmas
-pub mod PostmarkLemmas
 pub mod Reading
-pub mod RegionsLemmas
 pub mod Rising
-pub mod StampLemmas
-pub mod StatusLemmas
 pub mod Staying
 pub mod Unchanged

@@ -1,6 +1,2 @@
-pub mod Stamp
-pub mod Regions
-pub mod MessageCore
-pub mod Status
 pub mod FileSeen
 pub mod ListedFile

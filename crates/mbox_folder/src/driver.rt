@@ -14,8 +14,8 @@ ghost use Rattle.mbox_folder.specs.ListedFile.{FindsFile, IsNothing, IsUnlisted}
 use crate::listing::{count_refusal, list_file};
 use crate::read::read_changed;
 use disk_model::{Device, Disk, FileRead};
-use folder_core::{Archive, Found, Known, Listing, ScanError, put_listing};
 use folder_changes::{Item, SyncError};
+use folder_core::{Archive, Found, Known, Listing, ScanError, put_listing};
 use folder_drivers::Driver;
 use folder_letters::Changes;
 use mail_base::{Ids, Kind, NoMemory, Stamps};
@@ -83,6 +83,11 @@ impl Driver for MboxDriver {
         _archive: &Archive,
         _item: &Item,
     ) -> Result<(), SyncError> {
+        Err(SyncError::NotFolder)
+    }
+
+    /// Refused: mailboxes in one file are not written yet.
+    fn make(&self, _alloc: Global, _dev: &mut Device, _path: &str) -> Result<(), SyncError> {
         Err(SyncError::NotFolder)
     }
 }

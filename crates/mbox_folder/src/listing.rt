@@ -11,13 +11,11 @@ ghost use Rattle.folder_letters.specs.Moments.{IsClockMoment};
 ghost use Rattle.mbox_folder.specs.ListedFile.{IsUnlisted, ListsFile, letters_from, listed_from};
 ghost use Rattle.mbox_folder.specs.ListedFile.{raws_in, stay_count, stays as spec_stays};
 
-use crate::message_core::read_message;
-use crate::postmark::read_postmark;
-use crate::regions::{CutError, cut_regions};
 use folder_core::{
     Archive, Letter, Listed, Listing, MOST_LETTERS, MOST_MESSAGES, Region, ScanError, same_flags,
 };
 use mail_base::{Bytes, Id, NoMemory, first_line};
+use mbox_text::{CutError, cut_regions, read_message, read_postmark};
 use std::alloc::Global;
 
 /// Lists the messages of a file: those at the front that stand as they are listed stay, the letters

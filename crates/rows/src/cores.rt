@@ -2,7 +2,7 @@
 
 use case_files::{Answer, Case, CaseFault, Subject};
 use mail_base::first_line;
-use mbox_folder::core_of;
+use mbox_text::core_of;
 use std::alloc::Global;
 
 /// `region` is a message with its postmark and its separator.

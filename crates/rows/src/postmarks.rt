@@ -1,7 +1,7 @@
 //! Cases of postmarks (mbox(5)).
 
 use case_files::{Answer, Case, CaseFault, Subject};
-use mbox_folder::read_postmark;
+use mbox_text::read_postmark;
 use std::alloc::Global;
 
 /// `line` is the line; its `moment` is in seconds since 1970 UTC, or `none`.

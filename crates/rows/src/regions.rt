@@ -1,7 +1,7 @@
 //! Cases of mailboxes that are cut into the regions of their messages.
 
 use case_files::{Answer, Case, CaseFault, Subject};
-use mbox_folder::{CutError, Region, cut_regions};
+use mbox_text::{CutError, Region, cut_regions};
 use std::alloc::Global;
 
 /// `file` is what the mailbox holds; each `region` is its start and its end.

@@ -1,15 +1,14 @@
 //! What no case can say: streams that fail in mid-stream, the system's own streams and clock, and
 //! boxes.
 
-use disk_model::{Device, Node, Tree, is_tree};
-use folder_core::{Archive, Found, Known, ScanError};
-use folder_drivers::{Driver, Drivers, DriversError};
+use folder_core::ScanError;
+use folder_drivers::{Drivers, DriversError};
 use mail_base::{
-    Bytes, Clock, Flags, Kind, Line, MemoryClock, MemorySink, MemorySource, NoMemory, Numbers,
-    ReadFault, RealClock, Sink, Source, StdSink, StdSource, WriteFault,
+    Bytes, Clock, Kind, Line, MemoryClock, MemorySink, MemorySource, NoMemory, Numbers, ReadFault,
+    RealClock, Sink, Source, StdSink, StdSource, WriteFault,
 };
-use maildir_appends::{Addition, append};
-use memory_disk::{MemoryDisk, Script};
+use maildir_folder::MaildirDriver;
+use mbox_folder::MboxDriver;
 use std::alloc::Global;
 use std::io;
 use std::test::Fail;
@@ -108,102 +107,24 @@ fn the_system_tells_the_time(rt: HostRuntime) -> Result<(), Fail> {
     Ok(())
 }
 
-/// Has no memory for any folder: what tells of a path needs a look at it.
-#[derive(Drop)]
-struct FakeDriver {
-    kind: Kind,
-}
-
-impl Driver for FakeDriver {
-    ghost sort = { λ driver. driver.kind };
-
-    fn kind(&self) -> Kind {
-        self.kind
-    }
-
-    fn scan(
-        &self,
-        _alloc: Global,
-        _dev: &mut Device,
-        _known: &mut Known,
-        _archive: &mut Archive,
-    ) -> Result<Found, ScanError> {
-        Err(ScanError::NoMemory)
-    }
-}
-
 #[test]
 fn each_kind_has_one_driver(rt: HostRuntime) -> Result<(), Fail> {
     let alloc = rt.alloc();
     let mut drivers = Drivers::new(alloc);
-    for (kind, wanted) in [
-        (Kind::Mbox, Ok(())),
-        (Kind::Mbox, Err(DriversError::Twice)),
-        (Kind::Mmdf, Ok(())),
-        (Kind::Mmdf, Err(DriversError::Twice)),
+    for wanted in [Ok(()), Err(DriversError::Twice)] {
+        let mailboxes = Box::new(alloc, MboxDriver::new())?;
+        assert_eq!(rt; drivers.add(mailboxes), wanted);
+        let maildirs = Box::new(alloc, MaildirDriver::new())?;
+        assert_eq!(rt; drivers.add(maildirs), wanted);
+    }
+    for (kind, there) in [
+        (Kind::Mbox, true),
+        (Kind::Maildir, true),
+        (Kind::Mh, false),
+        (Kind::Mmdf, false),
     ] {
-        let driver = Box::new(alloc, FakeDriver { kind })?;
-        assert_eq!(rt; drivers.add(driver), wanted, "{kind:?}");
+        assert_eq!(rt; drivers.has(kind), there, "{kind:?}");
     }
-    let tree = Tree::new(alloc);
-    assert!(rt; is_tree(&tree));
-    let disk = MemoryDisk::new(alloc, tree, Script::new(alloc), Numbers::new(alloc), None)?;
-    let mut dev = Device::new(Box::new(alloc, disk)?);
-    let mut archive = Archive::new(alloc);
-    for kind in [Kind::Mmdf, Kind::Mbox] {
-        let mut known = Known::new(alloc, "a", kind)?;
-        assert!(rt; drivers.has(kind));
-        let found = drivers.scan(alloc, kind, &mut dev, &mut known, &mut archive);
-        assert_eq!(rt; found.err(), Some(ScanError::NoMemory), "{kind:?}");
-    }
-    assert!(rt; !drivers.has(Kind::Mh));
-    Ok(())
-}
-
-// A Maildir that has its directory `cur` alone.
-fn half_maildir(alloc: Global) -> Result<Tree, NoMemory> {
-    let mut tree = Tree::new(alloc);
-    for path in ["box", "box/cur"] {
-        tree.push(Node {
-            path: Bytes::copy_of(alloc, path.as_bytes())?,
-            bytes: None,
-        })?;
-    }
-    Ok(tree)
-}
-
-#[test]
-fn added_messages_have_names_of_their_own(rt: HostRuntime) -> Result<(), Fail> {
-    let alloc = rt.alloc();
-    let tree = half_maildir(alloc)?;
-    assert!(rt; is_tree(&tree));
-    let disk = MemoryDisk::new(alloc, tree, Script::new(alloc), Numbers::new(alloc), None)?;
-    let mut dev = Device::new(Box::new(alloc, disk)?);
-    let archive = Archive::new(alloc);
-    for (seen, dir, name) in [
-        (false, "box/new", "7.R0.mutt"),
-        (true, "box/cur", "7.R1.mutt:2,S"),
-    ] {
-        let item = Addition {
-            text: Bytes::copy_of(alloc, b"Subject: x\n\ntext\n")?,
-            flags: Flags {
-                seen,
-                ..Flags::NONE
-            },
-            moment: 7,
-        };
-        assert!(rt;
-            append(alloc, &mut dev, "box", &archive, &item).is_ok(),
-            "{name}"
-        );
-        let names = dev.list(alloc, dir)?;
-        assert_eq!(rt; names.len(), 1);
-        let first = names.get(0).map(|it| it.as_slice());
-        assert_eq!(rt; first, Some(name.as_bytes()));
-    }
-    assert_eq!(rt; dev.list(alloc, "box/tmp")?.len(), 0);
-    let read = dev.read_all(alloc, "box/new/7.R0.mutt", 100)?;
-    assert_eq!(rt; read.bytes.as_slice(), b"Subject: x\n\ntext\n".as_slice());
     Ok(())
 }
 

@@ -1,0 +1,5 @@
+pub mod Stamp
+pub mod Regions
+pub mod MessageCore
+pub mod Status
+pub mod WithStatus
