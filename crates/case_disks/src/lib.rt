@@ -3,4 +3,4 @@
 
 mod nodes;
 
-pub use nodes::{disk_of, numbers_of, text_of, tree_of, words_of};
+pub use nodes::{disk_failing, disk_of, disk_stopped, numbers_of, text_of, tree_of, words_of};

@@ -11,8 +11,31 @@ use std::alloc::Global;
 /// `stop` on fail, and on which others do what stands under `others N DEED PATH`, before call N:
 /// `append`, `put`, `remove`, `write`, or `rename` to the value.
 pub fn disk_of(alloc: Global, case: &Case) -> Result<MemoryDisk, CaseFault> {
-    let stop = case.number(b"stop")?;
-    let fails = numbers_of(alloc, case, b"failing disk")?;
+    disk_stopped(alloc, case, case.number(b"stop")?)
+}
+
+/// The same disk, on which all from another call on fail.
+pub fn disk_stopped(
+    alloc: Global,
+    case: &Case,
+    stop: Option<u64>,
+) -> Result<MemoryDisk, CaseFault> {
+    disk_with(alloc, case, numbers_of(alloc, case, b"failing disk")?, stop)
+}
+
+/// The same disk as `disk_of` makes, of which this call fails too.
+pub fn disk_failing(alloc: Global, case: &Case, call: u64) -> Result<MemoryDisk, CaseFault> {
+    let mut fails = numbers_of(alloc, case, b"failing disk")?;
+    fails.push(call)?;
+    disk_with(alloc, case, fails, case.number(b"stop")?)
+}
+
+fn disk_with(
+    alloc: Global,
+    case: &Case,
+    fails: Numbers,
+    stop: Option<u64>,
+) -> Result<MemoryDisk, CaseFault> {
     let mut script = Script::new(alloc);
     push_script(alloc, case, &mut script)?;
     let tree = tree_of(alloc, case)?;

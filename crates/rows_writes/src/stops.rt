@@ -1,0 +1,166 @@
+//! Cases of folders that are written while calls fail, and opened again from what that leaves.
+
+use crate::playing::{folder_of, no_room, put_all};
+use case_disks::{disk_failing, disk_of, disk_stopped, text_of};
+use case_files::{Answer, Case, CaseFault, Subject};
+use disk_model::{Device, Fill, Tree, is_tree};
+use folder_core::{Archive, Known, Letter};
+use folder_drivers::{Driver, Drivers};
+use mail_base::{Kind, Numbers};
+use maildir_folder::MaildirDriver;
+use memory_disk::{MemoryDisk, Script};
+use mh_folder::MhDriver;
+use std::alloc::Global;
+
+/// The steps of the other cases, stopped at each of their calls, and made again with each of them
+/// refused alone. Each time the disk leaves images with up to eight name operations and three fills
+/// of what is open. They are kept where each image, opened again, has each text under `must` once,
+/// and no other but those under `may`.
+pub struct Stops;
+
+impl Subject for Stops {
+    fn inputs(&self) -> &[&[u8]] {
+        &[
+            b"file", b"folder", b"failing", b"others", b"maildir", b"mh", b"scan", b"sync",
+            b"recover", b"purge", b"make", b"append", b"must", b"may",
+        ]
+    }
+
+    fn answer(&self, alloc: Global, case: &Case, answer: &mut Answer) -> Result<(), CaseFault> {
+        answer.put_flag(b"kept", is_always_kept(alloc, case)?)
+    }
+}
+
+/// Which calls fail.
+enum Trouble {
+    No,
+    From(u64),
+    At(u64),
+}
+
+fn disk_in(alloc: Global, case: &Case, trouble: Trouble) -> Result<MemoryDisk, CaseFault> {
+    match trouble {
+        Trouble::No => disk_of(alloc, case),
+        Trouble::From(call) => disk_stopped(alloc, case, Some(call)),
+        Trouble::At(call) => disk_failing(alloc, case, call),
+    }
+}
+
+/// How many entries the steps made, which are no fewer than their calls, and whether each image is
+/// as it must be.
+#[derive(Clone, Copy)]
+struct Played {
+    entries: u64,
+    kept: bool,
+}
+
+/// Takes the steps of the case on a disk of which calls fail.
+fn play_steps(alloc: Global, case: &Case, trouble: Trouble) -> Result<Played, CaseFault> {
+    let mut dev = Device::new(Box::new(alloc, disk_in(alloc, case, trouble)?)?);
+    let mut drivers = Drivers::new(alloc);
+    drivers
+        .add(Box::new(alloc, MaildirDriver::new())?)
+        .map_err(no_room)?;
+    drivers
+        .add(Box::new(alloc, MhDriver::new())?)
+        .map_err(no_room)?;
+    let mut unseen = Answer::new(alloc);
+    put_all(alloc, &mut unseen, &mut dev, &drivers, case)?;
+    Ok(Played {
+        entries: dev.mark(),
+        kept: is_kept_in_all(alloc, case, &dev)?,
+    })
+}
+
+/// Whether each image is as it must be, whichever call fails.
+fn is_always_kept(alloc: Global, case: &Case) -> Result<bool, CaseFault> {
+    let whole = play_steps(alloc, case, Trouble::No)?;
+    let mut kept = whole.kept;
+    for call in 0..=whole.entries {
+        kept = kept && play_steps(alloc, case, Trouble::From(call))?.kept;
+        kept = kept && play_steps(alloc, case, Trouble::At(call))?.kept;
+    }
+    Ok(kept)
+}
+
+/// Whether each image of a disk is as it must be.
+fn is_kept_in_all(alloc: Global, case: &Case, dev: &Device) -> Result<bool, CaseFault> {
+    let mut kept = true;
+    for names in 0..=8 {
+        for fill in [Fill::Kept, Fill::Written, Fill::Byte(0)] {
+            kept = kept && is_kept(alloc, case, dev, names, fill)?;
+        }
+    }
+    Ok(kept)
+}
+
+fn is_kept(
+    alloc: Global,
+    case: &Case,
+    dev: &Device,
+    names: u64,
+    fill: Fill,
+) -> Result<bool, CaseFault> {
+    match dev.image(alloc, names, fill)? {
+        Some(tree) => is_kept_in(alloc, case, tree),
+        None => Err(CaseFault::BadInput),
+    }
+}
+
+/// Whether a folder that is opened again has what it must.
+fn is_kept_in(alloc: Global, case: &Case, tree: Tree) -> Result<bool, CaseFault> {
+    if is_tree(&tree) {
+        let disk = MemoryDisk::new(alloc, tree, Script::new(alloc), Numbers::new(alloc), None)?;
+        let (kind, path) = folder_of(case)?;
+        let archive = letters_on(alloc, disk, kind, text_of(path)?)?;
+        Ok(has_all(case, archive.as_slice()))
+    } else {
+        Err(CaseFault::BadInput)
+    }
+}
+
+/// The letters of a folder that is scanned.
+fn letters_on(
+    alloc: Global,
+    disk: MemoryDisk,
+    kind: Kind,
+    path: &str,
+) -> Result<Archive, CaseFault> {
+    let mut dev = Device::new(Box::new(alloc, disk)?);
+    let mut known = Known::new(alloc, path, kind)?;
+    let mut archive = Archive::new(alloc);
+    let found = match kind {
+        Kind::Maildir => MaildirDriver::new().scan(alloc, &mut dev, &mut known, &mut archive),
+        Kind::Mh => MhDriver::new().scan(alloc, &mut dev, &mut known, &mut archive),
+        _ => return Err(CaseFault::BadInput),
+    };
+    match found {
+        Ok(_) => Ok(archive),
+        Err(_) => Err(CaseFault::BadInput),
+    }
+}
+
+fn times_in(letters: &[Letter], text: &[u8]) -> usize {
+    letters
+        .iter()
+        .filter(|letter| letter.core.as_slice() == text)
+        .count()
+}
+
+fn is_named(case: &Case, text: &[u8]) -> bool {
+    case.entries.as_slice().iter().any(|entry| {
+        (entry.key.as_slice() == b"must".as_slice() || entry.key.as_slice() == b"may".as_slice())
+            && entry.value.as_slice() == text
+    })
+}
+
+/// Whether each text that must be there is there once, and no other but those that may be.
+fn has_all(case: &Case, letters: &[Letter]) -> bool {
+    let all_there = case.entries.as_slice().iter().all(|entry| {
+        entry.key.as_slice() != b"must".as_slice() || times_in(letters, entry.value.as_slice()) == 1
+    });
+    all_there
+        && letters
+            .iter()
+            .all(|letter| is_named(case, letter.core.as_slice()))
+}
