@@ -5,3 +5,6 @@ pub mod StampLemmas
 pub mod StatusLemmas
 pub mod FedLines
 pub mod WithStatusLemmas
+pub mod GroupLemmas
+pub mod RewritingLemmas
+pub mod ChangingLemmas

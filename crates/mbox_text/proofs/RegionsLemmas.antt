@@ -171,7 +171,7 @@ occurs s n some within feed begins = record {
         ∙ sym (get_or-take 5 line i 0 (omega arith))
         ∙ ap (λ l. slice_index l i) begins
 
-not_mark : (line : List ℕ) → (take 5 line ≡ codes "From " → ⊥) → is_postmark line ≡ false
+pub not_mark : (line : List ℕ) → (take 5 line ≡ codes "From " → ⊥) → is_postmark line ≡ false
 unfolding postmark
 not_mark line never = by_front (bytes_eq (take 5 line) (codes "From ")) refl
   where

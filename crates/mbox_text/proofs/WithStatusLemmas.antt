@@ -43,11 +43,11 @@ true_false e = cc
 -- Lines that stay.
 
 -- the line begins a status field
-is_status_field : List ℕ → Bool
+pub is_status_field : List ℕ → Bool
 is_status_field line = is_field line && is_status_name (name_of line)
 
 -- no line begins one
-AreKept : List (List ℕ) → Type 0
+pub AreKept : List (List ℕ) → Type 0
 AreKept [] = Unit {0}
 AreKept (line ∷ lines) = (is_status_field line ≡ false) × AreKept lines
 
@@ -206,14 +206,14 @@ plain_fed line plain = by_feed (fed_or_same line)
 -- The lines of a message that stay, each but the last with its LF.
 
 -- a step of what is left of a message
-record Step (dropped : Bool) (line : List ℕ) (lines : List (List ℕ)) : Type 0 where
-  next : Bool
-  stays : Bool
-  is : kept_from dropped (line ∷ lines)
+pub record Step (dropped : Bool) (line : List ℕ) (lines : List (List ℕ)) : Type 0 where
+  pub next : Bool
+  pub stays : Bool
+  pub is : kept_from dropped (line ∷ lines)
       ≡ (if stays then line ∷ kept_from next lines else kept_from next lines)
-  plain : stays ≡ true → is_status_field line ≡ false
+  pub plain : stays ≡ true → is_status_field line ≡ false
 
-step_from : (dropped : Bool) (line : List ℕ) (lines : List (List ℕ)) → is_empty_line line ≡ false
+pub step_from : (dropped : Bool) (line : List ℕ) (lines : List (List ℕ)) → is_empty_line line ≡ false
     → Step dropped line lines
 unfolding is_status_field
 step_from dropped line lines some =
@@ -272,20 +272,18 @@ from_empty dropped line lines empty =
     ++ (if t then line ∷ lines else after_block lines)) empty
 
 -- they are such lines, and no more than there were
-AreLeft : List (List ℕ) → List (List ℕ) → Type 0
+abbrev pub AreLeft : List (List ℕ) → List (List ℕ) → Type 0
 AreLeft left lines = AreLines left × (length left ≤ length lines)
 
 left_on : (line : List ℕ) (left lines : List (List ℕ)) → AreLines (line ∷ lines)
     → AreLeft left lines → (stays : Bool)
     → AreLeft (if stays then line ∷ left else left) (line ∷ lines)
-unfolding AreLeft
 left_on line left lines are less true =
     ((are.0, (λ more. are.1 (omega (arith, more, less.1))), less.0), omega (arith, less.1))
 left_on line left lines are less false = (less.0, omega (arith, less.1))
 
-left_lines : (lines : List (List ℕ)) (dropped : Bool) → AreLines lines
+pub left_lines : (lines : List (List ℕ)) (dropped : Bool) → AreLines lines
     → AreLeft (kept_from dropped lines) lines
-unfolding AreLeft
 left_lines [] dropped are = (tt, omega arith)
 left_lines (line ∷ lines) dropped are =
     by_line (is_empty_line line) refl (λ d. left_lines lines d are.2)
@@ -317,7 +315,7 @@ block_on line (next ∷ left) plain more = by_line (is_empty_line line)
     by_line true = tt
     by_line false = (plain, more)
 
-empty_fed : (line : List ℕ) → is_empty_line line ≡ true → is_empty_line (with_feed line) ≡ true
+pub empty_fed : (line : List ℕ) → is_empty_line line ≡ true → is_empty_line (with_feed line) ≡ true
 empty_fed line empty = by_line (or_cases _ _ empty)
   where
     by_line : (bytes_eq line (codes "\n") ≡ true) ⊎ (bytes_eq line (codes "\r\n") ≡ true)
@@ -364,7 +362,7 @@ left_block (line ∷ lines) dropped =
 -- The status fields.
 
 -- the lines of the status fields by the four flags
-status_of : Bool → Bool → Bool → Bool → List (List ℕ)
+unfoldable pub status_of : Bool → Bool → Bool → Bool → List (List ℕ)
 status_of seen aged replied flagged =
     (if seen then codes "Status: RO\n" ∷ [] else (if aged then codes "Status: O\n" ∷ [] else []))
     ++ (if replied
@@ -372,12 +370,12 @@ status_of seen aged replied flagged =
     else (if flagged then codes "X-Status: F\n" ∷ [] else []))
 
 -- What they are among other lines, and what they tell.
-record IsStatus (seen aged replied flagged : Bool) (more : List (List ℕ)) : Type 0 where
-  ended : AreEnded more
-  goes : without_status false more ≡ []
-  block : (lines : List (List ℕ)) → header_block (more ++ lines) ≡ more ++ header_block lines
-  after : (lines : List (List ℕ)) → after_block (more ++ lines) ≡ after_block lines
-  tells : told_flags (fields_of more) ≡ record {
+pub record IsStatus (seen aged replied flagged : Bool) (more : List (List ℕ)) : Type 0 where
+  pub ended : AreEnded more
+  pub goes : without_status false more ≡ []
+  pub block : (lines : List (List ℕ)) → header_block (more ++ lines) ≡ more ++ header_block lines
+  pub after : (lines : List (List ℕ)) → after_block (more ++ lines) ≡ after_block lines
+  pub tells : told_flags (fields_of more) ≡ record {
     seen = seen;
     aged = seen || aged;
     replied = replied;
@@ -603,16 +601,16 @@ last_fed (line ∷ next ∷ []) = ap (λ ls. line ∷ ls) (last_fed (next ∷ []
 last_fed (line ∷ next ∷ third ∷ lines) = ap (λ ls. line ∷ ls) (last_fed (next ∷ third ∷ lines))
 
 -- The lines of what stays of a message, each with its LF: none in the block is of a status field.
-record Ready (region : List ℕ) : Type 0 where
-  first : List ℕ
-  rest : List (List ℕ)
-  is : lines_of (kept_text region) ≡ first ∷ rest
-  ended : AreEnded (first ∷ rest)
-  kept : AreKept (header_block rest)
-  same : concat (without_separator (first ∷ rest)) ≡ core region
+pub record Ready (region : List ℕ) : Type 0 where
+  pub first : List ℕ
+  pub rest : List (List ℕ)
+  pub is : lines_of (kept_text region) ≡ first ∷ rest
+  pub ended : AreEnded (first ∷ rest)
+  pub kept : AreKept (header_block rest)
+  pub same : concat (without_separator (first ∷ rest)) ≡ core region
 
-ready : (region : List ℕ) → Ready region
-unfolding core AreLeft AreKept
+pub ready : (region : List ℕ) → Ready region
+unfolding core AreKept
 ready region = by_lines (lines_of region) refl
   where
     by_rest : (first : List ℕ) (left : List (List ℕ)) → kept_lines (lines_of region) ≡ first ∷ left
@@ -657,7 +655,7 @@ ready region = by_lines (lines_of region) refl
         (left_block lines false)
 
 -- a message of these lines with status fields
-lines_with : (flags : Flags) (region : List ℕ) (r : Ready region)
+pub lines_with : (flags : Flags) (region : List ℕ) (r : Ready region)
     → IsStatus flags.seen flags.aged flags.replied flags.flagged (status_lines flags)
     → lines_of (with_status flags region)
     ≡ r.first ∷ (header_block r.rest ++ (status_lines flags ++ after_block r.rest))
@@ -680,7 +678,7 @@ block_with flags rest s =
     ∙ ap (λ ls. header_block rest ++ ls) (s.block (after_block rest)
     ∙ ap (λ ls. status_lines flags ++ ls) (after_none rest) ∙ append-nil (status_lines flags))
 
-flags_status : (flags : Flags)
+pub flags_status : (flags : Flags)
     → IsStatus flags.seen flags.aged flags.replied flags.flagged (status_lines flags)
 unfolding status_of
 flags_status flags = status_is flags.seen flags.aged flags.replied flags.flagged

@@ -3,3 +3,4 @@ pub mod Regions
 pub mod MessageCore
 pub mod Status
 pub mod WithStatus
+pub mod Rewriting
