@@ -3,21 +3,17 @@ use Rattle.std.proofs.Common.{◌≡◌, ◌≤◌, ◌<◌, ◌&&◌, ◌==◌,
 use Rattle.std.proofs.Common.{[], ◌∷◌, Option, Some, None, length, nat_lt, nat_le, cond}
 use Rattle.std.proofs.Common.{if◌then◌else◌}
 use Rattle.std.proofs.Common.{refl, sym, ◌∙◌, ap, subst, arith}
-use Rattle.std.specs.Prelude.{IfSome, get_or, slice_get, slice_index_or, unwrap_or}
+use Rattle.std.specs.Prelude.{IfSome, slice_get, slice_index_or, unwrap_or}
 use Rattle.std.specs.Cmp.Lexicographic.{slice_cmp}
-use Rattle.std.specs.Fmt.{decimal}
 use Rattle.std.specs.List.Sorted.{IsPartitionPoint}
 use Rattle.std.specs.Ordering.{is_eq, is_lt, nat_cmp, ordering_then}
-use Rattle.std.specs.Str.{all_ascii_digits, bytes_eq}
-use Rattle.std.specs.Str.Parse.{digits_value}
+use Rattle.std.specs.Str.{bytes_eq}
 use Rattle.std.specs.declared.cmp.Ordering.{Ordering}
 use Rattle.std.specs.declared.cmp.Ordering.TheVariants.{Less, Equal, Greater}
 use Rattle.std.proofs.lemmas.Bool.{and_from, and_parts}
 use Rattle.std.proofs.lemmas.Bool.Decides.{nat_tests}
-use Rattle.std.proofs.lemmas.Fmt.{decimal-digits_value}
 use Rattle.std.proofs.lemmas.Map.Text.{is_eq-slice_cmp}
 use Rattle.std.proofs.lemmas.Slice.Eq.{bytes_eq-Decides}
-use Rattle.std.proofs.lemmas.Str.Parse.{IsNumeralModel, numerals_by_value, tells_all_ascii_digits}
 use Rattle.disk_model.specs.Journal.{Past}
 use Rattle.disk_model.proofs.Trees.{bytes_same}
 use Rattle.folder_letters.specs.Letters.{Mail}
@@ -26,9 +22,9 @@ use Rattle.folder_core.specs.Bore.{IfTold}
 use Rattle.folder_core.specs.Keeping.{ListedMail, PlacedByKey, mail_of, mails_of, stamped}
 use Rattle.folder_core.specs.Keeping.{with_mail}
 use Rattle.folder_core.specs.Mh.{AllBore, number_at}
-use Rattle.folder_core.specs.MhNumbers.{begins_zero, number_of}
+use Rattle.folder_core.specs.MhNumbers.{number_of}
 use Rattle.folder_core.specs.Right.{mail_before, mails_rise}
-use Rattle.mail_base.specs.Decimal.{decimal_in, in_range, is_digits}
+use Rattle.mh_syncs.proofs.Decimals.{number_once, number_writes}
 use Rattle.mh_folder.specs.KnownFile.{rises_from, file_if, file_in, file_of, files_of, id_at}
 use Rattle.mh_folder.specs.KnownFile.{order_behind}
 use Rattle.mh_folder.specs.Visit.{WasBorne}
@@ -38,64 +34,6 @@ true_false : ◌≡◌ {A = Bool} true false → ⊥
 true_false e = cc
 
 -- A number is written in one way.
-
-own : IsNumeralModel (λ ds. all_ascii_digits ds ≡ true) (digits_value 10)
-own = numerals_by_value _ tells_all_ascii_digits
-
--- digits in a range without a zero in front
-pub record Writes (n : ℕ) (name : List ℕ) : Type 0 where
-  pub digits : is_digits name ≡ true
-  pub value : digits_value 10 name ≡ n
-  pub low : 1 ≤ n
-  pub high : n ≤ 4294967295
-  pub front : begins_zero name ≡ false
-
-in_bounds : (low high n m : ℕ) → in_range low high n ≡ Some m → (n ≡ m) × ((low ≤ m) × (m ≤ high))
-in_bounds low high n m is =
-    by_test (nat_le low n && nat_le n high) refl is
-  where
-    by_test : (t : Bool) → (nat_le low n && nat_le n high) ≡ t
-        → (if t then Some n else None) ≡ Some m → (n ≡ m) × ((low ≤ m) × (m ≤ high))
-    by_test false e is = absurd (cc)
-    by_test true e is =
-        let same : n ≡ m = cc in
-        let parts = and_parts (nat_le low n) (nat_le n high) e in
-        let above : low ≤ n = (let h = parts.0 in grind (arith, nat_tests)) in
-        let below : n ≤ high = (let h = parts.1 in grind (arith, nat_tests)) in
-        (same, (omega (arith, above, same), omega (arith, below, same)))
-
-pub number_writes : (name : List ℕ) (n : ℕ) → number_of name ≡ Some n → Writes n name
-number_writes name n is = by_zero (begins_zero name) refl is
-  where
-    by_zero : (zero_first : Bool) → begins_zero name ≡ zero_first
-        → (if zero_first then None else decimal_in 1 4294967295 name) ≡ Some n → Writes n name
-    by_zero true e is = absurd (cc)
-    by_zero false e is = by_digits (is_digits name) refl is
-      where
-        by_digits : (digits : Bool) → is_digits name ≡ digits
-            → (if digits then in_range 1 4294967295 (digits_value 10 name) else None) ≡ Some n
-            → Writes n name
-        by_digits false d told = absurd (cc)
-        by_digits true d told =
-            let bounds = in_bounds 1 4294967295 (digits_value 10 name) n told in
-            record { digits = d; value = bounds.0; low = bounds.1.0; high = bounds.1.1; front = e }
-
-no_zero : (name : List ℕ) → begins_zero name ≡ false → get_or name 0 0 ≡ 48 → length name ≡ 1
-no_zero [] front is = absurd (omega (arith, is))
-no_zero (b ∷ rest) front is = absurd (true_false (grind (arith, nat_tests, front, is)))
-
-written : (name : List ℕ) (n : ℕ) → Writes n name → decimal n ≡ name
-written name n w =
-    let parts = and_parts (nat_lt 0 (length name)) (all_ascii_digits name) w.digits in
-    let some : 0 < length name = (let h = parts.0 in grind (arith, nat_tests)) in
-    ap decimal (sym w.value)
-    ∙ decimal-digits_value own name parts.1 some (no_zero name w.front)
-    (omega (arith, w.value, w.high))
-
--- two names of one number are one
-pub number_once : (a b : List ℕ) (n : ℕ) → number_of a ≡ Some n → number_of b ≡ Some n → a ≡ b
-number_once a b n first second =
-    sym (written a n (number_writes a n first)) ∙ written b n (number_writes b n second)
 
 number_there : (key : List ℕ) (n : ℕ) → number_at key ≡ suc n → number_of key ≡ Some (suc n)
 number_there key n is = by_number (number_of key) is
