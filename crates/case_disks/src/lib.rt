@@ -3,4 +3,6 @@
 
 mod nodes;
 
-pub use nodes::{disk_failing, disk_of, disk_stopped, numbers_of, text_of, tree_of, words_of};
+pub use nodes::{
+    disk_failing, disk_of, disk_stopped, disk_turning, numbers_of, text_of, tree_of, words_of,
+};

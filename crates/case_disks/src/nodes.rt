@@ -30,6 +30,16 @@ pub fn disk_failing(alloc: Global, case: &Case, call: u64) -> Result<MemoryDisk,
     disk_with(alloc, case, fails, case.number(b"stop")?)
 }
 
+/// The same disk as `disk_of` makes, on which others do what stands under `each DEED PATH` too,
+/// before this call.
+pub fn disk_turning(alloc: Global, case: &Case, call: u64) -> Result<MemoryDisk, CaseFault> {
+    let mut script = Script::new(alloc);
+    push_script(alloc, case, &mut script)?;
+    push_turn(alloc, case, call, &mut script)?;
+    let fails = numbers_of(alloc, case, b"failing disk")?;
+    disk_by(alloc, case, script, fails, case.number(b"stop")?)
+}
+
 fn disk_with(
     alloc: Global,
     case: &Case,
@@ -38,6 +48,16 @@ fn disk_with(
 ) -> Result<MemoryDisk, CaseFault> {
     let mut script = Script::new(alloc);
     push_script(alloc, case, &mut script)?;
+    disk_by(alloc, case, script, fails, stop)
+}
+
+fn disk_by(
+    alloc: Global,
+    case: &Case,
+    script: Script,
+    fails: Numbers,
+    stop: Option<u64>,
+) -> Result<MemoryDisk, CaseFault> {
     let tree = tree_of(alloc, case)?;
     if is_tree(&tree) {
         Ok(MemoryDisk::new(alloc, tree, script, fails, stop)?)
@@ -55,12 +75,30 @@ fn push_script(alloc: Global, case: &Case, script: &mut Script) -> Result<(), Ca
     Ok(())
 }
 
+fn push_turn(alloc: Global, case: &Case, call: u64, script: &mut Script) -> Result<(), CaseFault> {
+    for entry in case.entries.as_slice() {
+        if entry.role() == b"each".as_slice() {
+            let deed = text_of(entry.about())?;
+            script.push(foreign_before(alloc, call, deed, entry)?)?;
+        }
+    }
+    Ok(())
+}
+
 fn foreign_of(alloc: Global, entry: &Entry) -> Result<Foreign, CaseFault> {
     let (number, deed) = text_of(entry.about())?
         .split_once(' ')
         .ok_or(CaseFault::BadInput)?;
+    foreign_before(alloc, read_number(number.as_bytes())?, deed, entry)
+}
+
+fn foreign_before(
+    alloc: Global,
+    before_call: u64,
+    deed: &str,
+    entry: &Entry,
+) -> Result<Foreign, CaseFault> {
     let (deed, path) = deed.split_once(' ').ok_or(CaseFault::BadInput)?;
-    let before_call = read_number(number.as_bytes())?;
     let path = Bytes::copy_of(alloc, path.as_bytes())?;
     let bytes = Bytes::copy_of(alloc, entry.value.as_slice())?;
     let action = action_of(deed, path, bytes)?;

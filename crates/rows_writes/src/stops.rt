@@ -1,7 +1,7 @@
 //! Cases of folders that are written while calls fail, and opened again from what that leaves.
 
 use crate::playing::{folder_of, no_room, put_all};
-use case_disks::{disk_failing, disk_of, disk_stopped, text_of};
+use case_disks::{disk_failing, disk_of, disk_stopped, disk_turning, text_of};
 use case_files::{Answer, Case, CaseFault, Subject};
 use disk_model::{Device, Fill, Tree, is_tree};
 use folder_core::{Archive, Known, Letter};
@@ -15,14 +15,15 @@ use std::alloc::Global;
 /// The steps of the other cases, stopped at each of their calls, and made again with each of them
 /// refused alone. Each time the disk leaves images with up to eight name operations and three fills
 /// of what is open. They are kept where each image, opened again, has each text under `must` once,
-/// and no other but those under `may`.
+/// and no other but those under `may`. Where others do something under `each`, the steps are made
+/// again with that before each of their calls in turn, and nothing fails then.
 pub struct Stops;
 
 impl Subject for Stops {
     fn inputs(&self) -> &[&[u8]] {
         &[
-            b"file", b"folder", b"failing", b"others", b"maildir", b"mh", b"scan", b"sync",
-            b"recover", b"purge", b"make", b"append", b"must", b"may",
+            b"file", b"folder", b"failing", b"others", b"each", b"maildir", b"mh", b"scan",
+            b"sync", b"recover", b"purge", b"make", b"append", b"must", b"may",
         ]
     }
 
@@ -31,11 +32,12 @@ impl Subject for Stops {
     }
 }
 
-/// Which calls fail.
+/// Which calls fail, or before which others act.
 enum Trouble {
     No,
     From(u64),
     At(u64),
+    Others(u64),
 }
 
 fn disk_in(alloc: Global, case: &Case, trouble: Trouble) -> Result<MemoryDisk, CaseFault> {
@@ -43,6 +45,7 @@ fn disk_in(alloc: Global, case: &Case, trouble: Trouble) -> Result<MemoryDisk, C
         Trouble::No => disk_of(alloc, case),
         Trouble::From(call) => disk_stopped(alloc, case, Some(call)),
         Trouble::At(call) => disk_failing(alloc, case, call),
+        Trouble::Others(call) => disk_turning(alloc, case, call),
     }
 }
 
@@ -74,11 +77,31 @@ fn play_steps(alloc: Global, case: &Case, trouble: Trouble) -> Result<Played, Ca
 
 /// Whether each image is as it must be, whichever call fails.
 fn is_always_kept(alloc: Global, case: &Case) -> Result<bool, CaseFault> {
+    if has_turns(case) {
+        return is_kept_in_turn(alloc, case);
+    }
     let whole = play_steps(alloc, case, Trouble::No)?;
     let mut kept = whole.kept;
     for call in 0..=whole.entries {
         kept = kept && play_steps(alloc, case, Trouble::From(call))?.kept;
         kept = kept && play_steps(alloc, case, Trouble::At(call))?.kept;
+    }
+    Ok(kept)
+}
+
+fn has_turns(case: &Case) -> bool {
+    case.entries
+        .as_slice()
+        .iter()
+        .any(|entry| entry.role() == b"each".as_slice())
+}
+
+/// Whether each image is as it must be, whenever others act.
+fn is_kept_in_turn(alloc: Global, case: &Case) -> Result<bool, CaseFault> {
+    let entries = play_steps(alloc, case, Trouble::No)?.entries;
+    let mut kept = true;
+    for call in 0..entries {
+        kept = kept && play_steps(alloc, case, Trouble::Others(call))?.kept;
     }
     Ok(kept)
 }
