@@ -8,7 +8,7 @@ use Rattle.index_items.specs.Items.{PlainItem, shown_flags}
 use Rattle.index_items.specs.Pending.{no_flags}
 use Rattle.index_items.specs.declared.act.Act.{Act}
 use Rattle.index_items.specs.declared.act.Act.TheVariants.{Set, Clear, TurnFlagged, TurnNew}
-use Rattle.index_items.specs.declared.act.Act.TheVariants.{TurnTag}
+use Rattle.index_items.specs.declared.act.Act.TheVariants.{Age, TurnTag}
 use Rattle.index_items.specs.declared.act.Mark.{Mark}
 use Rattle.index_items.specs.declared.act.Mark.TheVariants.{Deleted, New, Old, Replied, Tagged}
 use Rattle.index_items.specs.declared.act.Mark.TheVariants.{Flagged}
@@ -77,6 +77,8 @@ alteration TurnFlagged shown tag =
 alteration TurnNew shown tag =
     if shown.seen || shown.aged then setting New else clearing New shown
 alteration TurnTag shown tag = Tags (not tag)
+alteration Age shown tag =
+    if shown.seen || shown.aged then flags no_flags no_flags else flags aged_flag no_flags
 
 -- a message with a change
 abbrev pub changed_by : PlainAlteration → PlainItem → PlainItem

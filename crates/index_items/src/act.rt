@@ -30,6 +30,8 @@ pub enum Act {
     /// What was seen or old is new again, and what is new is seen.
     TurnNew,
     TurnTag,
+    /// What is neither seen nor old becomes old.
+    Age,
 }
 
 fn none() -> Flags
@@ -142,6 +144,8 @@ fn alteration(act: Act, shown: Flags, tagged: bool) -> Alteration
         Act::TurnNew if shown.seen || shown.aged => setting(Mark::New),
         Act::TurnNew => clearing(Mark::New, shown),
         Act::TurnTag => Alteration::Tag(!tagged),
+        Act::Age if shown.seen || shown.aged => flags(none(), none()),
+        Act::Age => flags(aged(), none()),
     }
 }
 

@@ -18,7 +18,7 @@ use Rattle.index_items.specs.Alteration.{alter_at, altered_where}
 use Rattle.index_items.specs.Items.{PlainItem, ids_of, no_item, shown_flags}
 use Rattle.index_items.specs.declared.act.Act.{Act}
 use Rattle.index_items.specs.declared.act.Act.TheVariants.{Set, Clear, TurnFlagged, TurnNew}
-use Rattle.index_items.specs.declared.act.Act.TheVariants.{TurnTag}
+use Rattle.index_items.specs.declared.act.Act.TheVariants.{Age, TurnTag}
 use Rattle.index_items.specs.declared.act.Mark.{Mark as ActMark}
 use Rattle.index_items.specs.declared.act.Mark.TheVariants.{Deleted, New, Old, Replied, Tagged}
 use Rattle.index_items.specs.declared.act.Mark.TheVariants.{Flagged}
@@ -277,6 +277,7 @@ module _ (i : PlainItem) where
   act_keeps TurnFlagged shown tag = if_keeps shown.flagged _ _ refl refl
   act_keeps TurnNew shown tag = if_keeps (shown.seen || shown.aged) _ _ refl refl
   act_keeps TurnTag shown tag = refl
+  act_keeps Age shown tag = if_keeps (shown.seen || shown.aged) _ _ refl refl
 
 pub acted_shut : (act : Act) (id : Id) (items : List PlainItem)
     → map shut_of (alter_at id (acted act) items) ≡ map shut_of items

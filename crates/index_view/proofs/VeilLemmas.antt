@@ -12,7 +12,7 @@ use Rattle.index_items.specs.Items.{PlainItem, shown_flags}
 use Rattle.index_items.specs.Pending.{joined, no_flags, shown, without}
 use Rattle.index_items.specs.declared.act.Act.{Act}
 use Rattle.index_items.specs.declared.act.Act.TheVariants.{Set, Clear, TurnFlagged, TurnNew}
-use Rattle.index_items.specs.declared.act.Act.TheVariants.{TurnTag}
+use Rattle.index_items.specs.declared.act.Act.TheVariants.{Age, TurnTag}
 use Rattle.index_items.specs.declared.act.Mark.{Mark}
 use Rattle.index_items.specs.declared.act.Mark.TheVariants.{Deleted, New, Old, Replied, Tagged}
 use Rattle.index_items.specs.declared.act.Mark.TheVariants.{Flagged}
@@ -82,6 +82,7 @@ module _ (i : PlainItem) where
   act_leaves TurnFlagged f tag = if_leaves flags_alone f.flagged _ _ refl refl
   act_leaves TurnNew f tag = if_leaves flags_alone (f.seen || f.aged) _ _ refl refl
   act_leaves TurnTag f tag = refl
+  act_leaves Age f tag = if_leaves flags_alone (f.seen || f.aged) _ _ refl refl
 
 acted_leaves : (act : Act) (id : Id) (items : List PlainItem)
     → map (item_but (touched act)) (alter_at id (acted act) items)

@@ -46,6 +46,7 @@ impl Touched {
             Act::Set(mark) | Act::Clear(mark) => touched_by(mark),
             Act::TurnFlagged => touched_by(Mark::Flagged),
             Act::TurnNew => touched_by(Mark::New),
+            Act::Age => touched_by(Mark::Old),
             Act::TurnTag => touched_by(Mark::Tagged),
         }
     }
