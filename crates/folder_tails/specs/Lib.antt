@@ -1,0 +1,11 @@
+pub mod Sides
+pub mod Tails
+pub mod Settled
+pub mod Rows
+pub mod Others
+pub mod Stages
+pub mod Recovery
+pub mod Taking
+pub mod Traces
+pub mod Serving
+pub mod Calls
