@@ -76,10 +76,10 @@ module _ (Has : Kind → Type 0) (given : Given) (path : List ℕ) (why : OpenFa
       why marks.faults_before marks.faults_after stated happened.0 counted.0.cause
   none_refused s counts past (FileRead file text at ∷ files) are readable happened counted =
       none_refused (after given s (FileRead file text at)) (counts_after counts (Some at)) past
-      files are.1 readable happened.1 counted.1
+      files are.1 readable happened.2 counted.1
   none_refused s counts past (FileRefused file cause at ∷ files) are readable happened counted =
       none_refused (after given s (FileRefused file cause at)) (counts_after counts (Some at)) past
-      files are.1 readable happened.1 counted.1
+      files are.1 readable happened.2 counted.1
   none_refused s counts past (_ ∷ files) are readable happened counted = absurd are.0
 
   -- a disk that tells nothing at the end shows no folder that could be read

@@ -8,7 +8,6 @@ use Rattle.mail_base.specs.Streams.{Sent}
 use Rattle.mail_base.proofs.Sending.{appends_then}
 use Rattle.mail_base.specs.declared.kind.Kind.{Kind}
 use Rattle.disk_model.specs.Journal.{Past}
-use Rattle.disk_model.specs.Looking.{LooksOnly}
 use Rattle.mutt_words.specs.Options.{PlainOptions}
 use Rattle.session_events.specs.Events.{Happening}
 use Rattle.session.specs.Given.{Given}
@@ -82,17 +81,6 @@ module _ {choice : Result PlainOptions (List ℕ)} {start : ℤ} {Has : Kind →
       subst (λ (m : ℤ). Gives before new.moments (m ∷ pressed_moments events)) (sym same)
       (gives_then before old.moments new.moments (first ∷ []) (pressed_moments events) tick
       reads.clocked)
-
-  only_looked : (first now : Option Past)
-      → IsTold Has given (first_by choice start) events first now
-      → LooksOnly first now
-  only_looked None now told = told
-  only_looked (Some first) None told = told
-  only_looked (Some first) (Some now) told = told.0
-
-  -- a told past was only looked at
-  pub looked : LooksOnly old.disk.told new.disk.told
-  looked = only_looked old.disk.told new.disk.told reads.told.told
 
 -- Pieces that are sent one after the other.
 

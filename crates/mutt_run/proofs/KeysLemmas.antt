@@ -9,7 +9,7 @@ use Rattle.keymap.specs.Reader.{PlainReader, most_bytes, Begins, Gives as GivesK
 use Rattle.keymap.specs.Stream.{first_key, is_open, keys_of}
 use Rattle.keymap.specs.declared.key.Key.{Key}
 use Rattle.keymap.specs.declared.key_reader.KeyFault.{KeyFault}
-use Rattle.session_events.specs.Events.{AreFiles, Happening, FileRead, FileRefused, KeyPressed}
+use Rattle.session_events.specs.Events.{AreFiles, AreWorks, Happening, FileRead, FileRefused, KeyPressed}
 use Rattle.session_events.specs.Events.{FolderOpened, FolderRefused, FolderChecked, CheckRefused}
 use Rattle.session_state.specs.declared.stage.Stage.{Stage}
 use Rattle.session_state.specs.declared.stage.Stage.TheVariants.{Idle, Over}
@@ -21,8 +21,7 @@ use Rattle.session_events.specs.Happened.{AllMet}
 use Rattle.session_events.specs.declared.event.Trace.{Trace}
 use Rattle.session.specs.Calls.{KeepsGiven}
 use Rattle.session.proofs.GivenLemmas.{keeps_on, keeps_same, keeps_still}
-use Rattle.session_events.proofs.MetLemmas.{met_append, met_files, met_key}
-use Rattle.session.specs.Steps.{AddsCheck, AddsFiles, AreChecks, PressesKey, StaysMet}
+use Rattle.session.specs.Steps.{AddsCheck, AddsWorks, AreChecks, PressesKey, StaysMet}
 use Rattle.mutt_run.specs.Going.{AreActs, CountsStreams, GoesToEnd, Presses, TurnsKey}
 use Rattle.mutt_run.specs.declared.status.Status.{Status}
 use Rattle.mutt_run.specs.declared.status.Status.TheVariants.{Done, KeysFault, OutFault}
@@ -69,6 +68,20 @@ files_keyless (FileRead path text marks ∷ files) are = files_keyless files are
 files_keyless (FileRefused path why marks ∷ files) are = files_keyless files are.1
 files_keyless (_ ∷ files) are = absurd are.0
 
+-- So are files, checks and syncs that keys come to.
+
+works_acts : (works : List Happening) → AreWorks works → AreActs works
+works_acts [] are = tt
+works_acts (FolderOpened path kind at came marks ∷ works) are = absurd are.0
+works_acts (FolderRefused path why marks ∷ works) are = absurd are.0
+works_acts (_ ∷ works) are = works_acts works are.1
+
+works_keyless : (works : List Happening) → AreWorks works
+    → (pressed_keys works ≡ []) × (pressed_moments works ≡ [])
+works_keyless [] are = (refl, refl)
+works_keyless (KeyPressed key moment ∷ works) are = absurd are.0
+works_keyless (_ ∷ works) are = works_keyless works are.1
+
 -- Checks are acts without keys.
 
 checks_acts : (checks : List Happening) → AreChecks checks → AreActs checks
@@ -85,18 +98,18 @@ checks_keyless (CheckRefused moment why marks ∷ checks) are = checks_keyless c
 checks_keyless (_ ∷ checks) are = absurd are.0
 
 -- a turn has one key
-turned_keys : (key : Key) (moment : ℤ) (checks files : List Happening) → AreChecks checks
-    → AreFiles files
-    → (pressed_keys (checks ++ KeyPressed key moment ∷ files) ≡ key ∷ [])
-    × (pressed_moments (checks ++ KeyPressed key moment ∷ files) ≡ moment ∷ [])
-turned_keys key moment checks files are more =
+turned_keys : (key : Key) (moment : ℤ) (checks works : List Happening) → AreChecks checks
+    → AreWorks works
+    → (pressed_keys (checks ++ KeyPressed key moment ∷ works) ≡ key ∷ [])
+    × (pressed_moments (checks ++ KeyPressed key moment ∷ works) ≡ moment ∷ [])
+turned_keys key moment checks works are more =
     let none = checks_keyless checks are in
-    let last = files_keyless files more in (
-      keys-append checks (KeyPressed key moment ∷ files)
-          ∙ ap (λ (l : List Key). l ++ key ∷ pressed_keys files) none.0
+    let last = works_keyless works more in (
+      keys-append checks (KeyPressed key moment ∷ works)
+          ∙ ap (λ (l : List Key). l ++ key ∷ pressed_keys works) none.0
           ∙ ap (λ (l : List Key). key ∷ l) last.0,
-      moments-append checks (KeyPressed key moment ∷ files)
-          ∙ ap (λ (l : List ℤ). l ++ moment ∷ pressed_moments files) none.1
+      moments-append checks (KeyPressed key moment ∷ works)
+          ∙ ap (λ (l : List ℤ). l ++ moment ∷ pressed_moments works) none.1
           ∙ ap (λ (l : List ℤ). moment ∷ l) last.1,
     )
 
@@ -190,13 +203,13 @@ module _ (first now : List Happening) (old : PlainReader) (keys0 keys1 keys2 : O
       → TurnsKey key moment now later
       → Presses first later new keys0 keys2 clock0 clock2
   presses_key key moment clock2 later gives tick is =
-      let more : List Happening = is.checks ++ KeyPressed key moment ∷ is.files in
-      let none = turned_keys key moment is.checks is.files is.are_checks is.are in
+      let more : List Happening = is.checks ++ KeyPressed key moment ∷ is.works in
+      let none = turned_keys key moment is.checks is.works is.are_checks is.are in
       record {
         more = presses.more ++ more;
         are_acts = acts-append presses.more more presses.are_acts
-            (acts-append is.checks (KeyPressed key moment ∷ is.files)
-            (checks_acts is.checks is.are_checks) (files_acts is.files is.are));
+            (acts-append is.checks (KeyPressed key moment ∷ is.works)
+            (checks_acts is.checks is.are_checks) (works_acts is.works is.are));
         events_are = is.pressed ∙ ap (λ (l : List Happening). l ++ more) presses.events_are
             ∙ append_assoc first presses.more more;
         takes = record {
@@ -376,22 +389,22 @@ pub turns_key : (key : Key) (moment given : ℤ) (now mid later : List Happening
 turns_key key moment given now mid later same adds press = record {
   checks = adds.checks;
   are_checks = adds.are;
-  files = press.files;
+  works = press.works;
   are = press.are;
   pressed = press.pressed
-      ∙ ap (λ (m : ℤ). mid ++ KeyPressed key m ∷ press.files) same
-      ∙ ap (λ (l : List Happening). l ++ KeyPressed key moment ∷ press.files) adds.added
-      ∙ append_assoc now adds.checks (KeyPressed key moment ∷ press.files);
+      ∙ ap (λ (m : ℤ). mid ++ KeyPressed key m ∷ press.works) same
+      ∙ ap (λ (l : List Happening). l ++ KeyPressed key moment ∷ press.works) adds.added
+      ∙ append_assoc now adds.checks (KeyPressed key moment ∷ press.works);
 }
 
--- files of commands that keys come to which commands have put
-pub presses_files : (now later : List Happening) (keys : Option (List ℕ))
-    (clock : Option (List ℤ)) → AddsFiles now later
+-- what keys come to that commands have put
+pub presses_works : (now later : List Happening) (keys : Option (List ℕ))
+    (clock : Option (List ℤ)) → AddsWorks now later
     → Presses now later (record { pending = []; taken = 0 }) keys keys clock clock
-presses_files now later keys clock adds =
-    let none = files_keyless adds.files adds.are in record {
-      more = adds.files;
-      are_acts = files_acts adds.files adds.are;
+presses_works now later keys clock adds =
+    let none = works_keyless adds.works adds.are in record {
+      more = adds.works;
+      are_acts = works_acts adds.works adds.are;
       events_are = adds.added;
       takes = subst (λ (l : List Key). TakesKeys l (record { pending = []; taken = 0 }) keys keys)
           (sym none.0) (record {
@@ -406,26 +419,26 @@ presses_files now later keys clock adds =
     }
 
 -- and keys behind them
-pub ends_files : (now mid later : List Happening) (status : Status) (stage : Stage)
-    (keys keys' : Option (List ℕ)) (clock clock' : Option (List ℤ)) → AddsFiles now mid
+pub ends_works : (now mid later : List Happening) (status : Status) (stage : Stage)
+    (keys keys' : Option (List ℕ)) (clock clock' : Option (List ℤ)) → AddsWorks now mid
     → GoesToEnd status mid later stage keys keys' clock clock'
     → GoesToEnd status now later stage keys keys' clock clock'
-ends_files now mid later status stage keys keys' clock clock' adds goes =
-    let none = files_keyless adds.files adds.are in record {
+ends_works now mid later status stage keys keys' clock clock' adds goes =
+    let none = works_keyless adds.works adds.are in record {
       reader = goes.reader;
       presses = record {
-        more = adds.files ++ goes.presses.more;
-        are_acts = acts-append adds.files goes.presses.more (files_acts adds.files adds.are)
+        more = adds.works ++ goes.presses.more;
+        are_acts = acts-append adds.works goes.presses.more (works_acts adds.works adds.are)
             goes.presses.are_acts;
         events_are = goes.presses.events_are
             ∙ ap (λ (l : List Happening). l ++ goes.presses.more) adds.added
-            ∙ append_assoc now adds.files goes.presses.more;
+            ∙ append_assoc now adds.works goes.presses.more;
         takes = subst (λ (l : List Key). TakesKeys l goes.reader keys keys')
-            (sym (keys-append adds.files goes.presses.more
+            (sym (keys-append adds.works goes.presses.more
             ∙ ap (λ (l : List Key). l ++ pressed_keys goes.presses.more) none.0))
             goes.presses.takes;
         given = subst (λ (l : List ℤ). Gives clock clock' l)
-            (sym (moments-append adds.files goes.presses.more
+            (sym (moments-append adds.works goes.presses.more
             ∙ ap (λ (l : List ℤ). l ++ pressed_moments goes.presses.more) none.1))
             goes.presses.given;
       };
@@ -471,24 +484,6 @@ counts_from {status} {keys} {keys'} {out} {mid} {next} {errs} {mid'} {next'} low
     }
 
 -- Letters that were met.
-
--- files of commands meet none
-pub stays_files : (mails mails' : List Mail) (now later : List Happening) → mails' ≡ mails
-    → AddsFiles now later → StaysMet mails now mails' later
-stays_files mails mails' now later same adds all =
-    subst (λ (l : List Mail). AllMet (length l) 0 later) (sym same)
-    (subst (AllMet (length mails) 0) (sym adds.added)
-    (met_append (length mails) (length mails) 0 now adds.files all
-    (met_files (length mails) adds.files adds.are)))
-
--- nor does a key
-pub stays_key : (mails mails' : List Mail) (now later : List Happening) (key : Key) (moment : ℤ)
-    → mails' ≡ mails → PressesKey key moment now later → StaysMet mails now mails' later
-stays_key mails mails' now later key moment same press all =
-    subst (λ (l : List Mail). AllMet (length l) 0 later) (sym same)
-    (subst (AllMet (length mails) 0) (sym press.pressed)
-    (met_append (length mails) (length mails) 0 now (KeyPressed key moment ∷ press.files) all
-    (met_key (length mails) key moment press.files press.are)))
 
 pub stays_same : (mails : List Mail) (now later : List Happening) → later ≡ now
     → StaysMet mails now mails later

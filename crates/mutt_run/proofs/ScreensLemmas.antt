@@ -16,7 +16,7 @@ use Rattle.session.specs.Runs.{stage_screens}
 use Rattle.session.specs.Steps.{Stands}
 use Rattle.session_state.specs.declared.stage.Stage.{Stage}
 use Rattle.session_state.specs.declared.stage.Stage.TheVariants.{Idle}
-use Rattle.session_state.specs.declared.stage.Stage.TheVariants.{Over, Reading}
+use Rattle.session_state.specs.declared.stage.Stage.TheVariants.{Checking, Over, Reading, Syncing}
 use Rattle.mutt_run.specs.Going.{Breaks, BreaksOut, Ended, Goes, GoesOut, IsUnshown, Streams}
 use Rattle.mutt_run.specs.Printed.{last_length}
 use Rattle.mutt_run.specs.Screens.{printed_lines, screen_text}
@@ -101,6 +101,8 @@ module _ (given : Given) (first s : State) (events : List Happening)
         → Appends old mid (concat (texts (screens_from given first events)))
     none_shown Over is unshown = none_more Over is refl
     none_shown Reading is unshown = none_more Reading is refl
+    none_shown (Syncing purge quits) is unshown = none_more (Syncing purge quits) is refl
+    none_shown (Checking leaves) is unshown = none_more (Checking leaves) is refl
     none_shown _ is unshown = absurd unshown
 
     pub breaks_unshown : Breaks given first events old mid

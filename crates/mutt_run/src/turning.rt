@@ -10,7 +10,7 @@ ghost use Rattle.session.specs.Fitting.{FitsRun};
 ghost use Rattle.session.specs.Given.{Given, IsGivenOn};
 ghost use Rattle.session.specs.Calls.{IsOpenIn, KeepsGiven};
 ghost use Rattle.session.specs.Runs.{State, after_events, plain_session, screen_in};
-ghost use Rattle.session.specs.Steps.{GoesOn, IsNext, StaysMet, StaysToldFrom};
+ghost use Rattle.session.specs.Steps.{GoesOn, IsNext, Stands, StaysMet, StaysToldFrom};
 ghost use Rattle.session_state.specs.declared.stage.Stage.TheVariants.{Idle};
 ghost use Rattle.mutt_run.specs.Going.{BeginsOut, CountsStreams, Ended, GoesOut, GoesSo, GoesToEnd};
 ghost use Rattle.mutt_run.specs.Going.{IsTurnedTo, Shows, Streams, Turned, TurnsKey, streams};
@@ -188,8 +188,9 @@ fn turn<O: Sink, E: Sink>(
         (plain_events trace.new.events.items) }
     ensures told { (given : Given)
         → IsGivenOn (map plain_letter trace.new.archive.items) trace.new.verdicts.kept given
-        → (first : State) → after_events given first (plain_events trace.old.events.items)
-        ≡ plain_session session.old trace.old.notes
+        → (first : State) → (screens : List (List (List ℕ)))
+        → Stands given first (plain_events trace.old.events.items)
+        (plain_session session.old trace.old.notes) screens
         → StaysToldFrom (λ kind. Any (λ d. sort (d.vtable, d.value) ≡ kind) drivers.now.list.items)
         given first (plain_events trace.old.events.items) (plain_events trace.new.events.items)
         (seen (dev.old.disk.vtable, dev.old.disk.value))

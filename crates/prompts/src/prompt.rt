@@ -37,7 +37,7 @@ fn append_chars(line: &mut Line, chars: &[char]) -> Result<(), NoMemory>
 }
 
 impl Prompt {
-    ghost use Rattle.std.specs.Prelude.{◌≡◌, [], IfOk, OnErr, OnOk};
+    ghost use Rattle.std.specs.Prelude.{◌≡◌, ◌++◌, [], IfOk, OnErr, OnOk};
     ghost use Rattle.prompts.specs.Prompts as spec;
 
     /// A prompt at which nothing was typed yet.
@@ -96,14 +96,11 @@ impl Prompt {
         Ok(line)
     }
 
-    /// The prompt as it is shown, with what was typed.
-    pub fn shown(&self, alloc: Global) -> Result<Line, NoMemory>
-        ensures { IfOk result (λ line. line.items ≡ spec.shown self.now) }
+    /// Adds the prompt as it is shown, with what was typed.
+    pub fn append_shown(&self, alloc: Global, line: &mut Line) -> Result<(), NoMemory>
+        ensures { OnOk result (line.new.items ≡ line.old.items ++ spec.shown self.now) }
     {
-        let mut line = Line::new(alloc);
-        line.append(self.asking.text())?;
-        let typed = self.text(alloc)?;
-        line.append_bytes(typed.as_slice())?;
-        Ok(line)
+        self.asking.append_text(alloc, line)?;
+        append_chars(line, &self.typed)
     }
 }

@@ -28,5 +28,6 @@ fn play_all(rt: &HostRuntime, report: &mut Report) -> Result<(), NoMemory> {
     play_file(rt, &WholeRuns, "runs_scores", report)?;
     play_file(rt, &WholeRuns, "runs_sources", report)?;
     play_file(rt, &WholeRuns, "runs_pager", report)?;
-    play_file(rt, &WholeRuns, "runs_checks", report)
+    play_file(rt, &WholeRuns, "runs_checks", report)?;
+    play_file(rt, &WholeRuns, "runs_syncs", report)
 }

@@ -12,9 +12,9 @@ use Rattle.session_index.specs.Desk.{Holds, PlainWanted, plain_desk, plain_wante
 use Rattle.session_index.specs.Effects.{performed}
 use Rattle.session_index.specs.Viewing.{allows, gone_on, leads, way_on}
 use Rattle.session_index.specs.declared.desk.Desk.{Desk}
-use Rattle.session_index.specs.declared.rule.Rule.{Rule}
-use Rattle.session_index.specs.declared.wanted.Wanted.{Wanted}
-use Rattle.session_index.specs.declared.wanted.Wanted.TheVariants as wanted
+use Rattle.index_functions.specs.declared.rule.Rule.{Rule}
+use Rattle.index_functions.specs.declared.wanted.Wanted.{Wanted}
+use Rattle.index_functions.specs.declared.wanted.Wanted.TheVariants as wanted
 use Rattle.session_pager.specs.declared.pager_functions.PagerDeed.{PagerDeed}
 use Rattle.session_pager.specs.declared.pager_functions.PagerDeed.TheVariants as pager
 use Rattle.session.specs.Acting.{deleting, followed, is_at, on_or_left, page_done, pager_done}
@@ -46,7 +46,7 @@ over_fresh mails window view new same is_of reads = record {
 
 -- a function is done in the index by the rule of the settings
 pub performing : (window : Window) (rule : Rule) (mails : List Mail) (function : Function)
-    (core : Core) (d : Desk) (c : CoreState) → rule ≡ rule_of core.rules.settings window
+    (core : Core) (d : Desk) (c : CoreState) → rule ≡ rule_of core.rules.settings core.kind window
     → plain_core core ≡ c → Holds mails (performed rule mails function (plain_desk core.desk)) d
     → plain_core (record core { desk = d }) ≡ performed_in window mails function c
 performing window rule mails function core d c by is holds =
@@ -73,7 +73,7 @@ leaves g rule c none = sym (else_is (leads (way_on rule g.given.mails c.desk)) _
 -- a message is deleted
 pub deletes : (g : Ground) (function : Function) (c : CoreState)
     → allows g.given.mails function c.desk ≡ true
-    → on_or_left g (still g.window) (performed_by (still g.window) g.given.mails function c)
+    → on_or_left g (still g.window c) (performed_by (still g.window c) g.given.mails function c)
     ≡ deleting g function c
 deletes g function c allowed =
     sym (then_is (allows g.given.mails function c.desk) _ _ allowed)
@@ -102,6 +102,7 @@ heeded_else g (wanted.ToAnswer asking text) c no_text no_key = absurd (no_text a
 heeded_else g (wanted.ToChoose asking key) c no_text no_key = absurd (no_key asking key refl)
 heeded_else g wanted.ToDisplay c no_text no_key = refl
 heeded_else g wanted.ToList c no_text no_key = refl
+heeded_else g (wanted.ToSync purge quits) c no_text no_key = refl
 
 -- so what is wanted is put back
 pub put_back : (g : Ground) (w : Wanted) (c : CoreState)

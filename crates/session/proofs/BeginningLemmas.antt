@@ -244,9 +244,9 @@ opened_fresh letters told _ folder listed is = absurd is
 
 opened_checked : (letters : List Mail) (told : Option Past) (moment : ℤ) (event : Happening)
     (folder : OpenFolder) → IsOpening moment event → IsOpenAs letters told event (Ok folder)
-    → (folder.checked ≡ moment) × (folder.forgot ≡ false)
+    → (folder.checked ≡ moment) × (folder.forgot ≡ false) × (folder.refused ≡ false)
 opened_checked letters told moment (FolderOpened path kind at came marks) folder opening is =
-    (is.checked ∙ opening, is.forgot)
+    (is.checked ∙ opening, is.forgot, is.refused)
 opened_checked letters told moment (FolderRefused path why marks) folder opening is = absurd is
 opened_checked letters told moment _ folder opening is = absurd is
 
@@ -282,6 +282,7 @@ pub record IsOpened (Has : Kind → Type 0) (letters : List Mail) (now : Seen) (
   pub fresh : IsFresh letters folder.listing.items
   pub checked : folder.checked ≡ moment
   pub forgot : folder.forgot ≡ false
+  pub refused : folder.refused ≡ false
   pub known : IsOpen letters now.told folder
   pub has : Has folder.known.kind
 
@@ -302,6 +303,7 @@ opens_it {Has} {at} {path} {moment} {letters} {event} {answer} {old} {new} {fold
       fresh = opened_fresh letters new.told event f opens.listed is_as;
       checked = at_moment.0;
       forgot = at_moment.1;
+      refused = at_moment.2;
       known = opened_open letters new.told event f is_as;
       has = opened_has Has letters new.told event f opens.tells.marks opens.tells.cause is_as;
     }

@@ -1,6 +1,6 @@
 -- How a run goes on where a key is taken, by a check before it or by none.
 use Rattle.std.proofs.Common.{◌≡◌, ◌<◌, ◌++◌, ◌∷◌, ◌∙◌, ℕ, ℤ, Bool, true, false, List, [], Option}
-use Rattle.std.proofs.Common.{Result, Ok, Err, ap, arith, length, refl, subst, sym}
+use Rattle.std.proofs.Common.{◌||◌, Result, Ok, Err, ap, arith, length, refl, subst, sym}
 use Rattle.std.proofs.Common.{if◌then◌else◌}
 use Rattle.std.specs.Prelude.{IsOk, OnOk}
 use Rattle.std.proofs.lemmas.Bool.{and_parts}
@@ -33,11 +33,11 @@ use Rattle.session.specs.Core.{CoreState, plain_core, shown_menu}
 use Rattle.session.specs.Fitting.{Fits, FitsRun}
 use Rattle.session.specs.Given.{Given}
 use Rattle.session.specs.Looking.{LooksAgain}
-use Rattle.session.specs.Runs.{State, after, arrived, arrived_by, checked_by}
-use Rattle.session.specs.Runs.{plain_session, shown, stage_screens, taken, taken_at, unchecked_by}
+use Rattle.session.specs.Runs.{State, after, arrived, arrived_by, looked_at, looked_by}
+use Rattle.session.specs.Runs.{plain_session, shown, stage_screens, taken, taken_at}
 use Rattle.session.specs.Runs.{wish, wish_at}
 use Rattle.session.specs.Steps.{Stands}
-use Rattle.session.specs.Telling.{Witnessed, kind_in, standing_of}
+use Rattle.session.specs.Telling.{Witnessed, kind_in, purges_in, standing_of}
 use Rattle.session.specs.declared.session_type.Session.{Session}
 use Rattle.session.proofs.StepsLemmas.{arrives_on, stands_push}
 use Rattle.session.proofs.TellingLemmas.{witnessed_push}
@@ -54,25 +54,27 @@ free_index : (shown : Menu) (prompt : Option PlainPrompt) (begun : List Key)
 free_index menu.Index prompt begun free = refl
 free_index _ prompt begun free = absurd (cc)
 
-due_index : (checked : ℤ) (c : CoreState) (moment : ℤ) → is_due checked c moment ≡ true
-    → IsIndexShown c
-due_index checked c moment due = free_index (shown_menu c) c.desk.prompt c.rules.keymap.begun
+due_index : (refused : Bool) (checked : ℤ) (c : CoreState) (moment : ℤ)
+    → is_due refused checked c moment ≡ true → IsIndexShown c
+due_index refused checked c moment due =
+    free_index (shown_menu c) c.desk.prompt c.rules.keymap.begun
     (and_parts (is_free (shown_menu c) c.desk.prompt c.rules.keymap.begun)
-    (is_over c.rules.settings checked moment) due).0
+    (refused || is_over c.rules.settings checked moment) due).0
 
 -- it is due by what was answered
-pub due_at : (checked : ℤ) (c : CoreState) (said moment : ℤ) (due : Bool) → said ≡ moment
-    → due ≡ is_due checked c said → is_due checked c moment ≡ due
-due_at checked c said moment due same is = ap (is_due checked c) (sym same) ∙ sym is
+pub due_at : (refused : Bool) (checked : ℤ) (c : CoreState) (said moment : ℤ) (due : Bool)
+    → said ≡ moment → due ≡ is_due refused checked c said → is_due refused checked c moment ≡ due
+due_at refused checked c said moment due same is =
+    ap (is_due refused checked c) (sym same) ∙ sym is
 
 -- and so it was looked
-pub looks_at : {Has : Kind → Type 0} {said moment : ℤ} {old new : Session}
+pub looks_at : {Has : Kind → Type 0} {quiet : Bool} {said moment : ℤ} {old new : Session}
     {archive archive' : List Letter} {event : Happening} {before after : Seen} → said ≡ moment
-    → LooksAgain Has said old new archive archive' event before after
-    → LooksAgain Has moment old new archive archive' event before after
-looks_at {Has} {said} {moment} {old} {new} {archive} {archive'} {event} {before} {after} same
-    looks =
-    subst (λ (m : ℤ). LooksAgain Has m old new archive archive' event before after) same looks
+    → LooksAgain Has quiet said old new archive archive' event before after
+    → LooksAgain Has quiet moment old new archive archive' event before after
+looks_at {Has} {quiet} {said} {moment} {old} {new} {archive} {archive'} {event} {before} {after}
+    same looks =
+    subst (λ (m : ℤ). LooksAgain Has quiet m old new archive archive' event before after) same looks
 
 taken_shown : (stage : Stage) (s : State) → IsIndexShown s.turn.core
     → IsIndexShown (taken_at stage s).turn.core
@@ -81,12 +83,12 @@ taken_shown _ s is = is
 
 pub taken_index : (old mid : Session) (moment : ℤ) (notes : Held (Held ℕ))
     → plain_session mid notes ≡ taken (plain_session old notes)
-    → is_due old.folder.checked (plain_core old.core) moment ≡ true
+    → is_due old.folder.refused old.folder.checked (plain_core old.core) moment ≡ true
     → IsIndexShown (plain_core mid.core)
 taken_index old mid moment notes is due =
     let s : State = plain_session old notes in
     subst (λ (t : State). IsIndexShown t.turn.core) (sym is)
-    (taken_shown s.turn.stage s (due_index old.folder.checked (plain_core old.core) moment due))
+    (taken_shown s.turn.stage s (due_index old.folder.refused old.folder.checked (plain_core old.core) moment due))
 
 -- the kind of the folder has a driver still
 pub has_on : {X : Type 0} {Is : X → Type 0} (Has : Kind → Type 0) (old mid : Session)
@@ -100,22 +102,24 @@ has_on Has old mid was now known same =
 still_at : (s : State) → s.turn.stage ≡ Ready → taken s ≡ s
 still_at s ready = ap (λ (stage : Stage). taken_at stage s) ready
 
-check_after : (given : Given) (s : State) (event : Happening) → IsCheck event
+pub check_after : (given : Given) (s : State) (event : Happening) → IsCheck event
     → after given s event ≡ arrived given s event
 check_after given s (FolderChecked moment found marks) is = refl
 check_after given s (CheckRefused moment why marks) is = refl
 check_after given s _ is = absurd is
 
--- a key that was taken is not taken again
+-- before a key it is a check of what was taken
 check_taken : (given : Given) (s t : State) (event : Happening) → IsCheck event → t ≡ taken s
-    → t.turn.stage ≡ Ready → arrived_by given t event ≡ arrived_by given s event
-check_taken given s t (FolderChecked moment found marks) is same ready =
-    ap (checked_by given.mails moment found) (still_at t ready ∙ same)
-check_taken given s t (CheckRefused moment why marks) is same ready =
-    ap (unchecked_by moment why) (still_at t ready ∙ same)
-check_taken given s t _ is same ready = absurd is
+    → s.turn.stage ≡ Idle → looked_by false given.mails t event ≡ arrived_by given s event
+check_taken given s t (FolderChecked at found marks) is same idle =
+    ap (λ (u : State). looked_by false given.mails u (FolderChecked at found marks)) same
+    ∙ ap (λ (stage : Stage). looked_at stage given s (FolderChecked at found marks)) (sym idle)
+check_taken given s t (CheckRefused at why marks) is same idle =
+    ap (λ (u : State). looked_by false given.mails u (CheckRefused at why marks)) same
+    ∙ ap (λ (stage : Stage). looked_at stage given s (CheckRefused at why marks)) (sym idle)
+check_taken given s t _ is same idle = absurd is
 
-check_moment : (event : Happening) (moment : ℤ) → IsCheck event → answered event ≡ Check moment
+pub check_moment : (event : Happening) (moment : ℤ) → IsCheck event → answered event ≡ Check moment
     → moment_of event ≡ moment
 check_moment (FolderChecked at found marks) moment is answers = cc
 check_moment (CheckRefused at why marks) moment is answers = cc
@@ -131,14 +135,14 @@ module _ {X : Type 0} {Is : X → Type 0} (Has : Kind → Type 0) (moment : ℤ)
   abbrev s : State
   s = state_in old was
 
-  wish_is : (due : Bool) → is_due old.folder.checked (plain_core old.core) moment ≡ due
+  wish_is : (due : Bool) → is_due old.folder.refused old.folder.checked (plain_core old.core) moment ≡ due
       → wish s moment ≡ (if due then Check moment else Press moment)
   wish_is due is = ap (λ (stage : Stage). wish_at stage s moment) idle
       ∙ ap (λ (b : Bool). if b then Check moment else Press moment) is
 
   -- no check is due
   pub checks_none : 1 < was.events.room
-      → is_due old.folder.checked (plain_core old.core) moment ≡ false
+      → is_due old.folder.refused old.folder.checked (plain_core old.core) moment ≡ false
       → Checks Has moment old mid was was before before
   checks_none room due = record {
     taken = λ given is first screens stands. record {
@@ -168,8 +172,8 @@ module _ {X : Type 0} {Is : X → Type 0} (Has : Kind → Type 0) (moment : ℤ)
   -- A check was made.
   module _ (new : Session) (now : Trace X Is) (event : Happening) (later : Seen)
       (is_moment : IsMoment moment)
-      (due : is_due old.folder.checked (plain_core old.core) moment ≡ true)
-      (looks : LooksAgain Has moment mid new was.archive.items now.archive.items event before later)
+      (due : is_due old.folder.refused old.folder.checked (plain_core old.core) moment ≡ true)
+      (looks : LooksAgain Has false moment mid new was.archive.items now.archive.items event before later)
       (put : events_in now ≡ events_in was ++ event ∷ []) (notes : now.notes ≡ was.notes) where
     met_is : met_after old.folder.met event ≡ length (letters_in now)
     met_is = ap (λ (f : OpenFolder). met_after f.met event) (sym folder) ∙ sym looks.met
@@ -183,9 +187,11 @@ module _ {X : Type 0} {Is : X → Type 0} (Has : Kind → Type 0) (moment : ℤ)
 
     comes : (given : Given) → IsGivenIn now given → state_in new now ≡ arrived given s event
     comes = arrives_on s (state_in new now) event met_is (λ given is.
-        ap (plain_session new) notes ∙ looks.arrives given is.mails_are was.notes
+        ap (plain_session new) notes ∙ looks.arrives was.notes
+        ∙ ap (λ (l : List Mail). looked_by false l (plain_session mid was.notes) event)
+        (sym is.mails_are)
         ∙ check_taken given s (plain_session mid was.notes) event looks.check (taken_is was.notes)
-        ready)
+        idle)
 
     leads : (given : Given) → IsGivenIn now given → after given s event ≡ state_in new now
     leads given is = check_after given s event looks.check ∙ sym (comes given is)
@@ -211,8 +217,8 @@ module _ {X : Type 0} {Is : X → Type 0} (Has : Kind → Type 0) (moment : ℤ)
         → Tells Has (standing_of s) given.mails event before later
     tells given is =
         tells_more (letters_in now) given.mails is.first (omega (arith, met_is))
-        (subst (λ (f : OpenFolder). Tells Has (standing_over (kind_in s) f) (letters_in now) event
-        before later) folder (looks.tells (kind_in s)))
+        (subst (λ (f : OpenFolder). Tells Has (standing_over (kind_in s) (purges_in s) f)
+        (letters_in now) event before later) folder (looks.tells (kind_in s) (purges_in s)))
 
     next_is : AreNext (length (letters_in was)) event
     next_is = subst (λ (n : ℕ). AreNext n event)

@@ -1,6 +1,6 @@
 -- What a check finds may be taken in, and what it makes of a session.
 use Rattle.std.proofs.Common.{◌≡◌, ◌≤◌, ◌<◌, ◌++◌, ◌∷◌, ◌∙◌, ℕ, Bool, true, false, List, []}
-use Rattle.std.proofs.Common.{ap, arith, inl, inr, length, length-append, map}
+use Rattle.std.proofs.Common.{Err, Ok, Result, ap, arith, inl, inr, length, length-append, map}
 use Rattle.std.proofs.Common.{refl, subst, sym}
 use Rattle.std.proofs.lemmas.List.{take-append-le}
 use Rattle.std.proofs.lemmas.List.Elements.{All-cons, All-head, All-nil, All-tail}
@@ -28,6 +28,15 @@ use Rattle.listing_laws.proofs.ListingLemmas.{found_below}
 use Rattle.session_events.specs.Happened.{IsKnownOf}
 use Rattle.session_events.specs.declared.open_folder.OpenFolder.{OpenFolder}
 use Rattle.session.specs.Looking.{FindsNews}
+use Rattle.session.specs.Checking.{found_again, taken_quietly}
+use Rattle.session.specs.Core.{Stands, plain_core, with_desk}
+use Rattle.session.specs.declared.core_state.Core.{Core}
+use Rattle.session_events.specs.Events.{held_found, plain_found}
+use Rattle.session_index.specs.Desk.{Holds, PlainDesk, plain_desk}
+use Rattle.session_index.specs.Opening.{checked, taken_if}
+use Rattle.session_index.specs.declared.desk.Desk.{Desk}
+use Rattle.mail_base.specs.declared.series.NoMemory.{NoMemory}
+use Rattle.std.specs.Prelude.{OnOk, if◌then◌else◌}
 
 -- A view is of its letters with more behind them.
 
@@ -122,3 +131,38 @@ module _ (mails letters : List Mail) (folder : OpenFolder) (theirs found : Found
             (rise_differ letters folder.known.listing finds.ordered)))
             found_ids;
       }
+
+-- What was found is taken in, and told or not.
+module _ (mails : List Mail) (found : Found) (quiet : Bool) (core : Core) (desk : Desk)
+    (result : Result (Unit {0}) NoMemory) where
+  abbrev news : Core
+  news = record core { desk = desk }
+
+  news_stand : (wanted : PlainDesk) → Holds mails wanted desk
+      → wanted ≡ (if quiet then taken_quietly mails (plain_found found) (plain_desk core.desk)
+      else checked mails (held_found (plain_found found)) (plain_desk core.desk))
+      → Stands mails (found_again quiet mails (plain_found found) (plain_core core)) news
+  news_stand wanted holds is = record {
+    is_of = holds.is_of;
+    same = ap (λ (d : PlainDesk). with_desk d (plain_core core)) (holds.same ∙ is);
+  }
+
+  ok_news : (r : Result (Unit {0}) NoMemory) {P Q : Type 0} → OnOk r P → (P → Q) → OnOk r Q
+  ok_news (Ok done) h f = f h
+  ok_news (Err none) h f = tt
+
+  pub quiet_news : quiet ≡ true → OnOk result (Holds mails (taken_if mails found found.gone.items
+      found.reflagged.items found.came.items (plain_desk core.desk)) desk)
+      → OnOk result (Stands mails (found_again quiet mails (plain_found found) (plain_core core))
+      news)
+  quiet_news is h = ok_news result h (λ holds. news_stand _ holds
+      (ap (λ (b : Bool). if b then taken_quietly mails (plain_found found) (plain_desk core.desk)
+      else checked mails (held_found (plain_found found)) (plain_desk core.desk)) (sym is)))
+
+  pub told_news : quiet ≡ false → OnOk result (Holds mails (checked mails found
+      (plain_desk core.desk)) desk)
+      → OnOk result (Stands mails (found_again quiet mails (plain_found found) (plain_core core))
+      news)
+  told_news is h = ok_news result h (λ holds. news_stand _ holds
+      (ap (λ (b : Bool). if b then taken_quietly mails (plain_found found) (plain_desk core.desk)
+      else checked mails (held_found (plain_found found)) (plain_desk core.desk)) (sym is)))

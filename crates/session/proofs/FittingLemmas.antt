@@ -227,15 +227,12 @@ shown_index Index is = refl
 shown_index (Text id part top hidden) is = absurd (cc)
 shown_index (Parts id cursor) is = absurd (cc)
 
--- where the index is shown, another index and another folder are all that is to fit
-pub index_fits : (mails : List Mail) (old new : Session)
-    → new ≡ record old { core = new.core; folder = new.folder }
-    → IsOf mails new.core.desk.view
-    → plain_reader new.core.reader ≡ plain_reader old.core.reader
-    → IsIndexShown (plain_core old.core) → CanRead old → Fits mails new
-index_fits mails old new same of reader shown can =
-    let showing = ap (λ (r : PlainReader). r.showing) reader
-    ∙ shown_index (plain_reader old.core.reader).showing shown in
+-- where the index is shown, another index, another folder and another stage are all that is to fit
+pub shown_fits : (mails : List Mail) (old new : Session)
+    → new ≡ record old { core = new.core; folder = new.folder; stage = new.stage }
+    → IsOf mails new.core.desk.view → (plain_reader new.core.reader).showing ≡ Index
+    → CanRead old → Fits mails new
+shown_fits mails old new same of showing can =
     act_fits mails new (first_closed new.stage (plain_reader new.core.reader) showing) (record {
       over = record {
         is_of = of;
@@ -248,3 +245,19 @@ index_fits mails old new same of reader shown can =
         few = subst (λ (s : Session). s.queue.replaced ≤ most_replacements) (sym same) can.few;
       };
     })
+
+-- the same where the index was shown
+pub index_fits : (mails : List Mail) (old new : Session)
+    → new ≡ record old { core = new.core; folder = new.folder }
+    → IsOf mails new.core.desk.view
+    → plain_reader new.core.reader ≡ plain_reader old.core.reader
+    → IsIndexShown (plain_core old.core) → CanRead old → Fits mails new
+index_fits mails old new same of reader shown can =
+    shown_fits mails old new
+    (same ∙ (λ i. let s : Session = record old {
+      core = new.core;
+      folder = new.folder;
+      stage = (ap (λ (s : Session). s.stage) (sym same)) i;
+    } in s)) of
+    (ap (λ (r : PlainReader). r.showing) reader
+    ∙ shown_index (plain_reader old.core.reader).showing shown) can

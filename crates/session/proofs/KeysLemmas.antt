@@ -16,11 +16,10 @@ use Rattle.prompts.specs.Prompts.{PlainPrompt}
 use Rattle.session_index.specs.Desk.{PlainWanted}
 use Rattle.session.specs.Acting.{acted, prompted}
 use Rattle.session.specs.Core.{CoreState, Ground, shown_menu}
-use Rattle.session.specs.Keys.{TurnState, behind, once_read, drop_all, keys_by, put_or}
-use Rattle.session.specs.Keys.{read_first, run_keys, stage_after, step, step_at, stopped}
+use Rattle.session.specs.Keys.{TurnState, behind, behind_prompt, drop_all, keys_by, put_or}
+use Rattle.session.specs.Keys.{run_keys, stage_after, step, step_at, stopped}
 use Rattle.session.specs.Keys.{with_begun, with_put}
-use Rattle.session_state.specs.Frames.{PlainFrame}
-use Rattle.session_state.specs.declared.stage.Stage.TheVariants.{Idle, Reading}
+use Rattle.session_state.specs.declared.stage.Stage.TheVariants.{Idle}
 
 -- The begun sequence stands apart from the bindings.
 
@@ -182,62 +181,29 @@ module _ (g : Ground) where
   typed_by : (replaced : ℕ) (again : List Key → CoreState → TurnState) (key : Key)
       (keys : List Key) (o : Option PlainPrompt) (c : CoreState) → ¬ (o ≡ None)
       → step_at g replaced again key keys (keys_by g replaced again keys) o c
-      ≡ once_read replaced keys (keys_by g replaced again keys) (prompted g key c)
+      ≡ behind_prompt replaced keys (keys_by g replaced again keys) (prompted g key c)
   typed_by replaced again key keys None c some = absurd (some refl)
   typed_by replaced again key keys (Some prompt) c some = refl
 
-  -- a prompt that stands takes the first key
   prompt_takes : (replaced : ℕ) (again : List Key → CoreState → TurnState) (key : Key)
       (keys : List Key) (c : CoreState) → c.rules.put ≡ [] → ¬ (c.desk.prompt ≡ None)
-      → once_read replaced keys (keys_by g replaced again keys) (prompted g key c)
-      ≡ keys_by g replaced again (key ∷ keys) c
+      → keys_by g replaced again (key ∷ keys) c
+      ≡ behind_prompt replaced keys (keys_by g replaced again keys) (prompted g key c)
   prompt_takes replaced again key keys c empty some =
-      sym (none_put g replaced again (key ∷ keys) (step_at g replaced again key keys
+      none_put g replaced again (key ∷ keys) (step_at g replaced again key keys
       (keys_by g replaced again keys) c.desk.prompt) c empty
-      ∙ typed_by replaced again key keys c.desk.prompt c some)
+      ∙ typed_by replaced again key keys c.desk.prompt c some
 
-  -- and no file is to be read
-
-  type_by : (replaced : ℕ) (again : List Key → CoreState → TurnState) (key : Key)
-      (keys : List Key) (c : CoreState) → c.rules.put ≡ [] → ¬ (c.desk.prompt ≡ None)
-      → (prompted g key c).frames ≡ []
-      → keys_by g replaced again keys (prompted g key c) ≡ keys_by g replaced again (key ∷ keys) c
-  type_by replaced again key keys c empty some read =
-      sym (ap (λ (frames : List PlainFrame). read_first frames replaced keys
-      (keys_by g replaced again keys) (prompted g key c)) read)
-      ∙ prompt_takes replaced again key keys c empty some
-
+  -- a prompt that stands takes the first key
   pub type_is : (left replaced : ℕ) (key : Key) (keys : List Key) (c : CoreState)
-      → c.rules.put ≡ [] → ¬ (c.desk.prompt ≡ None) → (prompted g key c).frames ≡ []
-      → run_keys g left replaced keys (prompted g key c)
-      ≡ run_keys g left replaced (key ∷ keys) c
+      → c.rules.put ≡ [] → ¬ (c.desk.prompt ≡ None)
+      → run_keys g left replaced (key ∷ keys) c
+      ≡ behind_prompt replaced keys (run_keys g left replaced keys) (prompted g key c)
   unfolding run_keys
-  type_is zero replaced key keys c empty some read =
-      type_by replaced (drop_all g replaced) key keys c empty some read
-  type_is (suc left) replaced key keys c empty some read =
-      type_by replaced (run_keys g left (replaced + 1)) key keys c empty some read
-
-  -- and a file is to be read
-
-  waits_by : (replaced : ℕ) (keys : List Key) (rest : CoreState → TurnState) (c : CoreState)
-      (frames : List PlainFrame) → ¬ (frames ≡ [])
-      → stopped Reading replaced keys c ≡ read_first frames replaced keys rest c
-  waits_by replaced keys rest c [] some = absurd (some refl)
-  waits_by replaced keys rest c (frame ∷ frames) some = refl
-
-  pub wait_is : (left replaced : ℕ) (key : Key) (keys : List Key) (c : CoreState)
-      → c.rules.put ≡ [] → ¬ (c.desk.prompt ≡ None) → ¬ ((prompted g key c).frames ≡ [])
-      → stopped Reading replaced keys (prompted g key c)
-      ≡ run_keys g left replaced (key ∷ keys) c
-  unfolding run_keys
-  wait_is zero replaced key keys c empty some unread =
-      waits_by replaced keys (keys_by g replaced (drop_all g replaced) keys) (prompted g key c)
-      (prompted g key c).frames unread
-      ∙ prompt_takes replaced (drop_all g replaced) key keys c empty some
-  wait_is (suc left) replaced key keys c empty some unread =
-      waits_by replaced keys (keys_by g replaced (run_keys g left (replaced + 1)) keys)
-      (prompted g key c) (prompted g key c).frames unread
-      ∙ prompt_takes replaced (run_keys g left (replaced + 1)) key keys c empty some
+  type_is zero replaced key keys c empty some =
+      prompt_takes replaced (drop_all g replaced) key keys c empty some
+  type_is (suc left) replaced key keys c empty some =
+      prompt_takes replaced (run_keys g left (replaced + 1)) key keys c empty some
 
   -- keys that a command has put stand first
 

@@ -6,6 +6,10 @@ mod TurnLemmas
 pub mod TellingLemmas
 mod SettlingLemmas
 pub mod StepsLemmas
+mod WorksLemmas
+mod WritingLemmas
+mod PressLemmas
+mod BehindLemmas
 mod BeginningLemmas
 mod CallsLemmas
 mod CheckedLemmas

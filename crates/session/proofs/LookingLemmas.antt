@@ -44,22 +44,15 @@ use Rattle.session_events.proofs.CheckLemmas.{tells_refused, tells_starved}
 use Rattle.session.specs.Checking.{IsIndexShown, forgot_by, found_again, refused_again}
 use Rattle.session.specs.Core.{CoreState, plain_core}
 use Rattle.session.specs.Fitting.{Fits}
-use Rattle.session.specs.Given.{Given}
 use Rattle.session.specs.Looking.{FindsNews, IsToldAs, LooksAgain, RefusesCheck, TakesIt}
-use Rattle.session.specs.Runs.{State, arrived_by, checked_by, plain_session, taken_at, unchecked_by}
+use Rattle.session.specs.Runs.{State, looked_by, plain_session}
 use Rattle.session.specs.declared.session_type.Session.{Session}
-use Rattle.session_state.specs.declared.stage.Stage.{Stage}
-use Rattle.session_state.specs.declared.stage.Stage.TheVariants.{Ready}
 use Rattle.session.proofs.CheckingLemmas.{every_in, found_came, known_in}
 use Rattle.session.proofs.FittingLemmas.{index_fits}
 
 -- the letters of an archive
 abbrev letters_of : List Letter → List Mail
 letters_of archive = map plain_letter archive
-
--- a key was taken already
-still_taken : (s : State) → s.turn.stage ≡ Ready → taken_at s.turn.stage s ≡ s
-still_taken s ready = ap (λ (stage : Stage). taken_at stage s) ready
 
 -- the folder with what is known of it now
 abbrev with_known : KnownFolder → OpenFolder → OpenFolder
@@ -91,13 +84,13 @@ finds archive archive' folder mid known scanned theirs before after knows scans 
     })
 
 -- What it found was taken in.
-module _ (Has : Kind → Type 0) (moment : ℤ) (old mid new : Session) (archive archive' : List Letter)
-    (known : KnownFolder) (scanned : Scanned) (theirs found : Found) (before after : Seen)
+module _ (Has : Kind → Type 0) (quiet : Bool) (moment : ℤ) (old mid new : Session)
+    (archive archive' : List Letter) (known : KnownFolder) (scanned : Scanned) (theirs found : Found) (before after : Seen)
     (knows : IsOpen (letters_of archive) before.told old.folder)
     (scans : ScansFolder archive archive' old.folder.known known scanned before after)
     (is : scanned.answer ≡ Ok theirs)
     (same : mid ≡ record old { folder = with_known known old.folder })
-    (takes : TakesIt (letters_of archive') moment mid new found) where
+    (takes : TakesIt quiet (letters_of archive') moment mid new found) where
   found_listed : ListsFound theirs (letters_of archive) (letters_of archive') old.folder.known known
   found_listed = scan_lists archive archive' old.folder.known known scanned theirs before after
       scans is
@@ -120,7 +113,7 @@ module _ (Has : Kind → Type 0) (moment : ℤ) (old mid new : Session) (archive
       found found_news change
 
   letters_are : length (letters_of archive') ≡ old.folder.met + length found.came.items
-  letters_are = letters_count Has old.folder.known.kind old.folder archive archive' known scanned
+  letters_are = letters_count Has old.folder.known.kind false old.folder archive archive' known scanned
       moment before after knows scans theirs is (plain_found found) difference (ap length came)
 
   known_is : new.folder.known ≡ known
@@ -139,21 +132,20 @@ module _ (Has : Kind → Type 0) (moment : ℤ) (old mid new : Session) (archive
   found_rest = takes.same
       ∙ ap (λ (s : Session). record s { core = new.core; folder = new.folder }) same
 
-  found_core : plain_core new.core ≡ found_again (letters_of archive') (plain_found found)
+  found_core : plain_core new.core ≡ found_again quiet (letters_of archive') (plain_found found)
       (plain_core old.core)
   found_core = takes.core
-      ∙ ap (λ (s : Session). found_again (letters_of archive') (plain_found found)
+      ∙ ap (λ (s : Session). found_again quiet (letters_of archive') (plain_found found)
       (plain_core s.core)) same
 
   listing_is : new.folder.listing.items ≡ known.listing
   listing_is = takes.listing ∙ ap (λ (s : Session). s.folder.known.listing) same
 
-  found_arrives : old.stage ≡ Ready → (given : Given) → given.mails ≡ letters_of archive'
-      → (notes : Held (Held ℕ)) → plain_session new notes ≡ arrived_by given
-      (plain_session old notes) (FolderChecked moment (plain_found found) scanned.marks)
-  found_arrives ready given mails notes =
+  found_arrives : (notes : Held (Held ℕ)) → plain_session new notes ≡ looked_by quiet
+      (letters_of archive') (plain_session old notes)
+      (FolderChecked moment (plain_found found) scanned.marks)
+  found_arrives notes =
       let s : State = plain_session old notes in
-      let taken_is : taken_at s.turn.stage s ≡ s = still_taken s ready in
       let behind = behind_is (letters_of archive') old.folder.listing.items known.listing
       (held_found (plain_found found)) knows.once scans.scans.right.ordered difference in
       ap (λ (n : Session). plain_session n notes) found_rest
@@ -167,9 +159,8 @@ module _ (Has : Kind → Type 0) (moment : ℤ) (old mid new : Session) (archive
         forgot = takes.forgot i;
         met = (takes.met ∙ letters_are) i;
         checked = takes.checked i;
+        refused = (takes.refused ∙ ap (λ (n : Session). n.folder.refused) same) i;
       })
-      ∙ ap (λ (l : List Mail). checked_by l moment (plain_found found) s) (sym mails)
-      ∙ ap (checked_by given.mails moment (plain_found found)) (sym taken_is)
 
   found_open : IsOpen (letters_of archive') after.told new.folder
   found_open = record {
@@ -187,16 +178,15 @@ module _ (Has : Kind → Type 0) (moment : ℤ) (old mid new : Session) (archive
     met = takes.met;
   }
 
-  pub look_found : old.stage ≡ Ready → IsIndexShown (plain_core old.core)
-      → Fits (letters_of archive) old
-      → LooksAgain Has moment old new archive archive'
+  pub look_found : IsIndexShown (plain_core old.core) → Fits (letters_of archive) old
+      → LooksAgain Has quiet moment old new archive archive'
       (FolderChecked moment (plain_found found) scanned.marks) before after
-  look_found ready shown fits = record {
+  look_found shown fits = record {
     check = tt;
     answers = refl;
-    tells = λ empty. tells_found Has empty old.folder archive archive' known scanned moment before
+    tells = λ empty purges. tells_found Has empty purges old.folder archive archive' known scanned moment before
         after knows scans theirs is (plain_found found) difference (ap length came);
-    arrives = found_arrives ready;
+    arrives = found_arrives;
     next = ap (map (λ (l : Listed). l.id)) came ∙ found_listed.ids
         ∙ ap (λ (n : ℕ). ids_from n theirs.came.items) (sym knows.met)
         ∙ ap (ids_from old.folder.met) (sym came);
@@ -209,17 +199,20 @@ module _ (Has : Kind → Type 0) (moment : ℤ) (old mid new : Session) (archive
     fits = index_fits (letters_of archive') old new found_rest takes.is_of
         (ap (λ (c : CoreState). c.reader) found_core) shown fits.can;
     stage = ap (λ (s : Session). s.stage) found_rest;
+    window = ap (λ (s : Session). s.window) found_rest;
   }
 
 -- an event has the moment of its check
-pub told_at : (Has : Kind → Type 0) (moment said : ℤ) (old new : Session)
+pub told_at : (Has : Kind → Type 0) (quiet : Bool) (moment said : ℤ) (old new : Session)
     (archive archive' : List Letter) (found : PlainFound) (marks : Marks) (before after : Seen)
     → said ≡ moment
-    → LooksAgain Has moment old new archive archive' (FolderChecked moment found marks) before after
-    → LooksAgain Has moment old new archive archive' (FolderChecked said found marks) before after
-told_at Has moment said old new archive archive' found marks before after same looks =
-    subst (λ (m : ℤ). LooksAgain Has moment old new archive archive' (FolderChecked m found marks)
-    before after) (sym same) looks
+    → LooksAgain Has quiet moment old new archive archive' (FolderChecked moment found marks)
+    before after
+    → LooksAgain Has quiet moment old new archive archive' (FolderChecked said found marks) before
+    after
+told_at Has quiet moment said old new archive archive' found marks before after same looks =
+    subst (λ (m : ℤ). LooksAgain Has quiet moment old new archive archive'
+    (FolderChecked m found marks) before after) (sym same) looks
 
 -- A check was refused.
 
@@ -231,7 +224,7 @@ known_by scan.NoMemory forgot listing known is =
 known_by _ forgot listing known is = is
 
 -- The folder is as before, but for what is known of it, and this was told.
-module _ (Has : Kind → Type 0) (moment : ℤ) (why : ScanError) (marks : Marks)
+module _ (Has : Kind → Type 0) (quiet : Bool) (moment : ℤ) (why : ScanError) (marks : Marks)
     (old mid new : Session) (event : Happening) (archive archive' : List Letter)
     (before after : Seen) (folder : OpenFolder)
     (same : mid ≡ record old { folder = folder })
@@ -240,10 +233,11 @@ module _ (Has : Kind → Type 0) (moment : ℤ) (why : ScanError) (marks : Marks
     (path : folder.known.path ≡ old.folder.known.path)
     (kind : folder.known.kind ≡ old.folder.known.kind)
     (listing : folder.listing ≡ old.folder.listing) (met : folder.met ≡ old.folder.met)
-    (refuses : RefusesCheck why moment marks mid new event)
+    (late : folder.refused ≡ old.folder.refused)
+    (refuses : RefusesCheck quiet why moment marks mid new event)
     (forgot : forgot_by refuses.told folder.forgot ≡ forgot_by refuses.told old.folder.forgot)
-    (tells : (empty : Kind) → Tells Has (standing_over empty old.folder) (letters_of archive')
-    (CheckRefused moment refuses.told marks) before after) where
+    (tells : (empty : Kind) → (purges : Bool) → Tells Has (standing_over empty purges old.folder)
+    (letters_of archive') (CheckRefused moment refuses.told marks) before after) where
   abbrev cause_told : ScanError
   cause_told = refuses.told
 
@@ -261,16 +255,14 @@ module _ (Has : Kind → Type 0) (moment : ℤ) (why : ScanError) (marks : Marks
   refused_rest = refuses.same
       ∙ ap (λ (s : Session). record s { core = new.core; folder = new.folder }) same
 
-  refused_core : plain_core new.core ≡ refused_again cause_told (plain_core old.core)
+  refused_core : plain_core new.core ≡ refused_again quiet cause_told (plain_core old.core)
   refused_core = refuses.core
-      ∙ ap (λ (s : Session). refused_again cause_told (plain_core s.core)) same
+      ∙ ap (λ (s : Session). refused_again quiet cause_told (plain_core s.core)) same
 
-  refused_arrives : old.stage ≡ Ready → (given : Given) → given.mails ≡ letters_of archive'
-      → (notes : Held (Held ℕ)) → plain_session new notes
-      ≡ arrived_by given (plain_session old notes) (CheckRefused moment cause_told marks)
-  refused_arrives ready given mails notes =
+  refused_arrives : (notes : Held (Held ℕ)) → plain_session new notes ≡ looked_by quiet
+      (letters_of archive') (plain_session old notes) (CheckRefused moment cause_told marks)
+  refused_arrives notes =
       let s : State = plain_session old notes in
-      let taken_is : taken_at s.turn.stage s ≡ s = still_taken s ready in
       ap (λ (n : Session). plain_session n notes) refused_rest
       ∙ ap (λ (f : OpenFolder). plain_session (record old { core = new.core; folder = f }) notes)
       folder_is
@@ -281,8 +273,8 @@ module _ (Has : Kind → Type 0) (moment : ℤ) (why : ScanError) (marks : Marks
         forgot = forgot i;
         met = met i;
         checked = moment;
+        refused = late i;
       })
-      ∙ ap (unchecked_by moment cause_told) (sym taken_is)
 
   refused_open : IsOpen (letters_of archive') after.told new.folder
   refused_open =
@@ -299,17 +291,17 @@ module _ (Has : Kind → Type 0) (moment : ℤ) (why : ScanError) (marks : Marks
         met = open_is.met;
       }))
 
-  pub look_refused : old.stage ≡ Ready → IsIndexShown (plain_core old.core)
+  pub look_refused : IsIndexShown (plain_core old.core)
       → Fits (letters_of archive) old → old.folder.met ≡ length (letters_of archive)
       → ((w : ScanError) → w ≡ cause_told → AreNext old.folder.met (CheckRefused moment w marks))
-      → LooksAgain Has moment old new archive archive' event before after
-  look_refused ready shown fits here next =
-      subst (λ (e : Happening). LooksAgain Has moment old new archive archive' e before after)
+      → LooksAgain Has quiet moment old new archive archive' event before after
+  look_refused shown fits here next =
+      subst (λ (e : Happening). LooksAgain Has quiet moment old new archive archive' e before after)
       (sym refuses.event_is) (record {
         check = tt;
         answers = refl;
         tells = tells;
-        arrives = refused_arrives ready;
+        arrives = refused_arrives;
         next = next cause_told refl;
         met = ap length letters ∙ sym here;
         added = [];
@@ -323,6 +315,7 @@ module _ (Has : Kind → Type 0) (moment : ℤ) (why : ScanError) (marks : Marks
             (subst (λ (l : List Mail). IsOf l old.core.desk.view) (sym letters) fits.is_of))
             (ap (λ (c : CoreState). c.reader) refused_core) shown fits.can;
         stage = ap (λ (s : Session). s.stage) refused_rest;
+        window = ap (λ (s : Session). s.window) refused_rest;
       })
 
 -- What is left of what is known where new letters are forgotten.
@@ -367,14 +360,14 @@ forgot_known mails letters folder theirs news =
     news.known news.difference news.ids)
 
 -- A scan was refused.
-module _ (Has : Kind → Type 0) (moment : ℤ) (old mid new : Session) (archive archive' : List Letter)
-    (scanned : Scanned) (why : ScanError) (event : Happening) (before after : Seen)
+module _ (Has : Kind → Type 0) (quiet : Bool) (moment : ℤ) (old mid new : Session)
+    (archive archive' : List Letter) (scanned : Scanned) (why : ScanError) (event : Happening) (before after : Seen)
     (knows : IsOpen (letters_of archive) before.told old.folder) (folder : OpenFolder)
     (scans : ScansFolder archive archive' old.folder.known folder.known scanned before after)
     (folder_same : folder ≡ with_known folder.known old.folder)
     (is : scanned.answer ≡ Err why)
     (same : mid ≡ record old { folder = folder })
-    (refuses : RefusesCheck why moment scanned.marks mid new event) where
+    (refuses : RefusesCheck quiet why moment scanned.marks mid new event) where
   on_err : {P : Type 0} → OnErr scanned.answer P → P
   on_err {P} h = subst (λ (r : Result Found ScanError). OnErr r P) is h
 
@@ -385,20 +378,20 @@ module _ (Has : Kind → Type 0) (moment : ℤ) (old mid new : Session) (archive
   letters_same : letters_of archive' ≡ letters_of archive
   letters_same = ap (map plain_letter) (on_err scans.scans.err_archive)
 
-  tells_by : (empty : Kind) → (told : ScanError) → IsToldAs why told
-      → Tells Has (standing_over empty old.folder) (letters_of archive')
+  tells_by : (empty : Kind) → (purges : Bool) → (told : ScanError) → IsToldAs why told
+      → Tells Has (standing_over empty purges old.folder) (letters_of archive')
       (CheckRefused moment told scanned.marks) before after
-  tells_by empty told (inl same_cause) =
-      subst (λ (w : ScanError). Tells Has (standing_over empty old.folder) (letters_of archive')
+  tells_by empty purges told (inl same_cause) =
+      subst (λ (w : ScanError). Tells Has (standing_over empty purges old.folder) (letters_of archive')
       (CheckRefused moment w scanned.marks) before after) (sym same_cause)
-      (subst (λ (l : List Mail). Tells Has (standing_over empty old.folder) l
+      (subst (λ (l : List Mail). Tells Has (standing_over empty purges old.folder) l
       (CheckRefused moment why scanned.marks) before after) (sym letters_same)
-      (tells_refused Has empty old.folder archive archive' folder.known scanned moment before after
+      (tells_refused Has empty purges old.folder archive archive' folder.known scanned moment before after
       knows scans why is))
-  tells_by empty told (inr starved) =
-      subst (λ (w : ScanError). Tells Has (standing_over empty old.folder) (letters_of archive')
+  tells_by empty purges told (inr starved) =
+      subst (λ (w : ScanError). Tells Has (standing_over empty purges old.folder) (letters_of archive')
       (CheckRefused moment w scanned.marks) before after) (sym starved)
-      (tells_starved Has empty old.folder archive archive' folder.known scanned moment before after
+      (tells_starved Has empty purges old.folder archive archive' folder.known scanned moment before after
       knows scans (letters_of archive'))
 
   next_by : (w : ScanError) → IsToldAs why w
@@ -411,18 +404,19 @@ module _ (Has : Kind → Type 0) (moment : ℤ) (old mid new : Session) (archive
   next_by scan.ArchiveFull (inr starved) = absurd (cc)
   next_by _ told = tt
 
-  pub look_off : old.stage ≡ Ready → IsIndexShown (plain_core old.core)
+  pub look_off : IsIndexShown (plain_core old.core)
       → Fits (letters_of archive) old
-      → LooksAgain Has moment old new archive archive' event before after
-  look_off ready shown fits = look_refused Has moment why scanned.marks old mid new event archive
+      → LooksAgain Has quiet moment old new archive archive' event before after
+  look_off shown fits = look_refused Has quiet moment why scanned.marks old mid new event archive
       archive' before after folder same letters_same
       (subst (IsOpen (letters_of archive) after.told) (sym kept)
       (open_on (letters_of archive) before.told after.told old.folder scans.scans.only.looks knows))
       (ap (λ (f : OpenFolder). f.known.path) kept) (ap (λ (f : OpenFolder). f.known.kind) kept)
-      (ap (λ (f : OpenFolder). f.listing) kept) (ap (λ (f : OpenFolder). f.met) kept) refuses
+      (ap (λ (f : OpenFolder). f.listing) kept) (ap (λ (f : OpenFolder). f.met) kept)
+      (ap (λ (f : OpenFolder). f.refused) kept) refuses
       (ap (λ (f : OpenFolder). forgot_by refuses.told f.forgot) kept)
-      (λ empty. tells_by empty refuses.told refuses.told_as)
-      ready shown fits knows.met
+      (λ empty purges. tells_by empty purges refuses.told refuses.told_as)
+      shown fits knows.met
       (λ w same_told. next_by w (subst (IsToldAs why) (sym same_told) refuses.told_as))
 
 -- what is left of a folder is right, as the folder was
@@ -437,7 +431,7 @@ left_right mails letters folder left gone told same keeps right =
     right))
 
 -- What a scan found was forgotten.
-module _ (Has : Kind → Type 0) (moment : ℤ) (old mid new : Session)
+module _ (Has : Kind → Type 0) (quiet : Bool) (moment : ℤ) (old mid new : Session)
     (archive archive' archive'' : List Letter) (scanned : Scanned) (theirs : Found)
     (event : Happening) (before after : Seen)
     (knows : IsOpen (letters_of archive) before.told old.folder) (folder gone : OpenFolder)
@@ -449,7 +443,7 @@ module _ (Has : Kind → Type 0) (moment : ℤ) (old mid new : Session)
     (right : Right folder.known.kind (letters_of archive') folder.known after.told
     → Right folder.known.kind (letters_of archive'') gone.known after.told)
     (same : mid ≡ record old { folder = gone })
-    (refuses : RefusesCheck scan.NoMemory moment scanned.marks mid new event) where
+    (refuses : RefusesCheck quiet scan.NoMemory moment scanned.marks mid new event) where
   gone_listed : ListsFound theirs (letters_of archive) (letters_of archive') old.folder.known
       folder.known
   gone_listed = scan_lists archive archive' old.folder.known folder.known scanned theirs before
@@ -496,23 +490,24 @@ module _ (Has : Kind → Type 0) (moment : ℤ) (old mid new : Session)
   told_is : refuses.told ≡ scan.NoMemory
   told_is = elim refuses.told_as [ inl h ↦ h | inr h ↦ h ]
 
-  pub look_forgot : old.stage ≡ Ready → IsIndexShown (plain_core old.core)
+  pub look_forgot : IsIndexShown (plain_core old.core)
       → Fits (letters_of archive) old
-      → LooksAgain Has moment old new archive archive'' event before after
-  look_forgot ready shown fits = look_refused Has moment scan.NoMemory scanned.marks old mid new
+      → LooksAgain Has quiet moment old new archive archive'' event before after
+  look_forgot shown fits = look_refused Has quiet moment scan.NoMemory scanned.marks old mid new
       event archive archive'' before after gone same letters_back gone_open
       (ap (λ (f : OpenFolder). f.known.path) gone_is
       ∙ ap (λ (k : KnownFolder). k.path) gone_listed.kept)
       (gone_kind ∙ was_kind)
       (ap (λ (f : OpenFolder). f.listing) gone_is ∙ ap (λ (f : OpenFolder). f.listing) folder_same)
       (ap (λ (f : OpenFolder). f.met) gone_is ∙ ap (λ (f : OpenFolder). f.met) folder_same)
+      (ap (λ (f : OpenFolder). f.refused) gone_is ∙ ap (λ (f : OpenFolder). f.refused) folder_same)
       refuses
       (ap (λ (w : ScanError). forgot_by w gone.forgot) told_is
       ∙ sym (ap (λ (w : ScanError). forgot_by w old.folder.forgot) told_is))
-      (λ empty. subst (λ (w : ScanError). Tells Has (standing_over empty old.folder)
+      (λ empty purges. subst (λ (w : ScanError). Tells Has (standing_over empty purges old.folder)
       (letters_of archive'') (CheckRefused moment w scanned.marks) before after) (sym told_is)
-      (tells_starved Has empty old.folder archive archive' folder.known scanned moment before after
+      (tells_starved Has empty purges old.folder archive archive' folder.known scanned moment before after
       knows scans (letters_of archive'')))
-      ready shown fits knows.met
+      shown fits knows.met
       (λ w same_told. subst (λ (v : ScanError). AreNext old.folder.met
       (CheckRefused moment v scanned.marks)) (sym (same_told ∙ told_is)) tt)

@@ -9,18 +9,18 @@ use Rattle.keymap.specs.declared.key.Key.{Key}
 use Rattle.keymap.specs.declared.press.Press.{Press}
 use Rattle.keymap.specs.declared.press.Press.TheVariants as press
 use Rattle.prompts.specs.Prompts.{PlainPrompt}
-use Rattle.session_index.specs.Desk.{PlainWanted, ToEnd}
+use Rattle.session_index.specs.Desk.{PlainWanted, ToEnd, ToSync}
 use Rattle.keymap.specs.Queue.{most_replacements}
 use Rattle.session_state.specs.Frames.{PlainFrame}
 use Rattle.session_state.specs.declared.stage.Stage.{Stage}
 use Rattle.session_state.specs.declared.stage.Stage.TheVariants.{Idle}
-use Rattle.session_state.specs.declared.stage.Stage.TheVariants.{Opening, Over, Reading}
+use Rattle.session_state.specs.declared.stage.Stage.TheVariants.{Opening, Over, Reading, Syncing}
 use Rattle.session.specs.Acting.{acted, prompted}
 use Rattle.session.specs.Core.{CoreState, Ground, shown_menu}
-use Rattle.session.specs.Keys.{TurnState, drop_all, keys_by, put_or, run_keys, stage_after, step}
+use Rattle.session.specs.Keys.{TurnState, drop_all, keys_by, put_or, run_keys, stage_after, stage_wanted, step}
 use Rattle.session.specs.Keys.{once_read, read_first, run_on, step_at, stop_by, stopped, with_begun}
 use Rattle.session.specs.Keys.{with_put}
-use Rattle.session.specs.Steps.{IsFileless, IsNext, IsSettled, next_of}
+use Rattle.session.specs.Steps.{IsDone, IsNext, IsSettled, next_of}
 
 -- the turn has settled
 abbrev HasSettled : TurnState → Type 0
@@ -28,11 +28,12 @@ HasSettled turn = IsSettled turn.stage turn.core.frames
 
 -- where no file is wished a key is wanted, or the run is over
 pub next_is : (stage : Stage) (frames : List PlainFrame) → IsSettled stage frames
-    → IsFileless stage frames → IsNext (next_of stage) stage
+    → IsDone stage frames → IsNext (next_of stage) stage
 next_is Idle frames h none = refl
 next_is Opening frames h none = absurd (h none)
 next_is Reading frames h none = absurd (h none)
 next_is Over frames h none = refl
+next_is (Syncing purge quits) frames h none = absurd none
 next_is _ frames h none = absurd h
 
 module _ (g : Ground) where
@@ -46,15 +47,19 @@ module _ (g : Ground) where
     read_settles : (c : CoreState) → HasSettled (once_read replaced keys rest c)
     read_settles c = first_settles c.frames c refl
 
+    wanted_settles : (wanted : PlainWanted) (c : CoreState)
+        → HasSettled (stop_by (stage_wanted wanted) replaced keys (once_read replaced keys rest) c)
+    wanted_settles ToEnd c = tt
+    wanted_settles (ToSync purge quits) c = tt
+    wanted_settles _ c = read_settles c
+
     stop_settles : (answer : Press) (wanted : PlainWanted) (c : CoreState)
         → HasSettled (stop_by (stage_after answer wanted) replaced keys
         (once_read replaced keys rest) c)
     stop_settles press.Wait wanted c = tt
     stop_settles press.Loop wanted c = tt
-    stop_settles press.Unbound ToEnd c = tt
-    stop_settles press.Unbound _ c = read_settles c
-    stop_settles (press.Function function) ToEnd c = tt
-    stop_settles (press.Function function) _ c = read_settles c
+    stop_settles press.Unbound wanted c = wanted_settles wanted c
+    stop_settles (press.Function function) wanted c = wanted_settles wanted c
 
     answer_settles : (answer : Press) (c : CoreState)
         → HasSettled (stop_by (stage_after answer (acted g answer c).desk.wanted) replaced keys
@@ -80,7 +85,7 @@ module _ (g : Ground) where
         → (key : Key) (prompt : Option PlainPrompt) (c : CoreState)
         → HasSettled (step_at g replaced again key keys rest prompt c)
     at_settles again loops key (Some prompt) c =
-        first_settles (prompted g key c).frames (prompted g key c) refl
+        wanted_settles (prompted g key c).desk.wanted (prompted g key c)
     at_settles again loops key None c =
         step_settles again loops (c.rules.keymap.begun ++ key ∷ []) (called key)
         (found_in c.rules.keymap (shown_menu c) (c.rules.keymap.begun ++ key ∷ [])) c

@@ -8,7 +8,7 @@ use Rattle.keymap.specs.declared.key.Key.{Key}
 use Rattle.session_state.specs.Frames.{PlainFrame}
 use Rattle.session_state.specs.declared.stage.Stage.{Stage}
 use Rattle.session_state.specs.declared.stage.Stage.TheVariants.{Unopened, Idle, Ready}
-use Rattle.session_state.specs.declared.stage.Stage.TheVariants.{Opening, Over, Reading}
+use Rattle.session_state.specs.declared.stage.Stage.TheVariants.{Opening, Over, Reading, Syncing}
 use Rattle.session_events.specs.Events.{AreFiles, Happening, FileRead, FileRefused, IsFile}
 use Rattle.session_events.specs.Events.{KeyPressed, plain_event}
 use Rattle.session_events.specs.Events.{plain_events}
@@ -31,7 +31,7 @@ use Rattle.session.specs.Showing.{resumed}
 use Rattle.mail_base.specs.declared.kind.Kind.{Kind}
 use Rattle.disk_model.specs.Seen.{Seen}
 use Rattle.session.specs.Starting.{PlainSetup, first_state}
-use Rattle.session.specs.Steps.{AddsFiles, GoesOn, IsLent, IsSettled, IsTaken, PressesKey}
+use Rattle.session.specs.Steps.{GoesOn, IsLent, IsSettled, IsTaken}
 use Rattle.session.specs.Steps.{ReadsFiles, Sources, SourcesOff, Stands, StaysTold}
 use Rattle.session.specs.Telling.{Driverless, Witnessed}
 use Rattle.session_events.specs.Telling.{HasFileCause, TellsFile}
@@ -40,7 +40,7 @@ use Rattle.session.proofs.SettlingLemmas.{turn_settles}
 use Rattle.session.proofs.TellingLemmas.{each_are, each_faults, file_is, files_more, witnessed_each}
 use Rattle.session.proofs.TellingLemmas.{witnessed_key, witnessed_none}
 
-after-append : (given : Given) (s : State) (xs ys : List Happening)
+pub after-append : (given : Given) (s : State) (xs ys : List Happening)
     → after_events given s (xs ++ ys) ≡ after_events given (after_events given s xs) ys
 after-append given s [] ys = refl
 after-append given s (x ∷ xs) ys = after-append given (after given s x) xs ys
@@ -261,29 +261,6 @@ files_told Has a b now next reads given first before h =
     subst (λ (l : List Happening). Witnessed Has given first l before next) (sym reads.added)
     (witnessed_each Has given first a reads.files before now next reads.each h)
 
-pub files_added : (a b : List Happening) (now next : Seen) → ReadsFiles a b now next → AddsFiles a b
-files_added a b now next reads = record {
-  files = reads.files;
-  are = each_are reads.files now next reads.each;
-  added = reads.added;
-}
-
-pub adds_none : (events : List Happening) → AddsFiles events events
-adds_none events = record { files = []; are = tt; added = sym (append-nil events) }
-
-pub files_pressed : (key : Key) (moment : ℤ) (a b c : List Happening) (now next : Seen)
-    → b ≡ a ++ KeyPressed key moment ∷ [] → ReadsFiles b c now next → PressesKey key moment a c
-files_pressed key moment a b c now next put reads = record {
-  files = reads.files;
-  are = each_are reads.files now next reads.each;
-  pressed = reads.added ∙ ap (λ (l : List Happening). l ++ reads.files) put
-      ∙ append_assoc a (KeyPressed key moment ∷ []) reads.files;
-}
-
-pub key_alone : (key : Key) (moment : ℤ) (a b : List Happening)
-    → b ≡ a ++ KeyPressed key moment ∷ [] → PressesKey key moment a b
-key_alone key moment a b put = record { files = []; are = tt; pressed = put }
-
 -- Files of commands.
 
 -- no event yet
@@ -440,6 +417,8 @@ read_settles Opening given old s was is h =
     push_settles given (learning given s) (learning given s).turn.core.frames refl
 read_settles Reading given old s was is h =
     going_settles given (learning given s).turn.core.frames (learning given s) is refl
+read_settles (Syncing purge quits) given old s was is h =
+    subst (λ (stage : Stage). IsSettled stage (learning given s).turn.core.frames) (sym is) tt
 read_settles Over given old s was is h =
     subst (λ (stage : Stage). IsSettled stage (learning given s).turn.core.frames) (sym is) tt
 read_settles _ given old s was is h = absurd
@@ -464,7 +443,7 @@ no_source false moment path is = cc
 wishes_unshown : (given : Given) (s t : State) (stage : Stage) (moment : ℤ) (path : List ℕ)
     → wish_at stage s moment ≡ Source path → stage_screens given stage t ≡ []
 wishes_unshown given s t Idle moment path is = absurd
-    (no_source (is_due s.checked s.turn.core moment) moment path is)
+    (no_source (is_due s.refused s.checked s.turn.core moment) moment path is)
 wishes_unshown given s t _ moment path is = refl
 
 file_path : (event : Happening) → IsFile event → (path : List ℕ) × (answered event ≡ Source path)

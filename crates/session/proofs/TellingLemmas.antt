@@ -6,11 +6,11 @@ use Rattle.std.proofs.Math.Seq.{take-length, take-append_seam}
 use Rattle.std.proofs.lemmas.List.{append-nil, take-append-le}
 use Rattle.mail_base.specs.declared.kind.Kind.{Kind}
 use Rattle.disk_model.specs.Journal.{Past, Entry}
-use Rattle.disk_model.specs.Judge.{GoesOn}
-use Rattle.disk_model.specs.Looking.{HasLooked, LooksOnly}
+use Rattle.disk_model.specs.Judge.{GoesOn, Grows, IsLonger}
+use Rattle.disk_model.specs.Looking.{LooksOnly}
 use Rattle.disk_model.specs.Seen.{Seen}
 use Rattle.disk_model.specs.Tree.{TreeNode}
-use Rattle.disk_model.proofs.Looking.{looks_same, looks_then}
+use Rattle.disk_model.proofs.Looking.{grows_same, grows_then, looks_same, looks_then}
 use Rattle.folder_letters.specs.Letters.{Mail}
 use Rattle.keymap.specs.declared.key.Key.{Key}
 use Rattle.session_events.specs.declared.event.Marks.{Marks}
@@ -19,11 +19,12 @@ use Rattle.session_events.specs.Events.{KeyPressed}
 use Rattle.session_events.specs.Happened.{AllCounted, Counts, Happened, IsCounted, Standing}
 use Rattle.session.specs.Telling.{AllHappened}
 use Rattle.session_events.specs.Happened.{IsTrueAt, counts_after, counts_at, counts_of, marks_of}
-use Rattle.session.specs.Telling.{standing_of}
+use Rattle.session.specs.Telling.{TouchesAt, standing_of}
 use Rattle.session_events.specs.Happened.{HasCause, past_at}
 use Rattle.session.specs.Given.{Given}
 use Rattle.session.specs.Runs.{State, after, after_events}
-use Rattle.session_events.specs.Telling.{HasFileCause, Tells, TellsFile}
+use Rattle.session_events.specs.Telling.{HasFileCause, Tells, TellsFile, Touches}
+use Rattle.session_events.proofs.TouchLemmas.{touch_grows}
 use Rattle.session.specs.Steps.{ReadsFiles, TellsEach}
 use Rattle.session.specs.Telling.{IsTold, Witnessed}
 
@@ -32,14 +33,14 @@ use Rattle.session.specs.Telling.{IsTold, Witnessed}
 abbrev past : List TreeNode → List Entry → Past
 past first journal = record { first = first; journal = journal }
 
-past_stays : (mid new : Past) (mark : ℕ) → HasLooked mid new → mark ≤ length mid.journal
+past_stays : (mid new : Past) (mark : ℕ) → IsLonger mid new → mark ≤ length mid.journal
     → past_at new mark ≡ past_at mid mark
 past_stays mid new mark looked low =
     ap (λ (f : List TreeNode). past f (take mark new.journal)) looked.same_first
     ∙ ap (λ (l : List Entry). past mid.first (take mark l)) looked.journal
     ∙ ap (past mid.first) (take-append-le mark mid.journal looked.more low)
 
-past_seam : (mid new : Past) → HasLooked mid new → past_at new (length mid.journal) ≡ mid
+past_seam : (mid new : Past) → IsLonger mid new → past_at new (length mid.journal) ≡ mid
 past_seam mid new looked =
     ap (λ (f : List TreeNode). past f (take (length mid.journal) new.journal)) looked.same_first
     ∙ ap (λ (l : List Entry). past mid.first (take (length mid.journal) l)) looked.journal
@@ -86,7 +87,7 @@ module _ (Has : Kind → Type 0) where
 
     true_stays : (mid new : Past) (stood : Standing) (counts : Counts) (event : Happening)
         (marks : Option Marks) → IsCounted Has counts event marks
-        → (counts_after counts marks).mark ≤ length mid.journal → HasLooked mid new
+        → (counts_after counts marks).mark ≤ length mid.journal → IsLonger mid new
         → IsTrueAt Has stood given.mails event marks mid
         → IsTrueAt Has stood given.mails event marks new
     true_stays mid new stood counts event None counted low looked h = tt
@@ -98,9 +99,22 @@ module _ (Has : Kind → Type 0) where
         Happened Has stood given.mails event (past_at mid marks.mark_before) p)
         (sym (past_stays mid new marks.mark_after looked low)) h)
 
+    touches_stays : (mid new : Past) (stood : Standing) (counts : Counts) (event : Happening)
+        (marks : Option Marks) → IsCounted Has counts event marks
+        → (counts_after counts marks).mark ≤ length mid.journal → IsLonger mid new
+        → TouchesAt stood event marks mid → TouchesAt stood event marks new
+    touches_stays mid new stood counts event None counted low looked h = tt
+    touches_stays mid new stood counts event (Some marks) counted low looked h =
+        let before : marks.mark_before ≤ length mid.journal = omega (arith, counted.on, low) in
+        subst (λ (p : Past). Touches stood event (Some p) (Some (past_at new marks.mark_after)))
+        (sym (past_stays mid new marks.mark_before looked before))
+        (subst (λ (p : Past).
+        Touches stood event (Some (past_at mid marks.mark_before)) (Some p))
+        (sym (past_stays mid new marks.mark_after looked low)) h)
+
     all_stays : (mid new : Past) (s : State) (counts : Counts) (events : List Happening)
         → AllCounted Has counts events → (counts_at counts events).mark ≤ length mid.journal
-        → HasLooked mid new → AllHappened Has given s events mid
+        → IsLonger mid new → AllHappened Has given s events mid
         → AllHappened Has given s events new
     all_stays mid new s counts [] counted low looked h = tt
     all_stays mid new s counts (event ∷ events) counted low looked h =
@@ -109,31 +123,46 @@ module _ (Has : Kind → Type 0) where
         omega (arith, rises_all (counts_after counts (marks_of event)) events counted.1, low) in (
           true_stays mid new (standing_of s) counts event (marks_of event) counted.0 first looked
               h.0,
+          touches_stays mid new (standing_of s) counts event (marks_of event) counted.0 first
+              looked h.1,
           all_stays mid new (after given s event) (counts_after counts (marks_of event)) events
-              counted.1 low looked h.1,
+              counted.1 low looked h.2,
         )
 
     happened-append : (s t : State) (events : List Happening) (event : Happening) (new : Past)
         → after_events given s events ≡ t → AllHappened Has given s events new
         → IsTrueAt Has (standing_of t) given.mails event (marks_of event) new
+        → TouchesAt (standing_of t) event (marks_of event) new
         → AllHappened Has given s (events ++ event ∷ []) new
-    happened-append s t [] event new at h k = (
+    happened-append s t [] event new at h k touched = (
       subst (λ (u : State). IsTrueAt Has (standing_of u) given.mails event (marks_of event) new)
           (sym at) k,
+      subst (λ (u : State). TouchesAt (standing_of u) event (marks_of event) new) (sym at) touched,
       tt,
     )
-    happened-append s t (e ∷ events) event new at h k =
-        (h.0, happened-append (after given s e) t events event new at h.1 k)
+    happened-append s t (e ∷ events) event new at h k touched =
+        (h.0, h.1, happened-append (after given s e) t events event new at h.2 k touched)
 
     true_now : (stood : Standing) (event : Happening) (mid new : Past) (marks : Marks)
         (at : Option Marks) → at ≡ Some marks → marks.mark_before ≡ length mid.journal
-        → marks.mark_after ≡ length new.journal → HasLooked mid new
+        → marks.mark_after ≡ length new.journal → IsLonger mid new
         → Happened Has stood given.mails event mid new → IsTrueAt Has stood given.mails event at new
     true_now stood event mid new marks at is before after looked h =
         subst (λ (o : Option Marks). IsTrueAt Has stood given.mails event o new) (sym is)
         (subst (λ (p : Past). Happened Has stood given.mails event p (past_at new marks.mark_after))
         (sym (ap (past_at new) before ∙ past_seam mid new looked))
         (subst (λ (p : Past). Happened Has stood given.mails event mid p)
+        (sym (ap (past_at new) after ∙ past_end new)) h))
+
+    touched_now : (stood : Standing) (event : Happening) (mid new : Past) (marks : Marks)
+        (at : Option Marks) → at ≡ Some marks → marks.mark_before ≡ length mid.journal
+        → marks.mark_after ≡ length new.journal → IsLonger mid new
+        → Touches stood event (Some mid) (Some new) → TouchesAt stood event at new
+    touched_now stood event mid new marks at is before after looked h =
+        subst (λ (o : Option Marks). TouchesAt stood event o new) (sym is)
+        (subst (λ (p : Past). Touches stood event (Some p) (Some (past_at new marks.mark_after)))
+        (sym (ap (past_at new) before ∙ past_seam mid new looked))
+        (subst (λ (p : Past). Touches stood event (Some mid) (Some p))
         (sym (ap (past_at new) after ∙ past_end new)) h))
 
     told_push : (s t : State) (events : List Happening) (event : Happening) (counts : Counts)
@@ -143,21 +172,24 @@ module _ (Has : Kind → Type 0) where
         → AllCounted Has counts events → (counts_at counts events).mark ≡ low
         → marks_of event ≡ Some marks → marks.mark_before ≡ low → marks.mark_after ≡ high
         → IfSome mid (λ p. low ≡ length p.journal) → IfSome new (λ p. high ≡ length p.journal)
-        → GoesOn (Happened Has (standing_of t) given.mails event) mid new → LooksOnly mid new
+        → GoesOn (Happened Has (standing_of t) given.mails event) mid new → Grows mid new
+        → Touches (standing_of t) event mid new
         → IsTold Has given s (events ++ event ∷ []) first new
     told_push s t events event counts marks low high None mid new here told counted at is before
-        after lows highs h looks = looks_then None mid new told looks
+        after lows highs h grows touched = grows_then None mid new told grows
     told_push s t events event counts marks low high (Some f) None new here told counted at is
-        before after lows highs h looks = absurd told
+        before after lows highs h grows touched = absurd told
     told_push s t events event counts marks low high (Some f) (Some m) None here told counted at is
-        before after lows highs h looks = absurd looks
+        before after lows highs h grows touched = absurd grows
     told_push s t events event counts marks low high (Some f) (Some m) (Some n) here told counted at
-        is before after lows highs h looks = (
-          looks_then (Some f) (Some m) (Some n) told.0 looks,
+        is before after lows highs h grows touched = (
+          grows_then (Some f) (Some m) (Some n) told.0 grows,
           happened-append s t events event n here
-              (all_stays m n s counts events counted (omega (arith, at, lows)) looks told.1)
+              (all_stays m n s counts events counted (omega (arith, at, lows)) grows told.1)
               (true_now (standing_of t) event m n marks (marks_of event) is (before ∙ lows)
-              (after ∙ highs) looks h),
+              (after ∙ highs) grows h)
+              (touched_now (standing_of t) event m n marks (marks_of event) is (before ∙ lows)
+              (after ∙ highs) grows touched),
         )
 
     begins : (stood : Standing) (counts : Counts) (event : Happening) (mid new : Seen)
@@ -193,7 +225,7 @@ module _ (Has : Kind → Type 0) where
           first.told mid.told new.told here h.told h.counted (ap (λ (c : Counts). c.mark) h.at)
           tells.marked (sym (ap (λ (c : Counts). c.mark) tells.before))
           (sym (ap (λ (c : Counts). c.mark) tells.after)) tells.first tells.last tells.happened
-          tells.looks;
+          (touch_grows (standing_of t) event mid.told new.told tells.touches) tells.touches;
       counted = counted-append (counts_of first) events event h.counted
           (begins (standing_of t) (counts_at (counts_of first) events) event mid new tells h.at);
       at = at-append (counts_of first) events event
@@ -208,7 +240,7 @@ module _ (Has : Kind → Type 0) where
     key_told s events key moment (Some f) (Some n) h = (
       h.0,
       happened-append s (after_events given s events) events (KeyPressed key moment) n refl h.1
-          tt,
+          tt tt,
     )
 
     -- a key
@@ -223,7 +255,7 @@ module _ (Has : Kind → Type 0) where
 
     none_told : (s : State) (told : Option Past) → IsTold Has given s [] told told
     none_told s None = refl
-    none_told s (Some past) = (looks_same (Some past), tt)
+    none_told s (Some past) = (grows_same (Some past), tt)
 
     -- no event
     pub witnessed_none : (s : State) (now : Seen) → Witnessed Has given s [] now now
@@ -242,7 +274,7 @@ module _ (Has : Kind → Type 0) where
       faults = h.faults;
       cause = tt;
       happened = h.happened;
-      looks = h.looks;
+      touches = h.looks;
       first = h.first;
       last = h.last;
     }
@@ -255,7 +287,7 @@ module _ (Has : Kind → Type 0) where
       faults = h.faults;
       cause = h.cause;
       happened = h.happened;
-      looks = h.looks;
+      touches = h.looks;
       first = h.first;
       last = h.last;
     }
@@ -379,7 +411,8 @@ module _ (Has Other : Kind → Type 0) where
   files_true given s [] past are h = tt
   files_true given s (event ∷ events) past are h = (
     file_true (standing_of s) given.mails event (marks_of event) past are.0 h.0,
-    files_true given (after given s event) events past are.1 h.1,
+    h.1,
+    files_true given (after given s event) events past are.1 h.2,
   )
 
   files_told : (given : Given) (s : State) (events : List Happening)

@@ -14,16 +14,17 @@ use Rattle.session_state.specs.Commands.{IsPressed}
 use Rattle.session_state.specs.Rules.{PlainRules}
 use Rattle.session.specs.Acting.{acted, prompted}
 use Rattle.session.specs.Answers.{granted}
-use Rattle.session_index.specs.declared.notice.Notice.TheVariants.{MacroLoop}
+use Rattle.index_functions.specs.declared.notice.Notice.TheVariants.{MacroLoop}
 use Rattle.session.specs.Core.{CoreState, Ground, said, shown_menu}
-use Rattle.session.specs.Keys.{Steps, Stops, TurnState, behind, once_read, read_first, run_keys}
-use Rattle.session.specs.Keys.{settled, stage_after, stop_by, stopped, turn_of, with_begun}
+use Rattle.session.specs.Keys.{Steps, Stops, TurnState, behind, behind_prompt, once_read}
+use Rattle.session.specs.Keys.{read_first, run_keys, settled, stage_after, stage_wanted, stop_by}
+use Rattle.session.specs.Keys.{stopped, turn_of, with_begun}
 use Rattle.session.specs.Keys.{with_put}
 use Rattle.session_state.specs.Frames.{PlainFrame}
 use Rattle.session_state.specs.declared.stage.Stage.{Stage}
 use Rattle.session_state.specs.declared.stage.Stage.TheVariants.{Idle, Reading}
 use Rattle.session.proofs.KeysLemmas.{IsLess, by_pressed, less_is, none_left, press_is}
-use Rattle.session.proofs.KeysLemmas.{put_drops, put_is, type_is, wait_is}
+use Rattle.session.proofs.KeysLemmas.{put_drops, put_is, type_is}
 use Rattle.std.specs.Prelude.{MatchOption, unwrap_or}
 
 abbrev answered : Press → PlainRules → PlainQueue → Pressed
@@ -35,6 +36,63 @@ answered press rules queue =
       replaced = queue.replaced;
     }
 
+-- What was done leads to a stage, or the keys go on.
+module _ (g : Ground) (core next : CoreState) (queue queue' : PlainQueue) (at : Option Stage)
+  where
+    abbrev rest : CoreState → TurnState
+    rest = run_keys g (1024 - queue'.replaced) queue'.replaced queue'.items
+
+    abbrev stopped_by : Option Stage → TurnState
+    stopped_by o = stop_by o queue'.replaced queue'.items
+        (once_read queue'.replaced queue'.items rest) next
+
+    -- no file is to be read
+    reads_none : (frames : List PlainFrame) → frames ≡ []
+        → rest next ≡ read_first frames queue'.replaced queue'.items rest next
+    reads_none [] none = refl
+    reads_none (frame ∷ frames) none = absurd (cc)
+
+    -- a file is to be read
+    reads_some : (frames : List PlainFrame) → ¬ (frames ≡ [])
+        → stopped Reading queue'.replaced queue'.items next
+        ≡ read_first frames queue'.replaced queue'.items rest next
+    reads_some [] some = absurd (some refl)
+    reads_some (frame ∷ frames) some = refl
+
+    module _ (settled_is : settled g core queue ≡ stopped_by at) where
+      -- the keys go on, or wait for a file
+      goes_on : (o : Option Stage) (last : CoreState)
+          → MatchOption o ((last ≡ next) × (next.frames ≡ []))
+          (λ stage. (stage ≡ Reading) × (¬ (next.frames ≡ [])) × (last ≡ granted next))
+          → at ≡ None → Steps o g core last queue queue'
+      goes_on None last h is =
+          ap (λ (c : CoreState). settled g c queue') h.0 ∙ reads_none next.frames h.1
+          ∙ sym (settled_is ∙ ap stopped_by is)
+      goes_on (Some stage) last h is =
+          ap (λ (t : Stage). turn_of t last queue') h.0
+          ∙ ap (λ (c : CoreState). turn_of Reading c queue') h.2 ∙ reads_some next.frames h.1
+          ∙ sym (settled_is ∙ ap stopped_by is)
+
+      -- the keys stop
+      stops_at : (stage : Stage) (o : Option Stage) (last : CoreState) → o ≡ Some stage
+          → last ≡ granted next → at ≡ Some stage → Steps o g core last queue queue'
+      stops_at stage None last none grants is = absurd (cc)
+      stops_at stage (Some other) last there grants is =
+          let same : other ≡ stage = ap (λ (o : Option Stage). unwrap_or o other) there in
+          ap (λ (t : Stage). turn_of t last queue') same
+          ∙ ap (λ (c : CoreState). turn_of stage c queue') grants
+          ∙ sym (settled_is ∙ ap stopped_by is)
+
+      steps_at : (by o : Option Stage) (last : CoreState) → at ≡ by → Stops by o next last
+          → Steps o g core last queue queue'
+      steps_at None o last is h = goes_on o last h is
+      steps_at (Some stage) o last is h = stops_at stage o last h.0 h.1 is
+
+      -- the keys stop, or go on
+      steps_by : (o : Option Stage) (last : CoreState) → Stops at o next last
+          → Steps o g core last queue queue'
+      steps_by o last h = steps_at at o last refl h
+
 -- A press took the core and the queue to others.
 module _ (g : Ground) (core next : CoreState) (rules : PlainRules) (queue queue' : PlainQueue)
     (menu : Menu) (press : Press) (shows : menu ≡ shown_menu core)
@@ -45,12 +103,12 @@ module _ (g : Ground) (core next : CoreState) (rules : PlainRules) (queue queue'
   core_is =
       ap (λ (r : PlainRules). let c : CoreState = record core { rules = r } in c) (sym is.same)
 
-  abbrev rest : CoreState → TurnState
-  rest = run_keys g (1024 - queue'.replaced) queue'.replaced queue'.items
+  abbrev further : CoreState → TurnState
+  further = run_keys g (1024 - queue'.replaced) queue'.replaced queue'.items
 
   settled_is : settled g core queue
       ≡ stop_by (stage_after press next.desk.wanted) queue'.replaced queue'.items
-      (once_read queue'.replaced queue'.items rest) next
+      (once_read queue'.replaced queue'.items further) next
   settled_is =
       let most : 1024 - queue.replaced + queue.replaced ≡ 1024 = omega arith in
       press_is g (1024 - queue.replaced) queue.replaced queue.items core empty none
@@ -59,60 +117,14 @@ module _ (g : Ground) (core next : CoreState) (rules : PlainRules) (queue queue'
       ∙ ap (λ (m : Menu). by_pressed g 1024 (pressed_queue core.rules.keymap m queue) core)
       (sym shows)
       ∙ ap (λ (p : Pressed). by_pressed g 1024 p core) (sym is.outcome)
-      ∙ ap (λ (c : CoreState). behind g press queue'.replaced queue'.items rest c) core_is
+      ∙ ap (λ (c : CoreState). behind g press queue'.replaced queue'.items further c) core_is
       ∙ ap (λ (c : CoreState). stop_by (stage_after press c.desk.wanted) queue'.replaced
-      queue'.items (once_read queue'.replaced queue'.items rest) c) (sym acts)
-
-  abbrev stopped_by : Option Stage → TurnState
-  stopped_by o = stop_by o queue'.replaced queue'.items
-      (once_read queue'.replaced queue'.items rest) next
-
-  -- no file is to be read
-  reads_none : (frames : List PlainFrame) → frames ≡ []
-      → rest next ≡ read_first frames queue'.replaced queue'.items rest next
-  reads_none [] none = refl
-  reads_none (frame ∷ frames) none = absurd (cc)
-
-  -- a file is to be read
-  reads_some : (frames : List PlainFrame) → ¬ (frames ≡ [])
-      → stopped Reading queue'.replaced queue'.items next
-      ≡ read_first frames queue'.replaced queue'.items rest next
-  reads_some [] some = absurd (some refl)
-  reads_some (frame ∷ frames) some = refl
-
-  -- the keys go on, or wait for a file
-  goes_on : (o : Option Stage) (last : CoreState)
-      → MatchOption o ((last ≡ next) × (next.frames ≡ []))
-      (λ stage. (stage ≡ Reading) × (¬ (next.frames ≡ [])) × (last ≡ granted next))
-      → stage_after press next.desk.wanted ≡ None → Steps o g core last queue queue'
-  goes_on None last h at =
-      ap (λ (c : CoreState). settled g c queue') h.0 ∙ reads_none next.frames h.1
-      ∙ sym (settled_is ∙ ap stopped_by at)
-  goes_on (Some stage) last h at =
-      ap (λ (t : Stage). turn_of t last queue') h.0
-      ∙ ap (λ (c : CoreState). turn_of Reading c queue') h.2 ∙ reads_some next.frames h.1
-      ∙ sym (settled_is ∙ ap stopped_by at)
-
-  -- the keys stop
-  stops_at : (stage : Stage) (o : Option Stage) (last : CoreState) → o ≡ Some stage
-      → last ≡ granted next → stage_after press next.desk.wanted ≡ Some stage
-      → Steps o g core last queue queue'
-  stops_at stage None last is grants at = absurd (cc)
-  stops_at stage (Some other) last is grants at =
-      let same : other ≡ stage = ap (λ (o : Option Stage). unwrap_or o other) is in
-      ap (λ (t : Stage). turn_of t last queue') same
-      ∙ ap (λ (c : CoreState). turn_of stage c queue') grants
-      ∙ sym (settled_is ∙ ap stopped_by at)
-
-  steps_at : (at o : Option Stage) (last : CoreState) → stage_after press next.desk.wanted ≡ at
-      → Stops at o next last → Steps o g core last queue queue'
-  steps_at None o last is h = goes_on o last h is
-  steps_at (Some stage) o last is h = stops_at stage o last h.0 h.1 is
+      queue'.items (once_read queue'.replaced queue'.items further) c) (sym acts)
 
   -- the keys stop behind the answer, or go on
   pub steps_behind : (o : Option Stage) (last : CoreState)
       → Stops (stage_after press next.desk.wanted) o next last → Steps o g core last queue queue'
-  steps_behind o last h = steps_at (stage_after press next.desk.wanted) o last refl h
+  steps_behind = steps_by g core next queue queue' (stage_after press next.desk.wanted) settled_is
 
 -- keys that go on were not stopped
 pub none_stopped : (at o : Option Stage) (next last : CoreState) → Stops at o next last → o ≡ None
@@ -121,42 +133,26 @@ none_stopped None o next last h none = refl
 none_stopped (Some stage) o next last h none =
     absurd (none-some stage (sym none ∙ h.0))
 
--- the prompt that stands took the first key
+-- The prompt that stands took the first key.
 module _ (g : Ground) (core next : CoreState) (queue queue' : PlainQueue) (key : Key)
     (empty : core.rules.put ≡ []) (some : ¬ (core.desk.prompt ≡ None))
     (items : queue.items ≡ key ∷ queue'.items) (replaced : queue'.replaced ≡ queue.replaced)
     (acts : next ≡ prompted g key core) where
-  abbrev frames_are : next.frames ≡ (prompted g key core).frames
-  frames_are = ap (λ (c : CoreState). c.frames) acts
-
-  pub typed_on : next.frames ≡ [] → settled g next queue' ≡ settled g core queue
-  typed_on read =
-      ap (λ (c : CoreState). settled g c queue') acts
-      ∙ ap (λ (n : ℕ). run_keys g (1024 - n) n queue'.items (prompted g key core)) replaced
+  typed_is : settled g core queue ≡ stop_by (stage_wanted next.desk.wanted) queue'.replaced
+      queue'.items (once_read queue'.replaced queue'.items (run_keys g (1024 - queue'.replaced)
+      queue'.replaced queue'.items)) next
+  typed_is =
+      ap (λ (keys : List Key). run_keys g (1024 - queue.replaced) queue.replaced keys core) items
       ∙ type_is g (1024 - queue.replaced) queue.replaced key queue'.items core empty some
-      (sym frames_are ∙ read)
-      ∙ ap (λ (keys : List Key). run_keys g (1024 - queue.replaced) queue.replaced keys core)
-      (sym items)
+      ∙ ap (λ (n : ℕ). behind_prompt n queue'.items (run_keys g (1024 - n) n queue'.items)
+      (prompted g key core)) (sym replaced)
+      ∙ ap (λ (c : CoreState). behind_prompt queue'.replaced queue'.items
+      (run_keys g (1024 - queue'.replaced) queue'.replaced queue'.items) c) (sym acts)
 
-  -- and the keys wait for a file
-  pub typed_off : (last : CoreState) → ¬ (next.frames ≡ []) → last ≡ granted next
-      → turn_of Reading last queue' ≡ settled g core queue
-  typed_off last unread grants =
-      ap (λ (c : CoreState). turn_of Reading c queue') (grants ∙ ap granted acts)
-      ∙ ap (λ (n : ℕ). stopped Reading n queue'.items (prompted g key core)) replaced
-      ∙ wait_is g (1024 - queue.replaced) queue.replaced key queue'.items core empty some
-      (λ none. unread (frames_are ∙ none))
-      ∙ ap (λ (keys : List Key). run_keys g (1024 - queue.replaced) queue.replaced keys core)
-      (sym items)
-
-  -- whether they wait or not
-  pub typed_so : (waits : Option Stage) (last : CoreState)
-      → MatchOption waits ((last ≡ next) × (next.frames ≡ []))
-      (λ stage. (stage ≡ Reading) × (¬ (next.frames ≡ [])) × (last ≡ granted next))
-      → Steps waits g core last queue queue'
-  typed_so None last h = ap (λ (c : CoreState). settled g c queue') h.0 ∙ typed_on h.1
-  typed_so (Some stage) last h =
-      ap (λ (t : Stage). turn_of t last queue') h.0 ∙ typed_off last h.1 h.2
+  -- the keys stop behind what it answers, or go on
+  pub steps_typed : (o : Option Stage) (last : CoreState)
+      → Stops (stage_wanted next.desk.wanted) o next last → Steps o g core last queue queue'
+  steps_typed = steps_by g core next queue queue' (stage_wanted next.desk.wanted) typed_is
 
 -- keys that a command has put stand first
 pub put_on : (g : Ground) (core next : CoreState) (queue queue' : PlainQueue) (text : List Key)

@@ -15,8 +15,8 @@ use Rattle.session_index.specs.Desk.{PlainWanted, ToDisplay, ToList}
 use Rattle.session_index.specs.Effects.{performed}
 use Rattle.session_index.specs.Typing.{typed}
 use Rattle.session_index.specs.Viewing.{allows, gone_on, leads, way_on}
-use Rattle.session_index.specs.declared.notice.Notice.TheVariants as notice
-use Rattle.session_index.specs.declared.rule.Rule.{Rule}
+use Rattle.index_functions.specs.declared.notice.Notice.TheVariants as notice
+use Rattle.index_functions.specs.declared.rule.Rule.{Rule}
 use Rattle.session_pager.specs.Deeds.{attach_deed, pager_deed}
 use Rattle.session_pager.specs.declared.attach_functions.AttachDeed.{AttachDeed}
 use Rattle.session_pager.specs.declared.attach_functions.AttachDeed.TheVariants as attach
@@ -54,7 +54,7 @@ performed_by rule mails function c = with_desk (performed rule mails function c.
 -- by what the settings and the window say
 abbrev pub performed_in : Window → List Mail → Function → CoreState → CoreState
 performed_in window mails function c =
-    performed_by (rule_of c.rules.settings window) mails function c
+    performed_by (rule_of c.rules.settings c.kind window) mails function c
 
 -- a function that leaves the index is done
 abbrev pub served : Ground → PlainWanted → CoreState → CoreState
@@ -95,16 +95,16 @@ on_or_left g rule c = if leads (way_on rule g.given.mails c.desk)
     then displaying_cursor g (with_desk (gone_on rule g.given.mails c.desk) c)
     else left (with_desk (gone_on rule g.given.mails c.desk) c)
 
--- a rule by which the cursor stays
-abbrev pub still : Window → Rule
-still window = record { resolves = false; page = page_rows window }
+-- the rule without its way on, so that the cursor stays
+abbrev pub still : Window → CoreState → Rule
+still window c = record (rule_of c.rules.settings c.kind window) { resolves = false }
 
 -- the cursor's message is deleted, and what comes behind it is shown, unless that is refused
 abbrev pub deleting : Ground → Function → CoreState → CoreState
 deleting g function c = if allows g.given.mails function c.desk
-    then on_or_left g (still g.window)
-    (performed_by (still g.window) g.given.mails function c)
-    else performed_by (still g.window) g.given.mails function c
+    then on_or_left g (still g.window c)
+    (performed_by (still g.window c) g.given.mails function c)
+    else performed_by (still g.window c) g.given.mails function c
 
 -- the top of the page is moved, or quoted lines are hidden or shown
 abbrev pub turning : List Mail → Window → Turn → CoreState → CoreState

@@ -12,7 +12,8 @@ use Rattle.prompts.specs.declared.asking.Asking.{Asking}
 use Rattle.prompts.specs.declared.asking.Asking.TheVariants as asking
 use Rattle.rc_lang.specs.Settings.{outcome}
 use Rattle.rc_lang.specs.Values.{PlainValue}
-use Rattle.session_index.specs.Answering.{answered, chosen, is_no_limit, limited}
+use Rattle.index_functions.specs.Choosing.{is_no_limit}
+use Rattle.session_index.specs.Answering.{answered, chosen, limited}
 use Rattle.session_index.specs.Desk.{PlainWanted, ToAnswer, ToChoose, Unasked}
 use Rattle.session_index.specs.Effects.{with_index}
 use Rattle.session_index.specs.Index.{PlainIndex, given as given_index}
@@ -143,7 +144,7 @@ abbrev pub choice_made : List Mail → Window → Asking → ℕ → CoreState �
 choice_made mails window asking.Sort key c = sorted mails false key c
 choice_made mails window asking.ReverseSort key c = sorted mails true key c
 choice_made mails window asking key c =
-    with_desk (chosen (rule_of c.rules.settings window) mails asking key c.desk) c
+    with_desk (chosen (rule_of c.rules.settings c.kind window) mails asking key c.desk) c
 
 -- What keys want of the outside.
 

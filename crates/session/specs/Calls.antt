@@ -20,7 +20,8 @@ use Rattle.session.specs.Core.{IsEmpty}
 use Rattle.session.specs.Fitting.{CanRead, FitsRun, IsLeft, StaysUnopened}
 use Rattle.session.specs.Given.{Given, IsGiven, IsGivenOn}
 use Rattle.session.specs.Runs.{IsRunFrom, State, after_events, arrived, plain_session, shown}
-use Rattle.session.specs.Steps.{AddsCheck, AddsFiles, GoesOn, IsLent, IsNext, IsSettled, IsTaken}
+use Rattle.session.specs.Steps.{AddsCheck, GoesOn, IsLent, IsNext, IsSettled, IsTaken}
+use Rattle.session.specs.Steps.{AddsWorks}
 use Rattle.session.specs.Steps.{PressesKey, ReadsFiles, Sources, Stands, StaysMet, StaysTold}
 use Rattle.session.specs.Steps.{StaysToldFrom, Waits}
 use Rattle.session.specs.declared.session_type.Session.{Session}
@@ -54,12 +55,6 @@ pub record IsOpenIn {X : Type 0} {Is : X → Type 0} (Has : Kind → Type 0) (se
   pub known : IsOpen (letters_in trace) now.told session.folder
   pub has : Has session.folder.known.kind
   pub checked : IsMoment session.folder.checked
-
--- the open folder stays so while the device goes on
-abbrev pub StaysOpen : {X : Type 0} {Is : X → Type 0} → (Kind → Type 0) → Session → Session
-    → Trace X Is → Trace X Is → Seen → Seen → Type 0
-StaysOpen Has old new was now before after =
-    IsOpenIn Has old was before → IsOpenIn Has new now after
 
 -- The event is the last of the trace.
 pub record Happens {X : Type 0} {Is : X → Type 0} (event : Happening) (old new : Session)
@@ -132,19 +127,53 @@ abbrev pub FailsIn : {X : Type 0} {Is : X → Type 0} → (Kind → Type 0) → 
 FailsIn Has first moment why trace before now = (given : Given) → IsGivenIn trace given
     → Fails Has given first moment why (plain_texts trace.notes) (events_in trace) before now
 
--- The keys have acted that commands had put, and files were read that they came to, as far as
--- memory went.
+-- What was given behind a call was given before it.
+pub record KeepsGiven {X : Type 0} {Is : X → Type 0} (was now : Trace X Is) : Type 0 where
+  pub added : List Mail
+  pub letters : letters_in now ≡ letters_in was ++ added
+  pub kept : Keeps was.verdicts.kept now.verdicts.kept
+
+-- Files of commands were read, syncs were made, and the keys behind them acted, as far as memory
+-- went.
+pub record Works {X : Type 0} {Is : X → Type 0} (Has : Kind → Type 0) (old new : Session)
+    (was now : Trace X Is) (before after : Seen) : Type 0 where
+  pub on : (given : Given) → IsGivenIn now given → (first : State)
+      → (screens : List (List (List ℕ)))
+      → Stands given first (events_in was) (state_in old was)
+      (screens ++ shown given (state_in old was))
+      → GoesOn given first (events_in now) screens (plain_texts was.notes)
+  pub adds : AddsWorks (events_in was) (events_in now)
+  pub told : (given : Given) → IsGivenIn now given → (first : State)
+      → after_events given first (events_in was) ≡ state_in old was
+      → StaysToldFrom Has given first (events_in was) (events_in now) before after
+  pub met : StaysMet (letters_in was) (events_in was) (letters_in now) (events_in now)
+  pub known : IsOpenIn Has new now after
+  pub window : new.window ≡ old.window
+  pub given : KeepsGiven was now
+
+-- Memory sufficed for that.
+pub record WorksWhole {X : Type 0} {Is : X → Type 0} (old new : Session) (was now : Trace X Is)
+    : Type 0 where
+  pub to : (given : Given) → IsGivenIn now given → (first : State)
+      → after_events given first (events_in was) ≡ state_in old was
+      → after_events given first (events_in now) ≡ state_in new now
+  pub fits : FitsRun (letters_in now) new
+
+-- The keys have acted that commands had put, and files were read and syncs made that they came to,
+-- as far as memory went.
 pub record Pushes {X : Type 0} {Is : X → Type 0} (Has : Kind → Type 0) (old new : Session)
     (was now : Trace X Is) (before after : Seen)
     : Type 0 where
   pub on : (given : Given) → IsGivenIn now given → (first : State)
       → Waits given first (events_in was) (state_in old was)
       → GoesOn given first (events_in now) [] (plain_texts was.notes)
-  pub files : AddsFiles (events_in was) (events_in now)
-  pub told : StaysTold Has (events_in was) (events_in now) before after
-  pub known : StaysOpen Has old new was now before after
-  pub archive : now.archive ≡ was.archive
-  pub kept : Keeps was.verdicts.kept now.verdicts.kept
+  pub adds : AddsWorks (events_in was) (events_in now)
+  pub told : (given : Given) → IsGivenIn now given → (first : State)
+      → Waits given first (events_in was) (state_in old was)
+      → StaysToldFrom Has given first (events_in was) (events_in now) before after
+  pub met : StaysMet (letters_in was) (events_in was) (letters_in now) (events_in now)
+  pub known : IsOpenIn Has new now after
+  pub given : KeepsGiven was now
 
 -- Memory sufficed for them.
 pub record PushesWhole {X : Type 0} {Is : X → Type 0} (old new : Session) (was now : Trace X Is)
@@ -163,8 +192,8 @@ GoesOnTaken moment old was now = (given : Given) → IsGivenIn now given → (fi
     → IsTaken given first (events_in was) (state_in old was) moment screens
     → GoesOn given first (events_in now) screens (plain_texts was.notes)
 
--- A key has acted, and files were read that it came to, as far as memory went. Where there was room
--- for its event, a key is told even where memory runs out.
+-- A key has acted, and files were read and syncs made that it came to, as far as memory went. Where
+-- there was room for its event, a key is told even where memory runs out.
 pub record Presses {X : Type 0} {Is : X → Type 0} (Has : Kind → Type 0) (key : Key) (moment : ℤ)
     (old new : Session)
     (was now : Trace X Is) (before after : Seen) : Type 0 where
@@ -174,10 +203,13 @@ pub record Presses {X : Type 0} {Is : X → Type 0} (Has : Kind → Type 0) (key
       → IsRunFrom given first (events_in now)
   pub on : 0 < was.events.room → GoesOnTaken moment old was now
   pub pressed : 0 < was.events.room → PressesKey key moment (events_in was) (events_in now)
-  pub told : StaysTold Has (events_in was) (events_in now) before after
-  pub known : StaysOpen Has old new was now before after
-  pub archive : now.archive ≡ was.archive
-  pub kept : Keeps was.verdicts.kept now.verdicts.kept
+  pub told : (given : Given) → IsGivenIn now given → (first : State)
+      → (screens : List (List (List ℕ)))
+      → IsTaken given first (events_in was) (state_in old was) moment screens
+      → StaysToldFrom Has given first (events_in was) (events_in now) before after
+  pub met : StaysMet (letters_in was) (events_in was) (letters_in now) (events_in now)
+  pub known : IsOpenIn Has new now after
+  pub given : KeepsGiven was now
 
 -- Memory sufficed for it.
 pub record PressesWhole {X : Type 0} {Is : X → Type 0} (key : Key) (moment : ℤ) (old new : Session)
@@ -209,9 +241,3 @@ pub record Checks {X : Type 0} {Is : X → Type 0} (Has : Kind → Type 0) (mome
   pub fits : FitsRun (letters_in now) new
   pub known : IsOpenIn Has new now after
   pub room : 0 < now.events.room
-
--- What was given behind a call was given before it.
-pub record KeepsGiven {X : Type 0} {Is : X → Type 0} (was now : Trace X Is) : Type 0 where
-  pub added : List Mail
-  pub letters : letters_in now ≡ letters_in was ++ added
-  pub kept : Keeps was.verdicts.kept now.verdicts.kept

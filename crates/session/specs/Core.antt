@@ -1,6 +1,8 @@
 -- What keys act on, and what they are lent.
 use Rattle.std.specs.Prelude.{◌≡◌, ◌++◌, ℕ, ℤ, Bool, false, List, [], Option, None, option_map}
 use Rattle.folder_letters.specs.Letters.{Mail}
+use Rattle.mail_base.specs.declared.kind.Kind.{Kind}
+use Rattle.mail_base.specs.declared.kind.Kind.TheVariants.{Mbox}
 use Rattle.index_view.specs.View.{IsOf, PlainView, first_view}
 use Rattle.keymap.specs.declared.menu.Menu.{Menu}
 use Rattle.people.specs.People.{no_people}
@@ -8,7 +10,7 @@ use Rattle.people.specs.Judged.{PlainJudged}
 use Rattle.session_index.specs.Desk.{PlainDesk, Unasked, plain_desk}
 use Rattle.session_index.specs.Index.{index_of}
 use Rattle.session_index.specs.Effects.{said as said_on}
-use Rattle.session_index.specs.declared.notice.Notice.{Notice}
+use Rattle.index_functions.specs.declared.notice.Notice.{Notice}
 use Rattle.session_pager.specs.Reader.{PlainReader, menu_of, no_reader}
 use Rattle.session_pager.specs.Reads.{IsRead, plain_reader}
 use Rattle.session_state.specs.Frames.{PlainFrame, plain_frames}
@@ -19,13 +21,14 @@ use Rattle.session.specs.declared.core_state.Core.{Core}
 use Rattle.session_screen.specs.declared.window.Window.{Window}
 use Rattle.session_state.specs.declared.instant.Instant.{Instant}
 
--- what muttrc has set, what the index shows, the text of its limit, what is shown in its place, and
--- the files of commands that are not at their ends
+-- what muttrc has set, what the index shows, the text of its limit, what is shown in its place, the
+-- kind of the open folder, and the files of commands that are not at their ends
 pub record CoreState : Type 0 where
   pub rules : PlainRules
   pub desk : PlainDesk
   pub limit : Option (List ℕ)
   pub reader : PlainReader
+  pub kind : Kind
   pub frames : List PlainFrame
 
 -- what keys act on, as contracts see it
@@ -35,6 +38,7 @@ plain_core core = record {
   desk = plain_desk core.desk;
   limit = option_map (λ text. text.items) core.limit;
   reader = plain_reader core.reader;
+  kind = core.kind;
   frames = plain_frames core.frames;
 }
 
@@ -57,6 +61,7 @@ first_core read_only frames = record {
   };
   limit = None;
   reader = no_reader;
+  kind = Mbox;
   frames = frames;
 }
 

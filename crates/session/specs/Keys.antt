@@ -12,12 +12,14 @@ use Rattle.keymap.specs.declared.press.Press.{Press}
 use Rattle.keymap.specs.declared.press.Press.TheVariants as press
 use Rattle.prompts.specs.Prompts.{PlainPrompt}
 use Rattle.session_index.specs.Desk.{PlainWanted, ToEnd}
+use Rattle.session_index.specs.Desk.{ToSync}
 use Rattle.session.specs.Acting.{acted, prompted}
 use Rattle.session.specs.Answers.{granted}
 use Rattle.session.specs.Core.{CoreState, Ground, shown_menu}
 use Rattle.session_state.specs.Frames.{PlainFrame}
 use Rattle.session_state.specs.declared.stage.Stage.{Stage}
 use Rattle.session_state.specs.declared.stage.Stage.TheVariants.{Idle, Over, Reading}
+use Rattle.session_state.specs.declared.stage.Stage.TheVariants.{Syncing}
 
 -- what keys act on, the keys that wait, how many replacements were made, and what is wanted next
 pub record TurnState : Type 0 where
@@ -40,6 +42,7 @@ stopped stage replaced keys c =
 -- where keys stop behind an answer: none waits any more, or something is wanted
 abbrev pub stage_wanted : PlainWanted → Option Stage
 stage_wanted ToEnd = Some Over
+stage_wanted (ToSync purge quits) = Some (Syncing purge quits)
 stage_wanted _ = None
 
 -- the stage to which an answer of keys leads, if they do not go on
@@ -84,11 +87,16 @@ step g replaced again keys rest begun None Begun c = rest (with_begun begun c)
 step g replaced again keys rest begun None Unbound c =
     behind g press.Unbound replaced keys rest (with_begun [] c)
 
+-- these keys act behind a prompt's answer, unless that stops them
+abbrev pub behind_prompt : ℕ → List Key → (CoreState → TurnState) → CoreState → TurnState
+behind_prompt replaced keys rest c = stop_by (stage_wanted c.desk.wanted) replaced keys
+    (once_read replaced keys rest) c
+
 -- the first key: a prompt that stands takes it
 abbrev pub step_at : Ground → ℕ → (List Key → CoreState → TurnState) → Key → List Key
     → (CoreState → TurnState) → Option PlainPrompt → CoreState → TurnState
 step_at g replaced again key keys rest (Some prompt) c =
-    once_read replaced keys rest (prompted g key c)
+    behind_prompt replaced keys rest (prompted g key c)
 step_at g replaced again key keys rest None c =
     step g replaced again keys rest (c.rules.keymap.begun ++ key ∷ []) (called key)
     (found_in c.rules.keymap (shown_menu c) (c.rules.keymap.begun ++ key ∷ [])) c

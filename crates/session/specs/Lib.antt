@@ -9,6 +9,7 @@ pub mod Keys
 pub mod Opening
 pub mod Screen
 pub mod Checking
+pub mod Syncing
 pub mod Runs
 pub mod Telling
 pub mod Starting
@@ -17,3 +18,4 @@ pub mod Beginning
 pub mod Fitting
 pub mod Calls
 pub mod Looking
+pub mod Writing

@@ -1,5 +1,5 @@
 -- How a session looks what changed in its folder. For the code alone.
-use Rattle.std.specs.Prelude.{◌≡◌, ◌<◌, ◌++◌, ◌⊎◌, ℕ, ℤ, false, true, List, Result, length}
+use Rattle.std.specs.Prelude.{◌≡◌, ◌<◌, ◌++◌, ◌⊎◌, ℕ, ℤ, Bool, false, true, List, Result, length}
 use Rattle.std.specs.Prelude.{IfOk, OnErr, map}
 use Rattle.std.specs.List.{All}
 use Rattle.mail_base.specs.Series.{Held}
@@ -26,8 +26,7 @@ use Rattle.session_events.specs.declared.open_folder.OpenFolder.{OpenFolder}
 use Rattle.session.specs.Checking.{forgot_by, found_again, refused_again}
 use Rattle.session.specs.Core.{plain_core}
 use Rattle.session.specs.Fitting.{Fits}
-use Rattle.session.specs.Given.{Given}
-use Rattle.session.specs.Runs.{arrived_by, plain_session}
+use Rattle.session.specs.Runs.{looked_by, plain_session}
 use Rattle.session.specs.declared.session_type.Session.{Session}
 
 -- a cause is told, or that memory was wanting
@@ -50,33 +49,42 @@ pub record FindsNews (mails letters : List Mail) (folder : OpenFolder) (found : 
   pub ids : map (λ listed. listed.id) found.came.items ≡ ids_from folder.met found.came.items
 
 -- The index took in what was found, which was told, and the folder its listing.
-pub record TakesIt (letters : List Mail) (moment : ℤ) (old new : Session) (found : Found)
+pub record TakesIt (quiet : Bool) (letters : List Mail) (moment : ℤ) (old new : Session) (found : Found)
     : Type 0 where
   pub difference : IsDifference old.folder.listing.items old.folder.known.listing found
   pub is_of : IsOf letters new.core.desk.view
   pub core : plain_core new.core
-      ≡ found_again letters (plain_found found) (plain_core old.core)
+      ≡ found_again quiet letters (plain_found found) (plain_core old.core)
   pub rest : new.core ≡ record old.core { desk = new.core.desk }
   pub known : new.folder.known ≡ old.folder.known
   pub listing : new.folder.listing.items ≡ old.folder.known.listing
   pub met : new.folder.met ≡ length letters
   pub forgot : new.folder.forgot ≡ false
+  pub refused : new.folder.refused ≡ old.folder.refused
   pub checked : new.folder.checked ≡ moment
   pub same : new ≡ record old { core = new.core; folder = new.folder }
 
 -- what was found was taken in, or all is as before
-pub record TakesFound (letters : List Mail) (moment : ℤ) (old new : Session)
+pub record TakesFound (quiet : Bool) (letters : List Mail) (moment : ℤ) (old new : Session)
     (result : Result Found WantOfMemory) : Type 0 where
-  pub ok : IfOk result (TakesIt letters moment old new)
+  pub ok : IfOk result (TakesIt quiet letters moment old new)
   pub err : OnErr result (new ≡ old)
 
+-- The last line tells why a check was refused, or that memory was wanting, which is told then.
+pub record TellsRefusal (why told : ScanError) (old new : Session) : Type 0 where
+  pub told_as : IsToldAs why told
+  pub core : plain_core new.core ≡ refused_again false told (plain_core old.core)
+  pub view : new.core.desk.view ≡ old.core.desk.view
+  pub rest : new.core ≡ record old.core { desk = new.core.desk }
+  pub same : new ≡ record old { core = new.core }
+
 -- A check was refused at a moment for a cause, as the event tells.
-pub record RefusesCheck (why : ScanError) (moment : ℤ) (marks : Marks) (old new : Session)
+pub record RefusesCheck (quiet : Bool) (why : ScanError) (moment : ℤ) (marks : Marks) (old new : Session)
     (event : Happening) : Type 0 where
   pub told : ScanError
   pub told_as : IsToldAs why told
   pub event_is : event ≡ CheckRefused moment told marks
-  pub core : plain_core new.core ≡ refused_again told (plain_core old.core)
+  pub core : plain_core new.core ≡ refused_again quiet told (plain_core old.core)
   pub view : new.core.desk.view ≡ old.core.desk.view
   pub rest : new.core ≡ record old.core { desk = new.core.desk }
   pub folder : new.folder
@@ -84,15 +92,14 @@ pub record RefusesCheck (why : ScanError) (moment : ℤ) (marks : Marks) (old ne
   pub same : new ≡ record old { core = new.core; folder = new.folder }
 
 -- The folder was scanned, and what was found was taken in, or the event tells why not.
-pub record LooksAgain (Has : Kind → Type 0) (moment : ℤ) (old new : Session)
+pub record LooksAgain (Has : Kind → Type 0) (quiet : Bool) (moment : ℤ) (old new : Session)
     (archive archive' : List Letter) (event : Happening) (before after : Seen) : Type 0 where
   pub check : IsCheck event
   pub answers : answered event ≡ Check moment
-  pub tells : (empty : Kind) → Tells Has (standing_over empty old.folder)
-      (map plain_letter archive') event before after
-  pub arrives : (given : Given) → given.mails ≡ map plain_letter archive'
-      → (notes : Held (Held ℕ)) → plain_session new notes
-      ≡ arrived_by given (plain_session old notes) event
+  pub tells : (empty : Kind) → (purges : Bool) → Tells Has
+      (standing_over empty purges old.folder) (map plain_letter archive') event before after
+  pub arrives : (notes : Held (Held ℕ)) → plain_session new notes
+      ≡ looked_by quiet (map plain_letter archive') (plain_session old notes) event
   pub next : AreNext old.folder.met event
   pub met : length (map plain_letter archive') ≡ met_after old.folder.met event
   pub added : List Mail
@@ -102,3 +109,4 @@ pub record LooksAgain (Has : Kind → Type 0) (moment : ℤ) (old new : Session)
   pub checked : new.folder.checked ≡ moment
   pub fits : Fits (map plain_letter archive') new
   pub stage : new.stage ≡ old.stage
+  pub window : new.window ≡ old.window

@@ -6,7 +6,7 @@ use Rattle.patterns.specs.Causes.{is_good_on}
 use Rattle.people.specs.Judged.{PlainJudged}
 use Rattle.prompts.specs.declared.asking.Asking.TheVariants as asking
 use Rattle.session_index.specs.Effects.{asked}
-use Rattle.session_index.specs.declared.notice.Notice.TheVariants.{NotFound}
+use Rattle.index_functions.specs.declared.notice.Notice.TheVariants.{NotFound}
 use Rattle.session_pager.specs.Opening.{reader_again}
 use Rattle.session_pager.specs.Reader.{index_shown}
 use Rattle.session_pager.specs.Searching.{is_found, is_found_again}

@@ -1,5 +1,6 @@
 -- A run: what a state wishes, what an event makes of it, and the screens.
 use Rattle.std.specs.Prelude.{◌≡◌, ◌+◌, ℕ, ℤ, Bool, false, List, [], ◌∷◌, ◌++◌, Option}
+use Rattle.std.specs.Prelude.{true}
 use Rattle.std.specs.Prelude.{length, option_map, if◌then◌else◌}
 use Rattle.mail_base.specs.Series.{Held, plain_texts}
 use Rattle.mail_base.specs.declared.kind.Kind.{Kind}
@@ -9,17 +10,22 @@ use Rattle.folder_core.specs.declared.error.ScanError.{ScanError}
 use Rattle.folder_letters.specs.declared.listing.Listed.{Listed}
 use Rattle.hooks.specs.Hooks.{commands_for}
 use Rattle.keymap.specs.declared.key.Key.{Key}
+use Rattle.folder_changes.specs.Left.{listing_synced}
+use Rattle.folder_changes.specs.declared.sync_error.SyncError.{SyncError}
+use Rattle.index_items.specs.Changes.{Changed, changes_of}
 use Rattle.listing_laws.specs.Listing.{listing_behind}
 use Rattle.people.specs.Judged.{PlainJudged}
 use Rattle.session_events.specs.Events.{Happening, FileRead, FileRefused, KeyPressed, FolderOpened}
-use Rattle.session_events.specs.Events.{FolderRefused, FolderChecked, CheckRefused, PlainFound}
-use Rattle.session_events.specs.Events.{held_found}
+use Rattle.session_events.specs.Events.{FolderRefused, FolderChecked, CheckRefused, FolderSynced}
+use Rattle.session_events.specs.Events.{PlainFound, SyncRefused, held_found}
 use Rattle.session_events.specs.Happened.{met_after}
-use Rattle.session_events.specs.Wishes.{Check, Nothing, Open, Press, Source, Wish, answered}
+use Rattle.session_events.specs.Wishes.{Check, Nothing, Open, Press, Source, Sync, Wish}
+use Rattle.session_events.specs.Wishes.{answered}
 use Rattle.session_events.specs.Wishes.{moment_of}
 use Rattle.session_state.specs.declared.stage.Stage.{Stage}
 use Rattle.session_state.specs.declared.stage.Stage.TheVariants.{Unopened, Pushing, Idle, Ready}
 use Rattle.session_state.specs.declared.stage.Stage.TheVariants.{Opening, Over, Reading}
+use Rattle.session_state.specs.declared.stage.Stage.TheVariants.{Checking, Syncing}
 use Rattle.session_screen.specs.declared.window.Window.{Window}
 use Rattle.session_state.specs.Frames.{PlainFrame, Script, hooked_script, read_script, skip_script}
 use Rattle.session_screen.specs.Places.{folder_path}
@@ -34,12 +40,13 @@ use Rattle.session.specs.Opening.{begun_in, opened}
 use Rattle.session.specs.Reading.{refreshed}
 use Rattle.session.specs.Screen.{Folder, screen}
 use Rattle.session.specs.Showing.{resumed}
+use Rattle.session.specs.Syncing.{synced_core, unsynced_core}
 use Rattle.session.specs.declared.session_type.Session.{Session}
 
 -- what keys act on; what was told of files of commands; the screen's size; the open folder, its
 -- listing, and whether only a part of it is known still; how many letters were met; the moment of
--- its last check, before its opening that of the start; the moment at which commands run and keys
--- act; and the folder that the words name
+-- its last check, before its opening that of the start; whether its last sync was refused; the
+-- moment at which commands run and keys act; and the folder that the words name
 pub record State : Type 0 where
   pub turn : TurnState
   pub notes : List (List ℕ)
@@ -49,6 +56,7 @@ pub record State : Type 0 where
   pub forgot : Bool
   pub met : ℕ
   pub checked : ℤ
+  pub refused : Bool
   pub moment : ℤ
   pub named : Option (List ℕ)
 
@@ -68,6 +76,7 @@ plain_session session notes = record {
   forgot = session.folder.forgot;
   met = session.folder.met;
   checked = session.folder.checked;
+  refused = session.folder.refused;
   moment = session.moment.0;
   named = option_map (λ path. path.items) session.named;
 }
@@ -81,7 +90,12 @@ file_wish (frame ∷ frames) other = Source frame.place.file
 
 -- what a key wishes that is typed: a check comes first where it is due
 abbrev pub key_wish : State → ℤ → Wish
-key_wish s moment = if is_due s.checked s.turn.core moment then Check moment else Press moment
+key_wish s moment =
+    if is_due s.refused s.checked s.turn.core moment then Check moment else Press moment
+
+-- what is to become of the listed messages, with those that are marked deleted where it purges
+abbrev pub wanted_changes : Bool → CoreState → List Changed
+wanted_changes purge c = changes_of c.kind purge c.desk.index.facts.items
 
 -- what a state wishes, by its stage
 abbrev pub wish_at : Stage → State → ℤ → Wish
@@ -91,6 +105,8 @@ wish_at Idle s moment = key_wish s moment
 wish_at Ready s moment = Press moment
 wish_at Opening s moment = file_wish s.turn.core.frames Nothing
 wish_at Reading s moment = file_wish s.turn.core.frames Nothing
+wish_at (Syncing purge quits) s moment = Sync (wanted_changes purge s.turn.core)
+wish_at (Checking leaves) s moment = Check s.moment
 wish_at _ s moment = Nothing
 
 -- what is wished at this moment
@@ -169,12 +185,16 @@ hooked_by verdicts path moment s = with_script (hooked_script (instant_of s.wind
 -- the messages of a folder are taken in
 abbrev pub found_by : List Mail → List ℕ → Kind → ℤ → List Listed → State → State
 found_by mails path kind moment came s = record s {
-  turn = record s.turn { core = opened mails came s.turn.core; stage = Pushing };
+  turn = record s.turn {
+    core = record (opened mails came s.turn.core) { kind = kind };
+    stage = Pushing;
+  };
   folder = record { path = path; kind = kind };
   listing = came;
   forgot = false;
   met = s.met + length came;
   checked = moment;
+  refused = false;
   moment = moment;
 }
 
@@ -223,23 +243,74 @@ abbrev pub typed : Given → Key → ℤ → State → State
 typed given key moment s =
     acting given (waiting (s.turn.queue ++ key ∷ []) (record s { moment = moment }))
 
--- the folder was checked at a moment, before a key that was taken
-abbrev pub checked_by : List Mail → ℤ → PlainFound → State → State
-checked_by mails moment found s = record s {
-  turn = record s.turn { core = found_again mails found s.turn.core };
+-- the folder was checked at a moment
+abbrev pub checked_by : Bool → List Mail → ℤ → PlainFound → State → State
+checked_by quiet mails moment found s = record s {
+  turn = record s.turn { core = found_again quiet mails found s.turn.core };
   listing = listing_behind mails (held_found found) s.listing;
   forgot = false;
   met = s.met + length found.came;
   checked = moment;
 }
 
--- a check was refused at a moment, before a key that was taken
-abbrev pub unchecked_by : ℤ → ScanError → State → State
-unchecked_by moment why s = record s {
-  turn = record s.turn { core = refused_again why s.turn.core };
+-- a check was refused at a moment
+abbrev pub unchecked_by : Bool → ℤ → ScanError → State → State
+unchecked_by quiet moment why s = record s {
+  turn = record s.turn { core = refused_again quiet why s.turn.core };
   forgot = forgot_by why s.forgot;
   checked = moment;
 }
+
+-- what the event of a check makes of the index and of the listing
+abbrev pub looked_by : Bool → List Mail → State → Happening → State
+looked_by quiet mails s (FolderChecked moment found marks) =
+    checked_by quiet mails moment found s
+looked_by quiet mails s (CheckRefused moment why marks) = unchecked_by quiet moment why s
+looked_by quiet mails s _ = s
+
+-- behind the check that follows a sync the run is over, or the keys go on
+abbrev pub behind_check : Bool → Given → State → State
+behind_check true given s = at_stage Over s
+behind_check false given s = acting given s
+
+-- a check, by the stage: that behind a sync tells nothing, so that the text of the sync stays, and
+-- any other comes before a key that was taken
+abbrev pub looked_at : Stage → Given → State → Happening → State
+looked_at (Checking leaves) given s event =
+    behind_check leaves given (looked_by true given.mails s event)
+looked_at _ given s event = looked_by false given.mails (taken s) event
+
+-- the run is to end behind a sync that is begun at this stage
+abbrev pub quits_at : Stage → Bool
+quits_at (Syncing purge quits) = quits
+quits_at _ = false
+
+-- a sync was made with these changes: they stand in the listing, and the last line tells of it
+abbrev pub synced_by : Bool → List Mail → List Changed → State → State
+synced_by quits mails changes s = record s {
+  turn = record s.turn {
+    core = synced_core mails changes s.turn.core;
+    stage = Checking quits;
+  };
+  listing = listing_synced s.folder.kind changes s.listing;
+  refused = false;
+}
+
+-- a sync was refused, which the last line tells
+abbrev pub unsynced_by : SyncError → State → State
+unsynced_by why s = record s {
+  turn = record s.turn {
+    core = unsynced_core s.folder.path why s.turn.core;
+    stage = Checking false;
+  };
+  refused = true;
+}
+
+-- what the event of a sync makes of the state; the run is to end behind it where it quits
+abbrev pub written_by : Bool → List Mail → State → Happening → State
+written_by quits mails s (FolderSynced changes marks) = synced_by quits mails changes s
+written_by quits mails s (SyncRefused changes why marks) = unsynced_by why s
+written_by quits mails s _ = s
 
 -- the state that an event leads to by the letters that were met then
 abbrev pub arrived_by : Given → State → Happening → State
@@ -250,8 +321,13 @@ arrived_by given s (FolderOpened path kind moment came marks) =
     opened_by given path kind moment came s
 arrived_by given s (FolderRefused path why marks) = at_stage Over s
 arrived_by given s (FolderChecked moment found marks) =
-    checked_by given.mails moment found (taken s)
-arrived_by given s (CheckRefused moment why marks) = unchecked_by moment why (taken s)
+    looked_at s.turn.stage given s (FolderChecked moment found marks)
+arrived_by given s (CheckRefused moment why marks) =
+    looked_at s.turn.stage given s (CheckRefused moment why marks)
+arrived_by given s (FolderSynced changes marks) =
+    written_by (quits_at s.turn.stage) given.mails s (FolderSynced changes marks)
+arrived_by given s (SyncRefused changes why marks) =
+    written_by (quits_at s.turn.stage) given.mails s (SyncRefused changes why marks)
 
 -- the state that an event leads to, in which keys may still wait behind an opening
 abbrev pub arrived : Given → State → Happening → State

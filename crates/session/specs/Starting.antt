@@ -39,6 +39,7 @@ state_over setup core moment = record {
   folder = record { path = []; kind = Mbox };
   listing = [];
   forgot = false;
+  refused = false;
   met = 0;
   checked = moment;
   moment = moment;

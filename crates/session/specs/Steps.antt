@@ -1,5 +1,7 @@
 -- How a session stands in its run.
 use Rattle.std.specs.Prelude.{◌≡◌, ◌≢◌, ◌≤◌, ℕ, ℤ, List, [], ◌∷◌, ◌++◌, length}
+use Rattle.std.specs.Prelude.{false}
+use Rattle.std.specs.Prelude.{Bool}
 use Rattle.mail_base.specs.declared.kind.Kind.{Kind}
 use Rattle.disk_model.specs.Seen.{Seen}
 use Rattle.folder_letters.specs.Letters.{Mail}
@@ -8,10 +10,13 @@ use Rattle.patterns.specs.Causes.{Keeps}
 use Rattle.people.specs.Judged.{PlainJudged}
 use Rattle.session_state.specs.declared.stage.Stage.{Stage}
 use Rattle.session_state.specs.declared.stage.Stage.TheVariants.{Unopened, Idle}
+use Rattle.session_state.specs.declared.stage.Stage.TheVariants.{Syncing}
+use Rattle.session_state.specs.declared.stage.Stage.TheVariants.{Checking}
 use Rattle.session_state.specs.declared.stage.Stage.TheVariants.{Opening, Over, Reading}
 use Rattle.session_events.specs.declared.setup.Next.{Next}
 use Rattle.session_events.specs.declared.setup.Next.TheVariants.{Go, Quit}
 use Rattle.session_events.specs.Events.{AreFiles, Happening, IsCheck, KeyPressed}
+use Rattle.session_events.specs.Events.{AreWorks}
 use Rattle.session_events.specs.Happened.{AllMet}
 use Rattle.session_events.specs.Telling.{TellsFile}
 use Rattle.session_events.specs.Wishes.{Press}
@@ -63,11 +68,11 @@ abbrev pub AreChecks : List Happening → Type 0
 AreChecks [] = Unit {0}
 AreChecks (event ∷ events) = IsCheck event × AreChecks events
 
--- A key was pressed, and files of commands were read that it came to.
+-- A key was pressed, and files of commands were read and syncs made that it came to.
 pub record PressesKey (key : Key) (moment : ℤ) (events events' : List Happening) : Type 0 where
-  pub files : List Happening
-  pub are : AreFiles files
-  pub pressed : events' ≡ events ++ KeyPressed key moment ∷ files
+  pub works : List Happening
+  pub are : AreWorks works
+  pub pressed : events' ≡ events ++ KeyPressed key moment ∷ works
 
 -- A check was made, or none was due.
 pub record AddsCheck (events events' : List Happening) : Type 0 where
@@ -76,10 +81,10 @@ pub record AddsCheck (events events' : List Happening) : Type 0 where
   pub added : events' ≡ events ++ checks
 
 -- The same without a key.
-pub record AddsFiles (events events' : List Happening) : Type 0 where
-  pub files : List Happening
-  pub are : AreFiles files
-  pub added : events' ≡ events ++ files
+pub record AddsWorks (events events' : List Happening) : Type 0 where
+  pub works : List Happening
+  pub are : AreWorks works
+  pub added : events' ≡ events ++ works
 
 -- what the events say of so many letters stays true while there are more
 abbrev pub StaysMet : List Mail → List Happening → List Mail → List Happening → Type 0
@@ -123,13 +128,29 @@ IsFileless Opening frames = frames ≡ []
 IsFileless Reading frames = frames ≡ []
 IsFileless _ frames = Unit {0}
 
--- keys have acted, or hooks of a folder have: a key is wanted, or a file that they came to, or the
--- run is over
+-- a check is wished behind a sync
+abbrev pub IsChecking : Stage → Type 0
+IsChecking (Checking leaves) = Unit {0}
+IsChecking _ = ⊥
+
+-- the run is over behind that
+abbrev pub leaves_at : Stage → Bool
+leaves_at (Checking leaves) = leaves
+leaves_at _ = false
+
+-- neither a file of commands nor a sync is wished
+abbrev pub IsDone : Stage → List PlainFrame → Type 0
+IsDone (Syncing purge quits) frames = ⊥
+IsDone stage frames = IsFileless stage frames
+
+-- keys have acted, or hooks of a folder have: a key is wanted, or a file or a sync that they came to,
+-- or the run is over
 abbrev pub IsSettled : Stage → List PlainFrame → Type 0
 IsSettled Idle frames = Unit {0}
 IsSettled Opening frames = frames ≢ []
 IsSettled Reading frames = frames ≢ []
 IsSettled Over frames = Unit {0}
+IsSettled (Syncing purge quits) frames = Unit {0}
 IsSettled _ frames = ⊥
 
 -- Files of commands were read before a folder is open: the events are a run up to this state, no

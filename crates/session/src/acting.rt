@@ -11,7 +11,7 @@ use people::Verdicts;
 use rc_lang::Variable;
 use session_index::{Notice, Rule, Wanted};
 use session_pager::{PagerDeed, attach_deed, pager_deed};
-use session_screen::{Window, is_set, toggle_words};
+use session_screen::{Window, is_set, quad_of, toggle_words};
 use session_state::Moment;
 
 // Whether two cursors are on one message.
@@ -40,12 +40,17 @@ impl Core {
     /// What the settings and the window say of functions.
     pub fn rule(&self, window: Window) -> Rule
         requires { IsWindow window }
-        ensures rule { result ≡ rule_of self.now.rules.settings window }
+        ensures rule { result ≡ rule_of self.now.rules.settings self.now.kind window }
         ensures page { 0 < result.page }
     {
+        let settings = self.rules.settings();
         Rule {
-            resolves: is_set(self.rules.settings(), Variable::Resolve),
+            resolves: is_set(settings, Variable::Resolve),
             page: window.rows as usize - 2,
+            delete: quad_of(settings, Variable::Delete),
+            quit: quad_of(settings, Variable::Quit),
+            mark_old: is_set(settings, Variable::MarkOld),
+            kind: self.kind,
         }
     }
 
@@ -203,7 +208,7 @@ impl Core {
     {
         let rule = Rule {
             resolves: false,
-            page: window.rows as usize - 2,
+            ..self.rule(window)
         };
         let allowed = self.desk.allows(function);
         self.desk.perform(rule, archive, function)?;

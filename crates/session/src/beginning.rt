@@ -110,6 +110,7 @@ impl Session {
         requires listing { folder.listing.items ≡ [] }
         requires met { folder.met ≡ 0 }
         requires forgot { folder.forgot ≡ false }
+        requires refused { folder.refused ≡ false }
         requires checked { folder.checked ≡ moment.0 }
         ensures state { (notes : Held (Held ℕ)) → notes.items ≡ [] → plain_session result notes
             ≡ state_over (plain_setup setup) (plain_core core) moment.0 }
@@ -128,6 +129,7 @@ impl Session {
             folder,
             moment,
             named: setup.path,
+            owner: setup.owner,
         }
     }
 

@@ -1,7 +1,7 @@
 //! What keys act on.
 
 use index_view::View;
-use mail_base::{Line, NoMemory};
+use mail_base::{Kind, Line, NoMemory};
 use patterns_match::Scores;
 use people::People;
 use session_index::{Desk, Message, Wanted};
@@ -11,12 +11,13 @@ use session_state::{Frame, Rules};
 use std::alloc::Global;
 
 /// What keys act on: what muttrc has set, the index, the text of its limit, what is shown in its
-/// place, and the files of commands that are not at their ends.
+/// place, the kind of the open folder, and the files of commands that are not at their ends.
 pub struct Core {
     pub rules: Rules,
     pub desk: Desk,
     pub limit: Option<Line>,
     pub reader: Reader,
+    pub kind: Kind,
     pub frames: Vec<Frame>,
 }
 
@@ -27,6 +28,7 @@ impl Drop for Core {
             desk: _,
             limit: _,
             reader: _,
+            kind: _,
             frames: _,
         } = self;
     }
@@ -59,6 +61,7 @@ impl Core {
             },
             limit: None,
             reader: Reader::new(alloc),
+            kind: Kind::Mbox,
             frames,
         })
     }

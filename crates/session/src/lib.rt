@@ -19,6 +19,7 @@ mod screen;
 mod session_type;
 mod showing;
 mod source;
+mod syncing;
 mod turn;
 
 pub use session_type::Session;

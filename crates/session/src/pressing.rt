@@ -16,21 +16,24 @@ impl Session {
     ghost use Rattle.mail_base.specs.Series.{plain_texts};
     ghost use Rattle.session_state.specs.Instants.{IsMoment};
     ghost use Rattle.session.specs.Calls.{Presses, PressesWhole, Pushes, PushesWhole};
-    ghost use Rattle.session.specs.Calls.{letters_in, state_in};
+    ghost use Rattle.session.specs.Calls.{IsOpenIn, letters_in, state_in};
     ghost use Rattle.session.specs.Fitting.{FitsRun};
     ghost use Rattle.session.specs.Runs.{screen_in};
     ghost use Rattle.session.specs.Steps.{next_of};
     ghost use Rattle.session_state.specs.declared.stage.Stage.TheVariants.{Ready};
 
-    /// Lets the keys act that commands have put before the first screen, and reads the files of
-    /// commands that they come to.
+    /// Lets the keys act that commands have put before the first screen, reads the files of commands
+    /// and makes the syncs that they come to.
     pub fn pushed(
         &mut self,
         dev: &mut Device,
         drivers: &Drivers,
         trace: &mut Trace,
     ) -> Result<Next, NoMemory>
-        requires { FitsRun (letters_in trace.old) self.old }
+        requires fits { FitsRun (letters_in trace.old) self.old }
+        requires known { IsOpenIn (λ kind. Any (λ d. sort (d.vtable, d.value) ≡ kind)
+            drivers.now.list.items) self.old trace.old
+            (seen (dev.old.disk.vtable, dev.old.disk.value)) }
         ensures pushes { Pushes (λ kind. Any (λ d. sort (d.vtable, d.value) ≡ kind)
             drivers.now.list.items) self.old self.new trace.old trace.new
             (seen (dev.old.disk.vtable, dev.old.disk.value))
@@ -38,11 +41,12 @@ impl Session {
         ensures whole { IfOk result (PushesWhole self.old self.new trace.old trace.new) }
     {
         self.push_keys(&trace.archive, &mut trace.verdicts)?;
-        self.source_all(dev, trace)?;
+        self.work_all(dev, drivers, trace)?;
         Ok(self.next())
     }
 
-    /// Lets a typed key act, and reads the files of commands that it comes to. Call `check` first.
+    /// Lets a typed key act, reads the files of commands and makes the syncs that it comes to. Call
+    /// `check` first.
     pub fn key(
         &mut self,
         key: Key,
@@ -54,6 +58,9 @@ impl Session {
         requires ready { self.old.stage ≡ Ready }
         requires moment { IsMoment moment }
         requires fits { FitsRun (letters_in trace.old) self.old }
+        requires known { IsOpenIn (λ kind. Any (λ d. sort (d.vtable, d.value) ≡ kind)
+            drivers.now.list.items) self.old trace.old
+            (seen (dev.old.disk.vtable, dev.old.disk.value)) }
         ensures presses { Presses (λ kind. Any (λ d. sort (d.vtable, d.value) ≡ kind)
             drivers.now.list.items) key moment self.old self.new trace.old trace.new
             (seen (dev.old.disk.vtable, dev.old.disk.value))
@@ -66,7 +73,7 @@ impl Session {
         let taken = self.take(&trace.archive, verdicts, &mut trace.notes, &event);
         trace.events.push(event)?;
         taken?;
-        self.source_all(dev, trace)?;
+        self.work_all(dev, drivers, trace)?;
         Ok(self.next())
     }
 

@@ -26,6 +26,8 @@ pub struct Session {
     /// the start.
     pub moment: Moment,
     pub named: Option<Bytes>,
+    /// The word by which a lock of a folder is told to be ours; it may be empty.
+    pub owner: Bytes,
 }
 
 impl Drop for Session {
@@ -39,6 +41,7 @@ impl Drop for Session {
             folder: _,
             moment: _,
             named: _,
+            owner: _,
         } = self;
     }
 }
@@ -320,7 +323,11 @@ impl Session {
     }
 
     // Lets the keys that wait act.
-    fn settle(&mut self, archive: &Archive, verdicts: &mut Verdicts) -> Result<(), NoMemory>
+    pub(crate) fn settle(
+        &mut self,
+        archive: &Archive,
+        verdicts: &mut Verdicts,
+    ) -> Result<(), NoMemory>
         requires { CanAct (map plain_letter archive.now.items) self.old }
         ensures acting { OnOk result (Becomes (map plain_letter archive.now.items) verdicts.new.kept
             spec.acting self.old self.new) }
@@ -351,6 +358,7 @@ impl Session {
         requires moment { IsMoment moment.0 }
         requires met { folder.met ≡ self.old.folder.met + length folder.listing.items }
         requires forgot { folder.forgot ≡ false }
+        requires refused { folder.refused ≡ false }
         requires checked { folder.checked ≡ moment.0 }
         ensures opened { OnOk result ((later : List PlainJudged) → Keeps verdicts.new.kept later
             → spec.plain_session self.new notes.new ≡ spec.opened_by
@@ -365,6 +373,7 @@ impl Session {
         let path = folder.known.path().as_bytes();
         self.run_hooks(path, moment, verdicts, notes)?;
         self.core.open(archive, &folder.listing)?;
+        self.core.kind = folder.known.kind();
         self.folder = folder;
         self.moment = moment;
         self.stage = Stage::Pushing;

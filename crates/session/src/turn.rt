@@ -11,7 +11,7 @@ ghost use Rattle.session_screen.specs.Window.{IsWindow};
 ghost use Rattle.session_state.specs.Instants.{IsMoment};
 ghost use Rattle.patterns.specs.Causes.{Keeps};
 ghost use Rattle.session.specs.Keys.{Steps, Stops, fuel, settled, turn_of};
-ghost use Rattle.session.specs.Keys.{stage_after};
+ghost use Rattle.session.specs.Keys.{stage_after, stage_wanted};
 ghost use Rattle.session_state.specs.declared.stage.Stage.TheVariants.{Idle, Reading};
 
 use crate::core_state::Core;
@@ -187,7 +187,7 @@ fn type_next(
         None => Ok(None),
         Some(key) => {
             core.type_key(window, moment, archive, verdicts, key)?;
-            Ok(wait_for_file(core))
+            Ok(stop_wanted(core))
         }
     }
 }
@@ -223,18 +223,34 @@ fn press_next(
     Ok(stop_behind(core, press))
 }
 
-// Stops the keys behind an answer, if something does: it ends them, or a file is to be read.
+// Stops the keys where something is wanted: the end, a sync, or a file that is to be read.
+fn stop_wanted(core: &mut Core) -> Option<Stage>
+    ensures stops { Stops (stage_wanted (plain_core core.old).desk.wanted) result
+        (plain_core core.old) (plain_core core.new) }
+    ensures rest { core.new ≡ record core.old { desk = core.new.desk } }
+    ensures view { core.new.desk.view ≡ core.old.desk.view }
+{
+    let stage = match core.desk.wanted {
+        Wanted::ToEnd => Stage::Over,
+        Wanted::ToSync { purge, quits } => Stage::Syncing { purge, quits },
+        _ => return wait_for_file(core),
+    };
+    let _ = core.take_wanted();
+    Some(stage)
+}
+
+// Stops the keys behind an answer, if something does: it ends them, or something is wanted.
 fn stop_behind(core: &mut Core, press: Press) -> Option<Stage>
     ensures stops { Stops (stage_after press (plain_core core.old).desk.wanted) result
         (plain_core core.old) (plain_core core.new) }
     ensures rest { core.new ≡ record core.old { desk = core.new.desk } }
     ensures view { core.new.desk.view ≡ core.old.desk.view }
 {
-    let stage = match (press, &core.desk.wanted) {
-        (Press::Wait | Press::Loop, _) => Stage::Idle,
-        (_, Wanted::ToEnd) => Stage::Over,
-        (_, _) => return wait_for_file(core),
-    };
-    let _ = core.take_wanted();
-    Some(stage)
+    match press {
+        Press::Wait | Press::Loop => {
+            let _ = core.take_wanted();
+            Some(Stage::Idle)
+        }
+        _ => stop_wanted(core),
+    }
 }

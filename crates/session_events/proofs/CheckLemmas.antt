@@ -1,9 +1,10 @@
 -- What checks tell of the disk.
-use Rattle.std.proofs.Common.{◌≡◌, ◌≤◌, ◌+◌, ℕ, ℤ, List, Option, Some, None, Result, Ok, Err}
+use Rattle.std.proofs.Common.{◌≡◌, ◌≤◌, ◌+◌, inl, inr, ℕ, ℤ, Bool, List, Option, Some, None}
+use Rattle.std.proofs.Common.{Result, Ok, Err}
 use Rattle.std.proofs.Common.{refl, sym, ◌∙◌, ap, subst, arith, length, length-append, map, take}
 use Rattle.std.proofs.Math.Seq.{take-append_seam}
 use Rattle.std.proofs.lemmas.List.{take-take, take_all}
-use Rattle.std.specs.Prelude.{IfOk, IsErrOf}
+use Rattle.std.specs.Prelude.{IfErr, IfOk, IsErrOf}
 use Rattle.mail_base.specs.Faults.{Rose}
 use Rattle.mail_base.specs.declared.kind.Kind.{Kind}
 use Rattle.disk_model.specs.Journal.{Past}
@@ -19,15 +20,19 @@ use Rattle.folder_core.specs.Right.{Right}
 use Rattle.folder_core.specs.Scanned.{IsFound, ListsFound, Saw}
 use Rattle.folder_core.specs.declared.error.ScanError.{ScanError}
 use Rattle.folder_core.specs.declared.error.ScanError.TheVariants as scan
+use Rattle.folder_changes.specs.declared.sync_error.SyncError.{SyncError}
+use Rattle.folder_changes.specs.declared.sync_error.SyncError.TheVariants as sync
+use Rattle.folder_drivers.specs.Synced.{sync_row}
 use Rattle.folder_letters.specs.Letters.{Mail, plain_letter}
 use Rattle.folder_letters.specs.declared.letter.Letter.{Letter}
 use Rattle.folder_letters.specs.declared.listing.Found.{Found}
+use Rattle.index_items.specs.Changes.{Changed}
 use Rattle.session_events.specs.Checking.{IsOpen, ScansFolder, standing_over}
 use Rattle.session_events.specs.Events.{Happening, FileRead, FileRefused, KeyPressed, FolderOpened}
 use Rattle.session_events.specs.Events.{FolderRefused, FolderChecked, CheckRefused, PlainFound}
-use Rattle.session_events.specs.Events.{held_found}
+use Rattle.session_events.specs.Events.{FolderSynced, SyncRefused, held_found}
 use Rattle.session_events.specs.Happened.{Counts, Happened, HasCause, IsKnown, Standing}
-use Rattle.session_events.specs.Happened.{WasChecked}
+use Rattle.session_events.specs.Happened.{WasChecked, WasNotSynced, WasTried}
 use Rattle.session_events.specs.Happened.{CheckWasRefused, WasNotChecked, WasOpened, met_after}
 use Rattle.session_events.specs.Telling.{Tells}
 use Rattle.session_events.specs.declared.checking.Scanned.{Scanned}
@@ -58,12 +63,12 @@ scan_lists archive archive' known new_known scanned theirs old new scans is =
     (letters_of archive') known new_known)) is scans.scans.lists
 
 -- A scan of the open folder.
-module _ (Has : Kind → Type 0) (empty : Kind) (folder : OpenFolder) (archive archive' : List Letter)
-    (new_known : KnownFolder) (scanned : Scanned) (moment : ℤ) (old new : Seen)
+module _ (Has : Kind → Type 0) (empty : Kind) (purges : Bool) (folder : OpenFolder)
+    (archive archive' : List Letter) (new_known : KnownFolder) (scanned : Scanned) (moment : ℤ) (old new : Seen)
     (known : IsOpen (letters_of archive) old.told folder)
     (scans : ScansFolder archive archive' folder.known new_known scanned old new) where
   abbrev at : Standing
-  at = standing_over empty folder
+  at = standing_over empty purges folder
 
   -- it was refused for want of memory, also of that to take in what it found
   pub tells_starved : (mails : List Mail)
@@ -77,7 +82,7 @@ module _ (Has : Kind → Type 0) (empty : Kind) (folder : OpenFolder) (archive a
     faults = scans.scans.only.faults;
     cause = tt;
     happened = goes_as old.told new.told (λ p q saw. tt) scans.scans.saw;
-    looks = scans.scans.only.looks;
+    touches = scans.scans.only.looks;
     first = scans.first;
     last = scans.last;
   }
@@ -150,7 +155,7 @@ module _ (Has : Kind → Type 0) (empty : Kind) (folder : OpenFolder) (archive a
       faults = scans.scans.only.faults;
       cause = cause_of why refl;
       happened = refused_told old.told new.told refl scans.scans.saw;
-      looks = scans.scans.only.looks;
+      touches = scans.scans.only.looks;
       first = scans.first;
       last = scans.last;
     }
@@ -217,7 +222,7 @@ module _ (Has : Kind → Type 0) (empty : Kind) (folder : OpenFolder) (archive a
       faults = scans.scans.only.faults;
       cause = tt;
       happened = found_told old.told new.told refl scans.scans.saw;
-      looks = scans.scans.only.looks;
+      touches = scans.scans.only.looks;
       first = scans.first;
       last = scans.last;
     }
@@ -245,9 +250,53 @@ module _ (mails more : List Mail) (first : take (length mails) more ≡ mails) w
         (length p.journal) (length q.journal) q) (sym (takes_same at.met low)) was.refused;
   }
 
+  -- a sync was tried with the same letters
+  tried_more : (at : Standing) (changes : List Changed) (result : Result (Unit {0}) SyncError)
+      (p q : Past) → at.met ≤ length mails → WasTried at mails changes result p q
+      → WasTried at more changes result p q
+  tried_more at changes result p q low was = record {
+    known = was.known;
+    is = known_more at was.known p low was.is;
+    all_known = was.all_known;
+    listed = was.listed;
+    once = was.once;
+    works = subst (λ (l : List Mail). (sync_row at.kind).Works at.purges was.known l changes result
+        (Some p) (Some q)) (sym (takes_same at.met low)) was.works;
+    keeps = subst (λ (l : List Mail). (sync_row at.kind).Keeps was.known l changes (Some p)
+        (Some q)) (sym (takes_same at.met low)) was.keeps;
+    may_be = subst (λ (l : List Mail). IfErr result ((sync_row at.kind).MayBe was.known l changes))
+        (sym (takes_same at.met low)) was.may_be;
+    cause = subst (λ (l : List Mail). IfErr result (λ why. (sync_row at.kind).Refused was.known l
+        changes why (length p.journal) (length q.journal) q)) (sym (takes_same at.met low))
+        was.cause;
+  }
+
+  -- and was refused, or not tried, so too
+  not_synced_more : (run : Standing) (changes : List Changed) (why : SyncError) (p q : Past)
+      → run.met ≤ length mails → WasNotSynced run mails changes why p q
+      → WasNotSynced run more changes why p q
+  not_synced_more run changes sync.NoMemory p q low (inl same) = inl same
+  not_synced_more run changes sync.NoMemory p q low (inr was) =
+      inr (tried_more run changes (Err sync.NoMemory) p q low was)
+  not_synced_more run changes sync.Locked p q low was =
+      tried_more run changes (Err sync.Locked) p q low was
+  not_synced_more run changes sync.Unfinished p q low was =
+      tried_more run changes (Err sync.Unfinished) p q low was
+  not_synced_more run changes (sync.Changed spot) p q low was =
+      tried_more run changes (Err (sync.Changed spot)) p q low was
+  not_synced_more run changes (sync.TooMany count) p q low was =
+      tried_more run changes (Err (sync.TooMany count)) p q low was
+  not_synced_more run changes (sync.TooLarge bytes) p q low was =
+      tried_more run changes (Err (sync.TooLarge bytes)) p q low was
+  not_synced_more run changes sync.Fault p q low was =
+      tried_more run changes (Err sync.Fault) p q low was
+  not_synced_more run changes sync.NotFolder p q low was =
+      tried_more run changes (Err sync.NotFolder) p q low was
+
   pub happened_more : (Has : Kind → Type 0) (at : Standing) (event : Happening) (p q : Past)
       → met_after at.met event ≤ length mails
       → Happened Has at mails event p q → Happened Has at more event p q
+  unfolding tried_more
   happened_more Has at (FileRead path text marks) p q low was = was
   happened_more Has at (FileRefused path why marks) p q low was = was
   happened_more Has at (KeyPressed key moment) p q low was = was
@@ -281,6 +330,15 @@ module _ (mails more : List Mail) (first : take (length mails) more ≡ mails) w
       refused_more at scan.Unfinished p q low was
   happened_more Has at (CheckRefused moment scan.ArchiveFull marks) p q low was =
       refused_more at scan.ArchiveFull p q low was
+  happened_more Has at (FolderSynced changes marks) p q low was = record {
+    tried = tried_more at changes (Ok tt) p q low was.tried;
+    listing = was.listing;
+    right = subst (λ (l : List Mail). Right at.kind l
+        ((sync_row at.kind).synced changes was.tried.known) (Some q))
+        (sym (takes_same at.met low)) was.right;
+  }
+  happened_more Has at (SyncRefused changes why marks) p q low was =
+      not_synced_more at changes why p q low was
 
   pub tells_more : {Has : Kind → Type 0} {at : Standing} {event : Happening} {old new : Seen}
       → met_after at.met event ≤ length mails
@@ -295,7 +353,7 @@ module _ (mails more : List Mail) (first : take (length mails) more ≡ mails) w
     cause = tells.cause;
     happened = goes_as old.told new.told (λ p q was. happened_more Has at event p q low was)
         tells.happened;
-    looks = tells.looks;
+    touches = tells.touches;
     first = tells.first;
     last = tells.last;
   }

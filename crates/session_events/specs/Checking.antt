@@ -1,5 +1,5 @@
 -- What the scan of an open folder comes to.
-use Rattle.std.specs.Prelude.{◌≡◌, ◌<◌, true, List, Option, length}
+use Rattle.std.specs.Prelude.{◌≡◌, ◌<◌, Bool, true, List, Option, length}
 use Rattle.std.specs.List.{All}
 use Rattle.mail_base.specs.declared.kind.Kind.{Kind}
 use Rattle.disk_model.specs.Journal.{Past}
@@ -42,13 +42,15 @@ pub record IsOpen (mails : List Mail) (told : Option Past) (folder : OpenFolder)
   pub once : ids_differ folder.listing.items ≡ true
   pub met : folder.met ≡ length mails
 
--- what a run stands on whose open folder this is, where an empty file is of this kind
-abbrev pub standing_over : Kind → OpenFolder → Standing
-standing_over empty folder = record {
+-- what a run stands on whose open folder this is, where an empty file is of this kind, and where
+-- the files of discarded messages are removed or not
+abbrev pub standing_over : Kind → Bool → OpenFolder → Standing
+standing_over empty purges folder = record {
   empty = empty;
   path = folder.known.path;
   kind = folder.known.kind;
   listing = folder.listing.items;
   met = folder.met;
   forgot = folder.forgot;
+  purges = purges;
 }

@@ -1,6 +1,6 @@
 -- What an event says of the disk.
 use Rattle.std.specs.Prelude.{◌≡◌, ◌≤◌, ◌<◌, ◌⊎◌, ◌+◌, ℕ, Bool, true, false, List, [], ◌∷◌}
-use Rattle.std.specs.Prelude.{Option, Some, None, Result, Ok, Err, length, map, take}
+use Rattle.std.specs.Prelude.{Option, Some, None, Result, Ok, Err, IfErr, length, map, take}
 use Rattle.std.specs.List.{All}
 use Rattle.mail_base.specs.Faults.{Rose}
 use Rattle.mail_base.specs.declared.kind.Kind.{Kind}
@@ -10,6 +10,10 @@ use Rattle.disk_model.specs.Seen.{Seen}
 use Rattle.disk_model.specs.declared.answers.DiskError.{DiskError}
 use Rattle.disk_model.specs.declared.answers.DiskError.TheVariants as disk
 use Rattle.disk_model.specs.declared.answers.Stat.{Stat}
+use Rattle.folder_changes.specs.Asked.{AreListed, AreOnce}
+use Rattle.folder_changes.specs.Left.{listing_synced}
+use Rattle.folder_changes.specs.declared.sync_error.SyncError.{SyncError}
+use Rattle.folder_changes.specs.declared.sync_error.SyncError.TheVariants as sync
 use Rattle.folder_core.specs.Kinds.{IsKindSeen, WasKind}
 use Rattle.folder_core.specs.Keeping.{IsDifference, lists_id}
 use Rattle.folder_core.specs.Known.{KnownFolder, nothing_known}
@@ -21,9 +25,12 @@ use Rattle.folder_core.specs.Scanned.{IsFound}
 use Rattle.folder_letters.specs.Listings.{ids_from}
 use Rattle.folder_core.specs.declared.error.ScanError.{ScanError}
 use Rattle.folder_core.specs.declared.error.ScanError.TheVariants.{ArchiveFull, Fault, NoMemory}
+use Rattle.folder_drivers.specs.Synced.{sync_row}
 use Rattle.folder_letters.specs.declared.listing.Listed.{Listed}
+use Rattle.index_items.specs.Changes.{Changed}
 use Rattle.session_events.specs.Events.{Happening, FileRead, FileRefused, KeyPressed, FolderOpened}
-use Rattle.session_events.specs.Events.{FolderRefused, FolderChecked, CheckRefused}
+use Rattle.session_events.specs.Events.{FolderRefused, FolderChecked, CheckRefused, FolderSynced}
+use Rattle.session_events.specs.Events.{SyncRefused}
 use Rattle.session_events.specs.Events.{PlainFound, held_found}
 use Rattle.session_events.specs.declared.event.Marks.{Marks}
 use Rattle.session_events.specs.declared.event.OpenFault.{OpenFault}
@@ -76,8 +83,9 @@ WasRefused Has empty path (Folder why) before after new =
     ⊎ WasNotListed Has empty path why before after new
 
 -- What a run stands on before an event, as far as the event speaks of it: the kind of an empty
--- file; the open folder with its listing; how many letters were met; and whether a part of what was
--- known was forgotten, since memory ran out in a check.
+-- file; the open folder with its listing; how many letters were met; whether a part of what was
+-- known was forgotten, since memory ran out in a check; and whether the files of discarded messages
+-- are removed from an MH folder.
 pub record Standing : Type 0 where
   pub empty : Kind
   pub path : List ℕ
@@ -85,6 +93,7 @@ pub record Standing : Type 0 where
   pub listing : List Listed
   pub met : ℕ
   pub forgot : Bool
+  pub purges : Bool
 
 -- what is known to be listed is the listing, or where some was forgotten a part of it
 abbrev pub IsKnownOf : Bool → List Listed → List Listed → Type 0
@@ -125,6 +134,39 @@ WasNotChecked at mails Fault old new = Unit {0}
 WasNotChecked at mails NoMemory old new = Unit {0}
 WasNotChecked at mails why old new = CheckWasRefused at mails why old new
 
+-- A sync of the open folder, of which all was known, was tried between two pasts with changes of
+-- listed messages, each once, and was answered so: what it did, which messages each stop leaves,
+-- and why it was refused.
+pub record WasTried (at : Standing) (mails : List Mail) (changes : List Changed)
+    (result : Result (Unit {0}) SyncError) (old new : Past) : Type 0 where
+  pub known : KnownFolder
+  pub is : IsKnown at mails known old
+  pub all_known : at.forgot ≡ false
+  pub listed : AreListed at.listing changes
+  pub once : AreOnce changes
+  pub works : (sync_row at.kind).Works at.purges known (take at.met mails) changes result
+      (Some old) (Some new)
+  pub keeps : (sync_row at.kind).Keeps known (take at.met mails) changes (Some old) (Some new)
+  pub may_be : IfErr result ((sync_row at.kind).MayBe known (take at.met mails) changes)
+  pub cause : IfErr result (λ why. (sync_row at.kind).Refused known (take at.met mails) changes why
+      (length old.journal) (length new.journal) new)
+
+-- A sync of the open folder did all that was wanted; what is known behind it lists what is left of
+-- the listing, and was so once.
+pub record WasSynced (at : Standing) (mails : List Mail) (changes : List Changed) (old new : Past)
+    : Type 0 where
+  pub tried : WasTried at mails changes (Ok tt) old new
+  pub listing : ((sync_row at.kind).synced changes tried.known).listing
+      ≡ listing_synced at.kind changes at.listing
+  pub right : Right at.kind (take at.met mails) ((sync_row at.kind).synced changes tried.known)
+      (Some new)
+
+-- why the open folder was not synced: for want of memory nothing was tried, or the sync was refused
+abbrev pub WasNotSynced : Standing → List Mail → List Changed → SyncError → Past → Past → Type 0
+WasNotSynced at mails changes sync.NoMemory old new =
+    (new ≡ old) ⊎ WasTried at mails changes (Err sync.NoMemory) old new
+WasNotSynced at mails changes why old new = WasTried at mails changes (Err why) old new
+
 -- what an event says of the pasts at its two marks, where a run stood so before it
 abbrev pub Happened : (Kind → Type 0) → Standing → List Mail → Happening → Past → Past → Type 0
 Happened Has at mails (FileRead path text marks) old new =
@@ -139,6 +181,9 @@ Happened Has at mails (FolderRefused path why marks) old new =
 Happened Has at mails (FolderChecked moment found marks) old new =
     WasChecked at mails found old new
 Happened Has at mails (CheckRefused moment why marks) old new = WasNotChecked at mails why old new
+Happened Has at mails (FolderSynced changes marks) old new = WasSynced at mails changes old new
+Happened Has at mails (SyncRefused changes why marks) old new =
+    WasNotSynced at mails changes why old new
 
 -- a fault was counted
 abbrev pub IsReadCause : DiskError → Marks → Type 0
@@ -158,6 +203,11 @@ abbrev pub IsScanCause : ScanError → Marks → Type 0
 IsScanCause Fault marks = Rose marks.faults_before marks.faults_after
 IsScanCause _ marks = Unit {0}
 
+-- a fault was counted where a sync was refused for one
+abbrev pub IsSyncCause : SyncError → Marks → Type 0
+IsSyncCause sync.Fault marks = Rose marks.faults_before marks.faults_after
+IsSyncCause _ marks = Unit {0}
+
 -- the cause of a refused event; an opened folder has a driver
 abbrev pub HasCause : (Kind → Type 0) → Happening → Marks → Type 0
 HasCause Has (FileRefused path why kept) marks = IsReadCause why marks
@@ -165,6 +215,7 @@ HasCause Has (FolderOpened path kind moment came kept) marks = Has kind
 HasCause Has (FolderRefused path why kept) marks =
     IsCause Has why marks.faults_before marks.faults_after
 HasCause Has (CheckRefused moment why kept) marks = IsScanCause why marks
+HasCause Has (SyncRefused changes why kept) marks = IsSyncCause why marks
 HasCause Has _ marks = Unit {0}
 
 -- the marks of an event in which the device was used
@@ -176,6 +227,8 @@ marks_of (FolderOpened path kind moment came marks) = Some marks
 marks_of (FolderRefused path why marks) = Some marks
 marks_of (FolderChecked moment found marks) = Some marks
 marks_of (CheckRefused moment why marks) = Some marks
+marks_of (FolderSynced changes marks) = Some marks
+marks_of (SyncRefused changes why marks) = Some marks
 
 -- the past at a mark
 abbrev pub past_at : Past → ℕ → Past

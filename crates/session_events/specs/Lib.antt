@@ -4,4 +4,5 @@ pub mod Happened
 pub mod Telling
 pub mod Opening
 pub mod Checking
+pub mod Syncing
 pub mod Causes

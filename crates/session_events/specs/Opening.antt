@@ -43,6 +43,7 @@ pub record OpensFolder (letters : List Mail) (told : Option Past) (path : List �
   pub listing : folder.listing.items ≡ came
   pub met : folder.met ≡ length letters
   pub forgot : folder.forgot ≡ false
+  pub refused : folder.refused ≡ false
   pub checked : folder.checked ≡ moment
 
 -- What the reading of a folder into an empty archive has seen, and what it leaves.

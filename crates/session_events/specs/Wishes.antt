@@ -1,15 +1,19 @@
 -- What a run wishes, and what an event answers.
 use Rattle.std.specs.Prelude.{ℕ, ℤ, pos, List}
+use Rattle.index_items.specs.Changes.{Changed}
 use Rattle.session_events.specs.Events.{Happening, FileRead, FileRefused, KeyPressed, FolderOpened}
-use Rattle.session_events.specs.Events.{FolderRefused, FolderChecked, CheckRefused}
+use Rattle.session_events.specs.Events.{FolderRefused, FolderChecked, CheckRefused, FolderSynced}
+use Rattle.session_events.specs.Events.{SyncRefused}
 
--- nothing, a file of commands, a folder, a key, or a check of the open folder
+-- nothing, a file of commands, a folder, a key, a check of the open folder, or a sync of it with
+-- these changes
 pub data Wish : Type 0 where
   Nothing : Wish
   Source : (path : List ℕ) → Wish
   Open : (path : List ℕ) → Wish
   Press : (moment : ℤ) → Wish
   Check : (moment : ℤ) → Wish
+  Sync : (changes : List Changed) → Wish
 
 -- the moment of an event that has one
 abbrev pub moment_of : Happening → ℤ
@@ -28,3 +32,5 @@ answered (FolderOpened path kind moment came marks) = Open path
 answered (FolderRefused path why marks) = Open path
 answered (FolderChecked moment found marks) = Check moment
 answered (CheckRefused moment why marks) = Check moment
+answered (FolderSynced changes marks) = Sync changes
+answered (SyncRefused changes why marks) = Sync changes

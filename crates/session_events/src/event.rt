@@ -1,7 +1,9 @@
 //! What happened in a run.
 
 use disk_model::DiskError;
+use folder_changes::SyncError;
 use folder_core::{Archive, Found, Listing, ScanError};
+use folder_letters::Changes;
 use keymap::Key;
 use mail_base::{Bytes, Kind, Lines, Series};
 use people::Verdicts;
@@ -63,6 +65,15 @@ pub enum Event {
     NotChecked {
         moment: i64,
         why: ScanError,
+        marks: Marks,
+    },
+    Synced {
+        changes: Changes,
+        marks: Marks,
+    },
+    NotSynced {
+        changes: Changes,
+        why: SyncError,
         marks: Marks,
     },
 }

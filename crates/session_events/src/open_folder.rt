@@ -2,9 +2,12 @@
 
 use crate::checking::Scanned;
 use crate::event::Marks;
+use crate::syncing::{Tried, are_in_order};
 use disk_model::Device;
+use folder_changes::{SyncError, listing_synced};
 use folder_core::{Archive, Found, Known, Listing, difference_of};
 use folder_drivers::Drivers;
+use folder_letters::Changes;
 use mail_base::{Kind, NoMemory};
 use std::alloc::Global;
 
@@ -20,6 +23,8 @@ pub struct OpenFolder {
     pub forgot: bool,
     /// The moment of its last check, in seconds since 1970 UTC: its opening at first.
     pub checked: i64,
+    /// Whether its last sync was refused.
+    pub refused: bool,
 }
 
 /// How the listing of a folder changed, and what it is now.
@@ -39,7 +44,9 @@ impl OpenFolder {
     ghost use Rattle.folder_core.specs.Right.{Right};
     ghost use Rattle.folder_letters.specs.Letters.{Mail, plain_letter};
     ghost use Rattle.mail_base.specs.declared.kind.Kind.TheVariants as kind;
-    ghost use Rattle.session_events.specs.Checking.{ScansFolder};
+    ghost use Rattle.index_items.specs.Changes.{plain_changes};
+    ghost use Rattle.session_events.specs.Checking.{IsOpen, ScansFolder};
+    ghost use Rattle.session_events.specs.Syncing.{MaySync, PreparesSync, SyncsOpen, sync_event};
 
     /// No folder, before one is open.
     pub fn none(alloc: Global, moment: i64) -> Result<Self, NoMemory>
@@ -48,6 +55,7 @@ impl OpenFolder {
         ensures met { IfOk result (λ f. f.met ≡ 0) }
         ensures forgot { IfOk result (λ f. f.forgot ≡ false) }
         ensures checked { IfOk result (λ f. f.checked ≡ moment) }
+        ensures refused { IfOk result (λ f. f.refused ≡ false) }
     {
         Ok(OpenFolder {
             known: Known::new(alloc, "", Kind::Mbox)?,
@@ -55,6 +63,7 @@ impl OpenFolder {
             met: 0,
             forgot: false,
             checked: moment,
+            refused: false,
         })
     }
 
@@ -117,6 +126,7 @@ impl OpenFolder {
         ensures met { self.new.met ≡ letters }
         ensures forgot { self.new.forgot ≡ false }
         ensures checked { self.new.checked ≡ moment }
+        ensures refused { self.new.refused ≡ self.old.refused }
     {
         self.listing = listing;
         self.met = letters;
@@ -139,5 +149,93 @@ impl OpenFolder {
         self.known.shorten(self.met);
         archive.shorten(self.met);
         self.forgot = true;
+    }
+    /// Syncs the folder, by the driver of its kind. Nothing is tried where a part of what was known
+    /// was forgotten, where not each change is of a listed message in the order of the listing, or
+    /// where there is no memory for what the sync leaves: afterwards nothing may fail.
+    pub fn sync(
+        &mut self,
+        alloc: Global,
+        dev: &mut Device,
+        drivers: &Drivers,
+        owner: &[u8],
+        purge_files: bool,
+        archive: &Archive,
+        changes: &Changes,
+    ) -> Tried
+        requires has { Any (λ d. sort (d.vtable, d.value) ≡ self.old.known.kind)
+            drivers.now.list.items }
+        requires open { IsOpen (map plain_letter archive.now.items)
+            (seen (dev.old.disk.vtable, dev.old.disk.value)).told self.old }
+        ensures { SyncsOpen (λ kind. Any (λ d. sort (d.vtable, d.value) ≡ kind)
+            drivers.now.list.items) purge_files (map plain_letter archive.now.items)
+            (sync_event (plain_changes changes.now.items) result.answer result.marks) self.old
+            self.new (seen (dev.old.disk.vtable, dev.old.disk.value))
+            (seen (dev.new.disk.vtable, dev.new.disk.value)) }
+    {
+        let mark_before = dev.mark();
+        let faults_before = dev.faults();
+        let answer = self.try_sync(alloc, dev, drivers, owner, purge_files, archive, changes);
+        self.refused = answer.is_err();
+        Tried {
+            answer,
+            marks: Marks {
+                mark_before,
+                mark_after: dev.mark(),
+                faults_before,
+                faults_after: dev.faults(),
+            },
+        }
+    }
+
+    // Syncs the folder, where all that it needs can be prepared.
+    fn try_sync(
+        &mut self,
+        alloc: Global,
+        dev: &mut Device,
+        drivers: &Drivers,
+        owner: &[u8],
+        purge_files: bool,
+        archive: &Archive,
+        changes: &Changes,
+    ) -> Result<(), SyncError>
+        requires has { Any (λ d. sort (d.vtable, d.value) ≡ self.old.known.kind)
+            drivers.now.list.items }
+        requires open { IsOpen (map plain_letter archive.now.items)
+            (seen (dev.old.disk.vtable, dev.old.disk.value)).told self.old }
+        ensures { MaySync purge_files (map plain_letter archive.now.items)
+            (plain_changes changes.now.items) result self.old self.new
+            (seen (dev.old.disk.vtable, dev.old.disk.value))
+            (seen (dev.new.disk.vtable, dev.new.disk.value)) }
+    {
+        let Ok(synced) = self.listing_left(alloc, changes) else {
+            return Err(SyncError::NoMemory);
+        };
+        drivers.sync(
+            alloc,
+            self.known.kind(),
+            dev,
+            &mut self.known,
+            owner,
+            purge_files,
+            archive,
+            changes,
+        )?;
+        self.listing = synced;
+        Ok(())
+    }
+
+    // What a sync with these changes leaves of the listing, where all of it is known.
+    fn listing_left(&self, alloc: Global, changes: &Changes) -> Result<Listing, NoMemory>
+        requires { All (λ l. l.id.0 < self.now.met) self.now.listing.items }
+        ensures { IfOk result (λ synced.
+            PreparesSync self.now (plain_changes changes.now.items) synced.items) }
+    {
+        let listing = self.listing.as_slice();
+        let changed = changes.as_slice();
+        if self.forgot || !are_in_order(listing, changed) {
+            return Err(NoMemory);
+        }
+        listing_synced(alloc, self.known.kind(), self.met, changed, listing)
     }
 }

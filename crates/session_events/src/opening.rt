@@ -125,6 +125,7 @@ fn read_folder(
                 listing: Listing::from_vec(listing),
                 met: archive.len(),
                 forgot: false,
+                refused: false,
                 checked: moment,
             };
             Ok(Opened {

@@ -1,10 +1,15 @@
 -- Desks whose view or last line is another hold what is said of it.
 use Rattle.std.proofs.Common.{◌≡◌, ◌∙◌, Bool, List, None, Option, Some, ap, false, refl, subst, sym}
-use Rattle.std.proofs.Common.{true}
+use Rattle.std.proofs.Common.{ℕ, length, true}
 use Rattle.std.specs.Prelude.{if◌then◌else◌, option_map}
 use Rattle.folder_letters.specs.Letters.{Mail}
 use Rattle.mail_base.specs.declared.kind.Id.{Id}
 use Rattle.index_listed.specs.Cursor.{is_seen}
+use Rattle.mail_base.specs.declared.kind.Kind.{Kind}
+use Rattle.index_functions.specs.Syncs.{count_discards, synced_text}
+use Rattle.index_functions.specs.declared.message.Message.TheVariants.{Synced}
+use Rattle.index_items.specs.Changes.{Changed}
+use Rattle.session_index.specs.Syncing.{count_of, settled_index, synced}
 use Rattle.index_view.specs.Answers.{PlainAnswers}
 use Rattle.patterns_match.specs.Pattern.{PlainPattern, plain_pattern}
 use Rattle.index_view.specs.View.{IsOf, PlainView, facts_of, messages_over, moved_to, visible_of}
@@ -19,16 +24,22 @@ use Rattle.session_index.specs.Motions.{gone, notice_of, way}
 use Rattle.session_index.specs.Searching.{place_of, search_way, way_found}
 use Rattle.session_index.specs.Shown.{seen}
 use Rattle.session_index.specs.declared.desk.Desk.{Desk}
-use Rattle.session_index.specs.declared.motion.Motion.{Motion}
-use Rattle.session_index.specs.declared.notice.Notice.{Notice}
-use Rattle.session_index.specs.declared.rule.Rule.{Rule}
-use Rattle.session_index.specs.declared.way.Way.{Way}
-use Rattle.session_index.specs.declared.way.Way.TheVariants.{To, Stays}
+use Rattle.index_functions.specs.declared.motion.Motion.{Motion}
+use Rattle.index_functions.specs.declared.notice.Notice.{Notice}
+use Rattle.index_functions.specs.declared.rule.Rule.{Rule}
+use Rattle.index_functions.specs.declared.way.Way.{Way}
+use Rattle.index_functions.specs.declared.way.Way.TheVariants.{To, Stays}
 use Rattle.session_index.proofs.IndexLemmas.{same_shows}
 
 pub holds_as : (mails : List Mail) (d : Desk) (p q : PlainDesk) → p ≡ q → Holds mails p d
     → Holds mails q d
 holds_as mails d p q is h = record { is_of = h.is_of; same = h.same ∙ is }
+
+-- another desk has the same view
+pub beside_holds : (mails : List Mail) (old new : Desk) (p : PlainDesk) → IsOf mails old.view
+    → new.view ≡ old.view → plain_desk new ≡ p → Holds mails p new
+beside_holds mails old new p is view same =
+    record { is_of = subst (IsOf mails) (sym view) is; same = same }
 
 -- another view is put in
 pub shown_holds : (mails : List Mail) (d : Desk) (i : PlainIndex) (v : PlainView)
@@ -124,3 +135,25 @@ module _ (mails : List Mail) (d : Desk) (is : IsOf mails d.view) (kept pattern :
       ≡ searched_for mails (plain_pattern pattern) (plain_desk d)
   searches_first = λ i. went mails (search_leads mails d is (plain_pattern pattern) i)
       (plain_desk (record d { search = Some (same i) }))
+
+-- a sync left this view
+module _ (mails : List Mail) (d : Desk) (w : PlainView) (kind : Kind) (changes : List Changed)
+    (s : Shows mails (settled_index mails kind changes (index_of d.view)) w) where
+  abbrev left : PlainIndex
+  left = settled_index mails kind changes (index_of d.view)
+
+  counted : (kept : ℕ) → kept ≡ length w.answers.sight.order → kept ≡ count_of mails left
+  counted kept is = is
+      ∙ ap (λ (a : PlainAnswers). length a.sight.order) s.is_of.answered
+      ∙ ap (count_of mails) s.same
+
+  pub synced_holds : (kept gone : ℕ) → kept ≡ length w.answers.sight.order
+      → gone ≡ count_discards changes → Holds mails (synced mails kind changes (plain_desk d))
+      (record d { view = w; message = Synced kept gone })
+  synced_holds kept gone kept_is gone_is = record {
+    is_of = s.is_of;
+    same = λ k. record (plain_desk d) {
+      index = s.same k;
+      message = synced_text (counted kept kept_is k) (gone_is k);
+    };
+  }

@@ -3,9 +3,9 @@ use Rattle.std.proofs.Common.{◌≡◌, ◌∙◌, Bool, true, false, Option, a
 use Rattle.std.specs.Prelude.{is_some}
 use Rattle.session_index.specs.Motions.{notice_of}
 use Rattle.session_index.specs.Viewing.{leads}
-use Rattle.session_index.specs.declared.notice.Notice.{Notice}
-use Rattle.session_index.specs.declared.way.Way.{Way}
-use Rattle.session_index.specs.declared.way.Way.TheVariants.{To, Stays}
+use Rattle.index_functions.specs.declared.notice.Notice.{Notice}
+use Rattle.index_functions.specs.declared.way.Way.{Way}
+use Rattle.index_functions.specs.declared.way.Way.TheVariants.{To, Stays}
 
 unsaid : (w : Way) → not (is_some (notice_of w)) ≡ leads w
 unsaid (To id) = refl

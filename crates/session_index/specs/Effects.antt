@@ -11,39 +11,31 @@ use Rattle.patterns_match.specs.Pattern.{PlainPattern}
 use Rattle.index_view.specs.View.{messages_over}
 use Rattle.session_index.specs.Acts.{acted_all}
 use Rattle.session_index.specs.Desk.{PlainDesk, ToDisplay, ToEnd, ToList}
+pub use Rattle.session_index.specs.Desk.{asked, said, with_index}
 use Rattle.session_index.specs.Folding.{all_folded, thread_folded}
-use Rattle.session_index.specs.Functions.{effects_of, needs_message, writes}
+use Rattle.index_functions.specs.Functions.{effects_of, needs_message, writes}
 use Rattle.session_index.specs.Index.{PlainIndex, answers_of, seen_of}
 use Rattle.session_index.specs.Meant.{ids_of, meant, tagged_of, thread_ids}
 use Rattle.session_index.specs.Motions.{way}
-use Rattle.session_index.specs.Notices.{notice_text}
 use Rattle.session_index.specs.Searching.{place_of, way_found}
 use Rattle.session_index.specs.Shown.{shows}
+use Rattle.session_index.specs.Syncing.{quit_begun, sync_begun}
 use Rattle.index_items.specs.declared.act.Act.{Act}
 use Rattle.index_items.specs.declared.act.Act.TheVariants.{Set, Clear}
 use Rattle.index_items.specs.declared.act.Mark.TheVariants.{Tagged}
-use Rattle.prompts.specs.declared.asking.Asking.{Asking}
 use Rattle.prompts.specs.declared.asking.Asking.TheVariants.{Search}
-use Rattle.session_index.specs.declared.effect.Effect.{Effect}
-use Rattle.session_index.specs.declared.effect.Effect.TheVariants as effect
-use Rattle.session_index.specs.declared.effect.Scope.{Scope}
-use Rattle.session_index.specs.declared.effect.Scope.TheVariants as scope
-use Rattle.session_index.specs.declared.motion.Motion.{Motion}
-use Rattle.session_index.specs.declared.motion.Motion.TheVariants as motion
-use Rattle.session_index.specs.declared.notice.Notice.{Notice}
-use Rattle.session_index.specs.declared.notice.Notice.TheVariants as notice
-use Rattle.session_index.specs.declared.rule.Rule.{Rule}
+use Rattle.index_functions.specs.declared.effect.Effect.{Effect}
+use Rattle.index_functions.specs.declared.effect.Effect.TheVariants as effect
+use Rattle.index_functions.specs.declared.effect.Scope.{Scope}
+use Rattle.index_functions.specs.declared.effect.Scope.TheVariants as scope
+use Rattle.index_functions.specs.declared.motion.Motion.{Motion}
+use Rattle.index_functions.specs.declared.motion.Motion.TheVariants as motion
+use Rattle.index_functions.specs.declared.notice.Notice.{Notice}
+use Rattle.index_functions.specs.declared.notice.Notice.TheVariants as notice
+use Rattle.index_functions.specs.declared.rule.Rule.{Rule}
 use Rattle.session_index.specs.declared.sought.Sought.TheVariants as sought
-use Rattle.session_index.specs.declared.way.Way.{Way}
-use Rattle.session_index.specs.declared.way.Way.TheVariants.{To, Stays}
-
--- the last line says this
-abbrev pub said : Notice → PlainDesk → PlainDesk
-said notice d = record d { message = notice_text notice }
-
--- a desk with another index
-abbrev pub with_index : PlainIndex → PlainDesk → PlainDesk
-with_index i d = record d { index = i }
+use Rattle.index_functions.specs.declared.way.Way.{Way}
+use Rattle.index_functions.specs.declared.way.Way.TheVariants.{To, Stays}
 
 -- the cursor goes to a message, where that is seen
 abbrev pub at_id : List Mail → Id → PlainIndex → PlainIndex
@@ -92,10 +84,6 @@ abbrev pub fold_done : List Mail → Bool → PlainDesk → PlainDesk
 fold_done mails all d =
     if_threaded (if all then all_folded mails d.index else thread_folded mails d.index) d
 
--- a prompt stands
-abbrev pub asked : Asking → PlainDesk → PlainDesk
-asked asking d = record d { prompt = Some (record { asking = asking; typed = [] }) }
-
 -- where a search leads
 abbrev pub search_way : List Mail → PlainPattern → PlainDesk → Way
 search_way mails pattern d = way_found d.index.facts.people pattern
@@ -131,6 +119,8 @@ run_effect rule mails (effect.Say notice) d = said notice d
 run_effect rule mails effect.End d = record d { wanted = ToEnd }
 run_effect rule mails effect.Display d = record d { wanted = ToDisplay }
 run_effect rule mails effect.ListParts d = record d { wanted = ToList }
+run_effect rule mails effect.Sync d = sync_begun rule mails d
+run_effect rule mails effect.Quit d = quit_begun rule mails d
 
 -- effects, one after the other
 abbrev pub run_effects : Rule → List Mail → List Effect → PlainDesk → PlainDesk
@@ -170,3 +160,5 @@ IsPut (effect.Say notice) = Unit {0}
 IsPut effect.End = Unit {0}
 IsPut effect.Display = Unit {0}
 IsPut effect.ListParts = Unit {0}
+IsPut effect.Sync = ⊥
+IsPut effect.Quit = ⊥

@@ -6,9 +6,8 @@ pub mod Folding
 pub mod Acts
 pub mod Meant
 pub mod Searching
-pub mod Notices
-pub mod Functions
 pub mod Desk
+pub mod Syncing
 pub mod Effects
 pub mod Answering
 pub mod Typing

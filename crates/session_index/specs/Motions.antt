@@ -1,6 +1,6 @@
 -- Where motions of the cursor lead: a line each.
-use Rattle.std.specs.Prelude.{◌+◌, ◌-◌, ◌*◌, ◌/◌, ℕ, true, false, List, Option, None}
-use Rattle.std.specs.Prelude.{Some, drop, find, length, nat_lt, reverse, slice_get, take}
+use Rattle.std.specs.Prelude.{◌+◌, ◌-◌, ℕ, true, false, List, Option, None}
+use Rattle.std.specs.Prelude.{Some, drop, find, length, reverse, slice_get, take}
 use Rattle.std.specs.Prelude.{if◌then◌else◌}
 use Rattle.std.specs.Option.{option_or}
 use Rattle.mail_base.specs.declared.kind.Id.{Id}
@@ -10,24 +10,22 @@ use Rattle.index_view.specs.Searching.{round}
 use Rattle.index_listed.specs.Cursor.{is_seen}
 use Rattle.index_view.specs.View.{PlainView, moved_to}
 use Rattle.threads.specs.declared.options.Parent.{Parent}
+use Rattle.index_functions.specs.Places.{page_before, page_behind}
+use Rattle.index_functions.specs.Ways.{way_or}
 use Rattle.session_index.specs.Shown.{seen, shows}
 use Rattle.session_index.specs.Neighbours.{root_of, thread_beside}
-use Rattle.session_index.specs.declared.motion.Motion.{Motion}
-use Rattle.session_index.specs.declared.motion.Motion.TheVariants.{NextUndeleted, PreviousUndeleted}
-use Rattle.session_index.specs.declared.motion.Motion.TheVariants.{Next, Previous, First, Last}
-use Rattle.session_index.specs.declared.motion.Motion.TheVariants.{NextPage, PreviousPage}
-use Rattle.session_index.specs.declared.motion.Motion.TheVariants.{NextUnread, NextThread}
-use Rattle.session_index.specs.declared.motion.Motion.TheVariants.{PreviousThread, ToParent}
-use Rattle.session_index.specs.declared.notice.Notice.{Notice}
-use Rattle.session_index.specs.declared.notice.Notice.TheVariants as notice
+use Rattle.index_functions.specs.declared.motion.Motion.{Motion}
+use Rattle.index_functions.specs.declared.motion.Motion.TheVariants.{NextUndeleted}
+use Rattle.index_functions.specs.declared.motion.Motion.TheVariants.{PreviousUndeleted, Next}
+use Rattle.index_functions.specs.declared.motion.Motion.TheVariants.{Previous, First, Last}
+use Rattle.index_functions.specs.declared.motion.Motion.TheVariants.{NextPage, PreviousPage}
+use Rattle.index_functions.specs.declared.motion.Motion.TheVariants.{NextUnread, NextThread}
+use Rattle.index_functions.specs.declared.motion.Motion.TheVariants.{PreviousThread, ToParent}
+use Rattle.index_functions.specs.declared.notice.Notice.{Notice}
+use Rattle.index_functions.specs.declared.notice.Notice.TheVariants as notice
 use Rattle.session_index.specs.declared.sought.Sought.TheVariants as sought
-use Rattle.session_index.specs.declared.way.Way.{Way}
-use Rattle.session_index.specs.declared.way.Way.TheVariants.{To, Stays}
-
--- to a message, or a text why not
-abbrev pub way_or : Notice → Option Id → Way
-way_or text None = Stays text
-way_or text (Some id) = To id
+use Rattle.index_functions.specs.declared.way.Way.{Way}
+use Rattle.index_functions.specs.declared.way.Way.TheVariants.{To, Stays}
 
 -- the ids before a place, the nearest first
 abbrev pub back : ℕ → List Id → List Id
@@ -37,15 +35,6 @@ back p ids = reverse (take p ids)
 abbrev pub next_unread : PlainAnswers → List Id → Option Id
 next_unread a ids =
     option_or (find (shows sought.New a) ids) (find (shows sought.Unread a) ids)
-
--- the first message of the page before that of a place, where pages have this size
-abbrev pub page_before : ℕ → ℕ → List Id → Option Id
-page_before size p ids =
-    if nat_lt p size then None else slice_get ids (p / size * size - size)
-
--- the first message of the next page
-abbrev pub page_behind : ℕ → ℕ → List Id → Option Id
-page_behind size p ids = slice_get ids (p / size * size + size)
 
 -- to the parent, where it is seen
 abbrev pub way_to_parent : List Id → Option Parent → Way

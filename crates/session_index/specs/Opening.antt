@@ -1,5 +1,5 @@
 -- What a listing that changed, and other options, make of the index.
-use Rattle.std.specs.Prelude.{◌-◌, ◌++◌, ◌∷◌, [], List, Option, None, Some, find, length}
+use Rattle.std.specs.Prelude.{◌-◌, ◌++◌, [], List, Option, None, Some, find, length}
 use Rattle.std.specs.Prelude.{slice_get}
 use Rattle.std.specs.Option.{option_or}
 use Rattle.folder_letters.specs.Letters.{Mail}
@@ -12,11 +12,11 @@ use Rattle.index_items.specs.Items.{PlainItem}
 use Rattle.index_order.specs.declared.view_options.ViewOptions.{ViewOptions}
 use Rattle.index_view.specs.Answers.{PlainAnswers}
 use Rattle.session_index.specs.Desk.{PlainDesk}
+use Rattle.index_functions.specs.Finding.{found_notice}
 use Rattle.session_index.specs.Effects.{at_id, said, with_index}
 use Rattle.session_index.specs.Index.{PlainIndex, answers_of, given}
 use Rattle.session_index.specs.Shown.{seen, shows}
-use Rattle.session_index.specs.declared.notice.Notice.{Notice}
-use Rattle.session_index.specs.declared.notice.Notice.TheVariants.{NewMail, Modified}
+use Rattle.index_functions.specs.declared.notice.Notice.{Notice}
 use Rattle.session_index.specs.declared.sought.Sought.TheVariants.{New, Unread}
 
 -- the index stands by other options
@@ -34,12 +34,6 @@ abbrev pub taken_in : List Mail → Found → PlainDesk → PlainDesk
 taken_in mails found d = with_index (given mails (record d.index.facts {
   items = joined_items mails found d.index.facts.items;
 }) d.index) d
-
--- what is told of what a check found: that messages are gone, else that some came
-abbrev pub found_notice : List Id → List Listed → Option Notice
-found_notice [] [] = None
-found_notice [] (listed ∷ came) = Some NewMail
-found_notice (id ∷ gone) came = Some Modified
 
 -- the last line says this, if anything
 abbrev pub said_if : Option Notice → PlainDesk → PlainDesk

@@ -9,11 +9,11 @@ use Rattle.patterns_match.specs.Pattern.{PlainPattern}
 use Rattle.index_view.specs.View.{PlainView, facts_of, messages_over}
 use Rattle.patterns_match.specs.Listings.{Message}
 use Rattle.people.specs.People.{PlainPeople}
-use Rattle.session_index.specs.Motions.{way_or}
+use Rattle.index_functions.specs.Ways.{way_or}
 use Rattle.session_index.specs.Shown.{seen}
-use Rattle.session_index.specs.declared.notice.Notice.TheVariants as notice
-use Rattle.session_index.specs.declared.way.Way.{Way}
-use Rattle.session_index.specs.declared.way.Way.TheVariants.{Stays}
+use Rattle.index_functions.specs.declared.notice.Notice.TheVariants as notice
+use Rattle.index_functions.specs.declared.way.Way.{Way}
+use Rattle.index_functions.specs.declared.way.Way.TheVariants.{Stays}
 
 -- where a search leads from a place, if the cursor has one
 abbrev pub way_found : PlainPeople → PlainPattern → List Message → PlainAnswers → Option ℕ → Way

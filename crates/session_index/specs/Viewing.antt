@@ -9,16 +9,16 @@ use Rattle.patterns_match.specs.Pattern.{PlainPattern}
 use Rattle.session_index.specs.Answering.{matching}
 use Rattle.session_index.specs.Desk.{PlainDesk}
 use Rattle.session_index.specs.Effects.{done_to, way_of, went_quietly}
-use Rattle.session_index.specs.Functions.{needs_message, writes}
+use Rattle.index_functions.specs.Functions.{needs_message, writes}
 use Rattle.session_index.specs.Index.{answers_of, seen_of}
 use Rattle.session_index.specs.Shown.{shows}
 use Rattle.index_items.specs.declared.act.Act.TheVariants.{Clear}
 use Rattle.index_items.specs.declared.act.Mark.TheVariants.{New}
-use Rattle.session_index.specs.declared.motion.Motion.TheVariants.{NextUndeleted}
-use Rattle.session_index.specs.declared.rule.Rule.{Rule}
+use Rattle.index_functions.specs.declared.motion.Motion.TheVariants.{NextUndeleted}
+use Rattle.index_functions.specs.declared.rule.Rule.{Rule}
 use Rattle.session_index.specs.declared.sought.Sought.TheVariants.{Unread}
-use Rattle.session_index.specs.declared.way.Way.{Way}
-use Rattle.session_index.specs.declared.way.Way.TheVariants.{To, Stays}
+use Rattle.index_functions.specs.declared.way.Way.{Way}
+use Rattle.index_functions.specs.declared.way.Way.TheVariants.{To, Stays}
 
 -- an unread message was viewed: it becomes seen, where the folder may be written
 abbrev pub viewed : List Mail → Id → PlainDesk → PlainDesk

@@ -46,6 +46,26 @@ pub fn act_on(
     act_on_each(view, archive, act, ids)
 }
 
+/// Does this to all messages of the index at once; what is seen is worked out once, if at all.
+pub fn act_on_all(
+    alloc: Global,
+    view: &mut View,
+    archive: &Archive,
+    act: Act,
+) -> Result<(), NoMemory>
+    requires { IsOf (map plain_letter archive.now.items) view.old }
+    ensures { OnOk result (Shows (map plain_letter archive.now.items)
+        (spec.all_acted (map plain_letter archive.now.items) act (index_of view.old))
+        view.new) }
+{
+    let ids = view.ordered().as_slice().to_vec(alloc)?;
+    if is_still(view, act) {
+        view.act_still(archive, act, &ids);
+        return Ok(());
+    }
+    view.act_on(archive, act, &ids)
+}
+
 // The messages that are seen before the cursor.
 fn before_cursor(alloc: Global, view: &View) -> Result<Vec<Id>, NoMemory>
     ensures { IfOk result

@@ -1,31 +1,21 @@
 //! What answers to prompts do.
 
-ghost use Rattle.std.specs.Prelude.{◌≡◌};
-ghost use Rattle.session_index.specs.Answering as spec;
-
 use crate::acting::act_on;
 use crate::desk::Desk;
-use crate::effect::{Effect, Scope};
-use crate::rule::Rule;
 use crate::searching::search;
 use folder_letters::Archive;
+use index_functions::{Effect, Rule, Scope, mark_of};
 use index_items::{Act, Mark};
 use mail_base::NoMemory;
 use patterns_match::Pattern;
 use prompts::Asking;
-
-/// Whether a text takes the limit away.
-pub fn is_no_limit(text: &[u8]) -> bool
-    ensures { result ≡ spec.is_no_limit text.now }
-{
-    text.is_empty() || text == b"all".as_slice()
-}
 
 impl Desk {
     ghost use Rattle.std.specs.Prelude.{◌≡◌, ◌<◌, map, option_map, OnOk};
     ghost use Rattle.folder_letters.specs.Letters.{plain_letter};
     ghost use Rattle.patterns_match.specs.Pattern.{plain_pattern};
     ghost use Rattle.index_view.specs.View.{IsOf};
+    ghost use Rattle.index_functions.specs.Choosing.{chosen_effects, mark_of, marking};
     ghost use Rattle.session_index.specs.Answering as spec;
     ghost use Rattle.session_index.specs.Desk.{Holds, plain_desk};
     ghost use Rattle.session_index.specs.Effects.{run_effects};
@@ -97,7 +87,7 @@ impl Desk {
         }
     }
 
-    /// Does what a key that is answered to a prompt of flags does.
+    /// Does what a key that is answered to a prompt of one key does.
     pub fn choose(
         &mut self,
         rule: Rule,
@@ -109,6 +99,28 @@ impl Desk {
         requires is_of { IsOf (map plain_letter archive.now.items) self.old.view }
         ensures { OnOk result (Holds (map plain_letter archive.now.items) (spec.chosen rule
             (map plain_letter archive.now.items) asking key (plain_desk self.old)) self.new) }
+    {
+        match asking {
+            Asking::Purge { quits, .. } => self.answer_purge(rule, archive, key == 'y', quits),
+            Asking::Quit { .. } if key == 'y' => self.leave(rule, archive),
+            Asking::Quit { .. } => Ok(()),
+            _ => self.choose_mark(rule, archive, asking, key),
+        }
+    }
+
+    // Does what a key that is answered to a prompt of flags does.
+    fn choose_mark(
+        &mut self,
+        rule: Rule,
+        archive: &Archive,
+        asking: Asking,
+        key: char,
+    ) -> Result<(), NoMemory>
+        requires page { 0 < rule.page }
+        requires is_of { IsOf (map plain_letter archive.now.items) self.old.view }
+        ensures { OnOk result (Holds (map plain_letter archive.now.items) (run_effects rule
+            (map plain_letter archive.now.items) (chosen_effects asking (mark_of key))
+            (plain_desk self.old)) self.new) }
     {
         match (asking, mark_of(key)) {
             (Asking::SetFlag, Some(mark)) => self.mark(rule, archive, Act::Set(mark)),
@@ -122,7 +134,7 @@ impl Desk {
         requires page { 0 < rule.page }
         requires is_of { IsOf (map plain_letter archive.now.items) self.old.view }
         ensures { OnOk result (Holds (map plain_letter archive.now.items) (run_effects rule
-            (map plain_letter archive.now.items) (spec.marking act) (plain_desk self.old))
+            (map plain_letter archive.now.items) (marking act) (plain_desk self.old))
             self.new) }
     {
         let effects = [
@@ -131,20 +143,5 @@ impl Desk {
             Effect::DropPrefix,
         ];
         self.run_effects(rule, archive, &effects)
-    }
-}
-
-// The mark that a key names.
-fn mark_of(key: char) -> Option<Mark>
-    ensures { result ≡ spec.mark_of key }
-{
-    match key {
-        'D' => Some(Mark::Deleted),
-        'N' => Some(Mark::New),
-        'O' => Some(Mark::Old),
-        'r' => Some(Mark::Replied),
-        '*' => Some(Mark::Tagged),
-        '!' => Some(Mark::Flagged),
-        _ => None,
     }
 }

@@ -1,7 +1,6 @@
 //! What keys act on.
 
-use crate::message::Message;
-use crate::wanted::Wanted;
+use index_functions::{Message, Wanted};
 use index_view::View;
 use patterns_match::Pattern;
 use prompts::Prompt;

@@ -15,12 +15,11 @@ impl Desk {
         ensures { IfOk result
             (λ line. line.items ≡ spec.last_line cols (plain_desk self.now)) }
     {
+        let mut line = Line::new(alloc);
         match &self.prompt {
-            Some(prompt) => {
-                let shown = prompt.shown(alloc)?;
-                cut(alloc, shown.as_str(), cols)
-            }
-            None => cut(alloc, self.message.text(), cols),
+            Some(prompt) => prompt.append_shown(alloc, &mut line)?,
+            None => self.message.append_text(alloc, &mut line)?,
         }
+        cut(alloc, line.as_str(), cols)
     }
 }

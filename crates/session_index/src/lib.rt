@@ -1,44 +1,31 @@
 //! What functions do to the index of a session: where motions of the cursor lead, what is done to
-//! which messages, searches, answers to prompts, and what a pager asks of it.
+//! which messages, searches, answers to prompts, what a pager asks of it, and what is to be written
+//! where a sync or the end of the run is asked for.
 #![tactic(auto)]
 
 mod acting;
 mod answering;
 mod desk;
-mod effect;
 mod folding;
-mod functions;
 mod hiding;
 mod last_line;
-mod message;
-mod motion;
 mod neighbours;
-mod notice;
 mod opening;
 mod performing;
-mod places;
-mod rule;
 mod scope;
 mod searching;
 mod sought;
 mod staying;
+mod syncing;
 mod touched;
 mod typing;
 mod viewing;
-mod wanted;
-mod way;
 mod ways;
 
-pub use answering::is_no_limit;
 pub use desk::Desk;
-pub use effect::{Effect, Scope};
-pub use message::Message;
-pub use motion::Motion;
-pub use notice::Notice;
-pub use opening::first_found;
-pub use rule::Rule;
+pub use index_functions::{
+    Effect, Message, Motion, Notice, Rule, Scope, Wanted, Way, first_found, is_no_limit, is_written,
+};
 pub use scope::{meant, thread_ids};
 pub use searching::search;
 pub use sought::Sought;
-pub use wanted::Wanted;
-pub use way::Way;

@@ -1,40 +1,15 @@
 //! What a listing that changed, and other options, make of a desk.
 
-ghost use Rattle.std.specs.Prelude.{◌≡◌, [], IfOk};
+ghost use Rattle.std.specs.Prelude.{◌≡◌};
 ghost use Rattle.session_index.specs.Opening as spec;
 ghost use Rattle.session_index.specs.Shown.{seen};
 
 use crate::desk::Desk;
-use crate::notice::Notice;
 use crate::sought::{Sought, first_shown};
-use folder_letters::{Archive, Found, Listing};
+use folder_letters::{Archive, Found};
+use index_functions::found_notice;
 use index_view::{View, ViewOptions};
-use mail_base::{Id, Ids, NoMemory};
-use std::alloc::Global;
-
-/// What was found where these messages came.
-pub fn first_found(alloc: Global, came: &Listing) -> Result<Found, NoMemory>
-    ensures gone { IfOk result (λ found. found.gone.items ≡ []) }
-    ensures reflagged { IfOk result (λ found. found.reflagged.items ≡ []) }
-    ensures came { IfOk result (λ found. found.came.items ≡ came.now.items) }
-{
-    Ok(Found {
-        gone: Ids::new(alloc),
-        reflagged: Listing::new(alloc),
-        came: Listing::from_vec(came.as_slice().to_vec(alloc)?),
-    })
-}
-
-// What is told of what a check found.
-fn found_notice(found: &Found) -> Option<Notice>
-    ensures { result ≡ spec.found_notice found.now.gone.items found.now.came.items }
-{
-    match (found.gone.as_slice(), found.came.as_slice()) {
-        ([], []) => None,
-        ([], _) => Some(Notice::NewMail),
-        (_, _) => Some(Notice::Modified),
-    }
-}
+use mail_base::{Id, NoMemory};
 
 // The first new message, else the first unread one, else the last.
 fn first_of(view: &View) -> Option<Id>
@@ -80,8 +55,8 @@ impl Desk {
         self.view.take_delta(archive, found)
     }
 
-    // Takes in what a check found, unless that is nothing.
-    fn take_if(&mut self, archive: &Archive, found: &Found) -> Result<(), NoMemory>
+    /// Takes in what a check found, unless that is nothing, and says nothing.
+    pub fn take_quietly(&mut self, archive: &Archive, found: &Found) -> Result<(), NoMemory>
         requires is_of { IsOf (map plain_letter archive.now.items) self.old.view }
         requires found { MayTake (map plain_letter archive.now.items)
             (plain_desk self.old).index.facts.items found.now }
@@ -108,7 +83,7 @@ impl Desk {
             self.new) }
         ensures err { OnErr result (self.new ≡ self.old) }
     {
-        self.take_if(archive, found)?;
+        self.take_quietly(archive, found)?;
         if let Some(notice) = found_notice(found) {
             self.say(notice);
         }

@@ -2,19 +2,15 @@
 
 use crate::acting::act_on;
 use crate::desk::Desk;
-use crate::effect::{Effect, Scope};
 use crate::folding::{fold_all, fold_thread};
-use crate::functions::{effects_of, needs_message, writes};
-use crate::message::Message;
-use crate::motion::Motion;
-use crate::notice::Notice;
-use crate::rule::Rule;
 use crate::scope::{meant, tagged, thread_ids};
 use crate::searching::search;
 use crate::sought::{Sought, shows};
-use crate::wanted::Wanted;
 use crate::ways::go;
 use folder_letters::Archive;
+use index_functions::{
+    Effect, Message, Motion, Notice, Rule, Scope, Wanted, effects_of, needs_message, writes,
+};
 use index_items::{Act, Mark};
 use keymap::Function;
 use mail_base::{Ids, NoMemory};
@@ -26,11 +22,11 @@ impl Desk {
     ghost use Rattle.index_view.specs.View.{IsOf};
     ghost use Rattle.session_index.specs.Desk.{Holds, plain_desk};
     ghost use Rattle.session_index.specs.Effects as spec;
-    ghost use Rattle.session_index.specs.Functions.{needs_message};
+    ghost use Rattle.index_functions.specs.Functions.{needs_message};
     ghost use Rattle.session_index.specs.Index.{index_of, seen_of};
     ghost use Rattle.session_index.specs.Meant.{tagged_of};
-    ghost use Rattle.session_index.specs.declared.effect.Effect.TheVariants.{Resolve};
-    ghost use Rattle.session_index.specs.declared.rule.Rule.{Rule};
+    ghost use Rattle.index_functions.specs.declared.effect.Effect.TheVariants.{Resolve};
+    ghost use Rattle.index_functions.specs.declared.rule.Rule.{Rule};
 
     /// Sets the last line.
     pub fn say(&mut self, notice: Notice)
@@ -126,7 +122,8 @@ impl Desk {
         }
     }
 
-    fn ask(&mut self, asking: Asking)
+    /// A prompt stands.
+    pub(crate) fn ask(&mut self, asking: Asking)
         ensures desk { plain_desk self.new ≡ spec.asked asking (plain_desk self.old) }
         ensures view { self.new.view ≡ self.old.view }
     {
@@ -180,6 +177,8 @@ impl Desk {
             Effect::StepOn => self.move_quietly(rule, archive, Motion::Next),
             Effect::SearchAgain => self.search_again(archive),
             Effect::BeginPrefix => self.begin_prefix(),
+            Effect::Sync => self.begin_sync(rule, archive),
+            Effect::Quit => self.begin_quit(rule, archive),
             _ => {
                 self.put(effect);
                 Ok(())

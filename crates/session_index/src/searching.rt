@@ -8,9 +8,8 @@ ghost use Rattle.session_index.specs.Motions.{gone, notice_of};
 ghost use Rattle.session_index.specs.Searching as spec;
 ghost use Rattle.session_index.specs.Shown.{seen};
 
-use crate::notice::Notice;
-use crate::places::place_of;
 use folder_letters::Archive;
+use index_functions::{Notice, place_of};
 use index_view::View;
 use mail_base::NoMemory;
 use patterns_match::Pattern;

@@ -1,7 +1,7 @@
 //! Keys that are typed at a prompt.
 
 use crate::desk::Desk;
-use crate::wanted::Wanted;
+use index_functions::Wanted;
 use keymap::Key;
 use mail_base::NoMemory;
 use prompts::Reply;

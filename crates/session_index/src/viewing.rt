@@ -2,13 +2,10 @@
 
 use crate::acting::act_on;
 use crate::desk::Desk;
-use crate::functions::writes;
-use crate::motion::Motion;
-use crate::places::is_in;
-use crate::rule::Rule;
 use crate::sought::{Sought, shows};
 use crate::ways::go;
 use folder_letters::Archive;
+use index_functions::{Motion, Rule, is_in, writes};
 use index_items::{Act, Mark};
 use keymap::Function;
 use mail_base::{Id, NoMemory};

@@ -5,24 +5,12 @@ ghost use Rattle.session_index.specs.Motions as spec;
 ghost use Rattle.index_view.specs.Answers.{parent_of};
 ghost use Rattle.session_index.specs.Shown.{seen, shows};
 
-use crate::motion::Motion;
 use crate::neighbours::thread_beside;
-use crate::notice::Notice;
-use crate::places::{is_in, place_of};
 use crate::sought::{Sought, first_shown, last_shown};
-use crate::way::Way;
+use index_functions::{Motion, Notice, Way, is_in, page_before, page_behind, place_of, way_or};
 use index_view::View;
 use mail_base::{Id, NoMemory};
 use std::alloc::Global;
-
-fn way_or(notice: Notice, to: Option<Id>) -> Way
-    ensures { result ≡ spec.way_or notice to }
-{
-    match to {
-        Some(id) => Way::To(id),
-        None => Way::Stays(notice),
-    }
-}
 
 // The first of messages, and else of others.
 fn first_of(view: &View, sought: Sought, ids: &[Id], others: &[Id]) -> Option<Id>
@@ -41,25 +29,6 @@ fn next_unread(view: &View, ids: &[Id], others: &[Id]) -> Option<Id>
         Some(id) => Some(id),
         None => first_of(view, Sought::Unread, ids, others),
     }
-}
-
-fn page_behind(size: usize, place: usize, ids: &[Id]) -> Option<Id>
-    requires size { 0 < size }
-    requires place { place < length ids.now }
-    ensures { result ≡ spec.page_behind size place ids.now }
-{
-    let rest = ids.get(place / size * size..)?;
-    rest.get(size).copied()
-}
-
-fn page_before(size: usize, place: usize, ids: &[Id]) -> Option<Id>
-    requires { 0 < size }
-    ensures { result ≡ spec.page_before size place ids.now }
-{
-    if place < size {
-        return None;
-    }
-    ids.get(place / size * size - size).copied()
 }
 
 fn way_to_parent(view: &View, id: Id) -> Way

@@ -10,7 +10,9 @@ use Rattle.index_order.specs.declared.options.Sort.TheVariants.{Threads, To}
 use Rattle.index_order.specs.declared.view_options.ViewOptions.{ViewOptions}
 use Rattle.rc_lang.specs.Rules.{behind_front}
 use Rattle.rc_lang.specs.Settings.{value_of}
-use Rattle.rc_lang.specs.Values.{PlainValue, Flag}
+use Rattle.rc_lang.specs.Values.{PlainValue, Flag, Quad}
+use Rattle.rc_lang.specs.declared.quad.Quad.{Quad as FourWay}
+use Rattle.rc_lang.specs.declared.quad.Quad.TheVariants.{No}
 use Rattle.rc_lang.specs.declared.variable.Variable.{Variable}
 use Rattle.rc_lang.specs.declared.variable.Variable.TheVariants as variable
 use Rattle.session_screen.specs.Places.{text_of}
@@ -23,6 +25,15 @@ flag_in _ = false
 -- a boolean variable is set
 abbrev pub is_set : List PlainValue → Variable → Bool
 is_set values v = flag_in (value_of values v)
+
+-- the answer of a value
+abbrev pub quad_in : Option PlainValue → FourWay
+quad_in (Some (Quad quad)) = quad
+quad_in _ = No
+
+-- what a variable says that has yes, no or a question
+abbrev pub quad_of : List PlainValue → Variable → FourWay
+quad_of values v = quad_in (value_of values v)
 
 -- Orders (Mutt's manual, "sort" and "sort_aux").
 

@@ -20,5 +20,5 @@ pub use places::{folder_path, new_kind};
 pub use sorting::sort_words;
 pub use status::{Banner, Place, status_line};
 pub use toggling::toggle_words;
-pub use tuning::{is_set, options_of};
+pub use tuning::{is_set, options_of, quad_of};
 pub use window::Window;

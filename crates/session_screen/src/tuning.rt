@@ -1,12 +1,12 @@
 //! What the variables say of the index.
 
 ghost use Rattle.std.specs.Prelude.{◌≡◌, true};
-ghost use Rattle.rc_lang.specs.Fits.{is_flag};
+ghost use Rattle.rc_lang.specs.Fits.{is_flag, is_quad};
 ghost use Rattle.rc_lang.specs.Variables.{row_of};
 ghost use Rattle.session_screen.specs.Tuning as spec;
 
 use index_order::{Sort, ViewOptions};
-use rc_lang::{Settings, Variable};
+use rc_lang::{Quad, Settings, Variable};
 use threads::ThreadOptions;
 
 /// Whether a boolean variable is set.
@@ -15,6 +15,14 @@ pub fn is_set(settings: &Settings, variable: Variable) -> bool
     ensures { result ≡ spec.is_set settings.now variable }
 {
     settings.is_set(variable)
+}
+
+/// What a variable has that says yes or no, or asks.
+pub fn quad_of(settings: &Settings, variable: Variable) -> Quad
+    requires { is_quad (row_of variable).kind ≡ true }
+    ensures { result ≡ spec.quad_of settings.now variable }
+{
+    settings.quad(variable)
 }
 
 // The order with a name.

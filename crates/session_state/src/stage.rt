@@ -15,5 +15,11 @@ pub enum Stage {
     Ready,
     /// Files of commands are still to be read that keys have come to; the keys behind them wait.
     Reading,
+    /// The changes are to be written, the deletions too where it purges; the keys wait. Where it quits,
+    /// the run is to end behind that.
+    Syncing { purge: bool, quits: bool },
+    /// A sync was made, and the folder is to be checked behind it; the run is over then where it
+    /// leaves, and else the keys go on.
+    Checking { leaves: bool },
     Over,
 }

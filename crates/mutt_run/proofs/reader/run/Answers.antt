@@ -4,7 +4,7 @@ use Rattle.std.proofs.Math.Facts.{to_z-of_z}
 use Rattle.session_state.specs.Instants.{IsMoment}
 use Rattle.session.proofs.GivenLemmas.{given_here}
 use Rattle.mutt_run.proofs.CompleteLemmas.{completes}
-use Rattle.mutt_run.proofs.EndLemmas.{chosen_told, clocked, disk_told, ends_told, keys_told, looked}
+use Rattle.mutt_run.proofs.EndLemmas.{chosen_told, clocked, disk_told, ends_told, keys_told}
 use Rattle.mutt_run.proofs.EndLemmas.{notes_told, out_told, prints_told}
 use Rattle.mutt_run.proofs.reader.run.Goals as goal
 
@@ -44,9 +44,6 @@ returns-clause-keys g c = record {
   reader = (c.obey_words-status.ensures.reads _ (given_here _ _)).reader;
   takes = (c.obey_words-status.ensures.reads _ (given_here _ _)).takes;
 }
-
-pub returns-clause-looks : goal.returns-clause-looks
-returns-clause-looks g c = looked (c.obey_words-status.ensures.reads _ (given_here _ _))
 
 pub returns-clause-listed : goal.returns-clause-listed
 returns-clause-listed g c = c.obey_words-status.ensures.met

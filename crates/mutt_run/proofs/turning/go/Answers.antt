@@ -1,11 +1,8 @@
-use Rattle.std.proofs.Common.{◌∙◌, [], Err, ap, arith, inr, map, refl, sym}
+use Rattle.std.proofs.Common.{◌∙◌, [], Err, ap, arith, inr, refl, sym}
 use Rattle.std.proofs.lemmas.List.{length-map}
-use Rattle.mail_base.specs.Series.{Held}
-use Rattle.folder_letters.specs.Letters.{plain_letter}
-use Rattle.folder_letters.specs.declared.letter.Letter.{Letter}
-use Rattle.session.proofs.GivenLemmas.{given_then, keeps_on, keeps_still}
-use Rattle.mutt_run.proofs.KeysLemmas.{counts_from, counts_turned, ends_broken, ends_files}
-use Rattle.mutt_run.proofs.KeysLemmas.{ends_over, presses_files, stays_files}
+use Rattle.session.proofs.GivenLemmas.{given_then, keeps_on}
+use Rattle.mutt_run.proofs.KeysLemmas.{counts_from, counts_turned, ends_broken, ends_works}
+use Rattle.mutt_run.proofs.KeysLemmas.{ends_over, presses_works}
 use Rattle.mutt_run.proofs.ScreensLemmas.{ended_broken}
 use Rattle.mutt_run.proofs.TurnLemmas.{begins_so, runs_out}
 use Rattle.mutt_run.proofs.turning.go.Goals as goal
@@ -17,7 +14,7 @@ returns-in_default-clause-ended g c = λ given is first start begins.
 
 pub returns-in_default-clause-pressed : goal.returns-in_default-clause-pressed
 returns-in_default-clause-pressed g c =
-    ends_broken _ _ _ _ _ _ _ (presses_files _ _ _ _ c.pushed.ensures.pushes.files) _ _ (inr refl)
+    ends_broken _ _ _ _ _ _ _ (presses_works _ _ _ _ c.pushed.ensures.pushes.adds) _ _ (inr refl)
 
 pub returns-in-Ok-Go-clause-ended : goal.returns-in-Ok-Go-clause-ended
 returns-in-Ok-Go-clause-ended g c = λ given is first start begins.
@@ -31,7 +28,7 @@ returns-in-Ok-Go-clause-ended g c = λ given is first start begins.
 
 pub returns-in-Ok-Go-clause-pressed : goal.returns-in-Ok-Go-clause-pressed
 returns-in-Ok-Go-clause-pressed g c =
-    ends_files _ _ _ _ _ _ _ _ _ c.pushed.ensures.pushes.files c.press_all.ensures.pressed
+    ends_works _ _ _ _ _ _ _ _ _ c.pushed.ensures.pushes.adds c.press_all.ensures.pressed
 
 pub returns-in-Ok-Go-clause-told : goal.returns-in-Ok-Go-clause-told
 returns-in-Ok-Go-clause-told g c = λ given is first start begins before h.
@@ -41,7 +38,8 @@ returns-in-Ok-Go-clause-told g c = λ given is first start begins before h.
     (c.pushed.ensures.pushes.on given here first begins.waits)
     (c.in-Ok.ensures.whole.to given here first begins.waits)
     (c.len-told.ensures ∙ sym (length-map c.args.trace.now.notes.items (λ l. l.items))) start
-    (begins_so begins)) before (c.pushed.ensures.pushes.told given first before h)
+    (begins_so begins)) before
+    (c.pushed.ensures.pushes.told given here first begins.waits before h)
 
 pub returns-in-Ok-Go-clause-faults : goal.returns-in-Ok-Go-clause-faults
 returns-in-Ok-Go-clause-faults g c = counts_from c.tell_and_show.ensures.later.0
@@ -57,7 +55,7 @@ returns-in-Ok-Quit-clause-ended g c = λ given is first start begins.
 
 pub returns-in-Ok-Quit-clause-pressed : goal.returns-in-Ok-Quit-clause-pressed
 returns-in-Ok-Quit-clause-pressed g c =
-    ends_over _ _ _ _ _ _ _ (presses_files _ _ _ _ c.pushed.ensures.pushes.files) _
+    ends_over _ _ _ _ _ _ _ (presses_works _ _ _ _ c.pushed.ensures.pushes.adds) _
     (rw c.in-Ok-Quit.field-0-is at c.in-Ok-Quit.ensures.to)
 
 pub returns-in-Err-clause-ended : goal.returns-in-Err-clause-ended
@@ -71,7 +69,7 @@ returns-in-Err-clause-ended g c = λ given is first start begins.
 
 pub returns-in-Err-clause-pressed : goal.returns-in-Err-clause-pressed
 returns-in-Err-clause-pressed g c =
-    ends_broken _ _ _ _ _ _ _ (presses_files _ _ _ _ c.pushed.ensures.pushes.files) _ _
+    ends_broken _ _ _ _ _ _ _ (presses_works _ _ _ _ c.pushed.ensures.pushes.adds) _ _
     c.in-Err.ensures.to
 
 pub returns-in-Err-clause-faults : goal.returns-in-Err-clause-faults
@@ -82,55 +80,44 @@ returns-in-Err-clause-faults g c =
 
 pub returns-in_default-clause-told : goal.returns-in_default-clause-told
 returns-in_default-clause-told g c = λ given is first start begins.
-    c.pushed.ensures.pushes.told given first
+    c.pushed.ensures.pushes.told given is first begins.waits
 
 pub returns-in_default-clause-met : goal.returns-in_default-clause-met
-returns-in_default-clause-met g c = stays_files _ _ _ _
-    (ap (λ (a : Held Letter). map plain_letter a.items) c.pushed.ensures.pushes.archive)
-    c.pushed.ensures.pushes.files
+returns-in_default-clause-met g c = c.pushed.ensures.pushes.met
 
 pub returns-in_default-clause-kept : goal.returns-in_default-clause-kept
-returns-in_default-clause-kept g c =
-    keeps_still _ _ c.pushed.ensures.pushes.archive c.pushed.ensures.pushes.kept
+returns-in_default-clause-kept g c = c.pushed.ensures.pushes.given
 
 pub returns-in-Ok-Quit-clause-told : goal.returns-in-Ok-Quit-clause-told
 returns-in-Ok-Quit-clause-told g c = λ given is first start begins.
-    c.pushed.ensures.pushes.told given first
+    c.pushed.ensures.pushes.told given is first begins.waits
 
 pub returns-in-Ok-Quit-clause-met : goal.returns-in-Ok-Quit-clause-met
-returns-in-Ok-Quit-clause-met g c = stays_files _ _ _ _
-    (ap (λ (a : Held Letter). map plain_letter a.items) c.pushed.ensures.pushes.archive)
-    c.pushed.ensures.pushes.files
+returns-in-Ok-Quit-clause-met g c = c.pushed.ensures.pushes.met
 
 pub returns-in-Ok-Quit-clause-kept : goal.returns-in-Ok-Quit-clause-kept
-returns-in-Ok-Quit-clause-kept g c =
-    keeps_still _ _ c.pushed.ensures.pushes.archive c.pushed.ensures.pushes.kept
+returns-in-Ok-Quit-clause-kept g c = c.pushed.ensures.pushes.given
 
 pub returns-in-Err-clause-told : goal.returns-in-Err-clause-told
 returns-in-Err-clause-told g c = λ given is first start begins.
-    c.pushed.ensures.pushes.told given first
+    c.pushed.ensures.pushes.told given is first begins.waits
 
 pub returns-in-Err-clause-met : goal.returns-in-Err-clause-met
-returns-in-Err-clause-met g c = stays_files _ _ _ _
-    (ap (λ (a : Held Letter). map plain_letter a.items) c.pushed.ensures.pushes.archive)
-    c.pushed.ensures.pushes.files
+returns-in-Err-clause-met g c = c.pushed.ensures.pushes.met
 
 pub returns-in-Err-clause-kept : goal.returns-in-Err-clause-kept
-returns-in-Err-clause-kept g c =
-    keeps_still _ _ c.pushed.ensures.pushes.archive c.pushed.ensures.pushes.kept
+returns-in-Err-clause-kept g c = c.pushed.ensures.pushes.given
 
 pub returns-in-Ok-Go-clause-met : goal.returns-in-Ok-Go-clause-met
-returns-in-Ok-Go-clause-met g c = λ all. c.press_all.ensures.met (stays_files _ _ _ _
-    (ap (λ (a : Held Letter). map plain_letter a.items) c.pushed.ensures.pushes.archive)
-    c.pushed.ensures.pushes.files all)
+returns-in-Ok-Go-clause-met g c = λ all. c.press_all.ensures.met
+    (c.pushed.ensures.pushes.met all)
 
 pub returns-in-Ok-Go-clause-kept : goal.returns-in-Ok-Go-clause-kept
-returns-in-Ok-Go-clause-kept g c = keeps_on
-    (keeps_still _ _ c.pushed.ensures.pushes.archive c.pushed.ensures.pushes.kept)
+returns-in-Ok-Go-clause-kept g c = keeps_on c.pushed.ensures.pushes.given
     c.press_all.ensures.kept
 
 pub press_all-requires-clause-known : goal.press_all-requires-clause-known
-press_all-requires-clause-known g c = c.pushed.ensures.pushes.known c.requires.known
+press_all-requires-clause-known g c = c.pushed.ensures.pushes.known
 
 pub tell_and_show-requires-clause-fits : goal.tell_and_show-requires-clause-fits
 tell_and_show-requires-clause-fits g c = c.in-Ok.ensures.whole.fits

@@ -11,7 +11,7 @@ use Rattle.mutt_run.proofs.KeysLemmas.{ends_done, ends_fault, ends_limit, ends_o
 use Rattle.mutt_run.proofs.KeysLemmas.{presses_key, presses_new, presses_stop, pressed_on}
 use Rattle.mutt_run.proofs.KeysLemmas.{stays_same}
 use Rattle.mutt_run.proofs.ScreensLemmas.{ended_broken, out_broken, out_same}
-use Rattle.session.proofs.StepsLemmas.{to_same, told_same}
+use Rattle.session.proofs.StepsLemmas.{told_same}
 use Rattle.mutt_run.proofs.turning.press_all.Goals as goal
 
 pub loop-turn-init : goal.loop-turn-init
@@ -47,9 +47,9 @@ loop-turn-preserved g c = record {
   fits = c.in-Ok-Go.ensures.fits;
   told = λ given is first start goes before h.
       let here = given_then c.turn.ensures.kept is in
-      c.turn.ensures.told given is first
-      (to_same given first (ap plain_events c.reserve.ensures.items)
-      (c.loop-turn.invariant.goes given here first start goes).goes.stands.state_is) before
+      let stood = out_same (ap plain_events c.reserve.ensures.items)
+      (c.loop-turn.invariant.goes given here first start goes) in
+      c.turn.ensures.told given is first stood.goes.screens stood.goes.stands before
       (told_same (ap plain_events c.reserve.ensures.items)
       (c.loop-turn.invariant.told given here first start goes before h));
   known = c.turn.ensures.known;
@@ -136,9 +136,9 @@ returns-in-Ok-Quit-clause-pressed g c =
 pub returns-in-Ok-Quit-clause-told : goal.returns-in-Ok-Quit-clause-told
 returns-in-Ok-Quit-clause-told g c = λ given is first start goes before h.
     let here = given_then c.turn.ensures.kept is in
-    c.turn.ensures.told given is first
-    (to_same given first (ap plain_events c.reserve.ensures.items)
-    (c.loop-turn.invariant.goes given here first start goes).goes.stands.state_is) before
+    let stood = out_same (ap plain_events c.reserve.ensures.items)
+    (c.loop-turn.invariant.goes given here first start goes) in
+    c.turn.ensures.told given is first stood.goes.screens stood.goes.stands before
     (told_same (ap plain_events c.reserve.ensures.items)
     (c.loop-turn.invariant.told given here first start goes before h))
 
@@ -160,9 +160,9 @@ returns-in-Err-clause-pressed g c =
 pub returns-in-Err-clause-told : goal.returns-in-Err-clause-told
 returns-in-Err-clause-told g c = λ given is first start goes before h.
     let here = given_then c.turn.ensures.kept is in
-    c.turn.ensures.told given is first
-    (to_same given first (ap plain_events c.reserve.ensures.items)
-    (c.loop-turn.invariant.goes given here first start goes).goes.stands.state_is) before
+    let stood = out_same (ap plain_events c.reserve.ensures.items)
+    (c.loop-turn.invariant.goes given here first start goes) in
+    c.turn.ensures.told given is first stood.goes.screens stood.goes.stands before
     (told_same (ap plain_events c.reserve.ensures.items)
     (c.loop-turn.invariant.told given here first start goes before h))
 

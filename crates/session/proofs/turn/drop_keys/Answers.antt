@@ -1,7 +1,7 @@
 use Rattle.std.proofs.Common.{◌∙◌, ap, subst, sym}
 use Rattle.index_view.specs.View.{IsOf}
 use Rattle.session_index.specs.Desk.{PlainDesk}
-use Rattle.session_index.specs.declared.notice.Notice.TheVariants.{MacroLoop}
+use Rattle.index_functions.specs.declared.notice.Notice.TheVariants.{MacroLoop}
 use Rattle.session_state.specs.Rules.{PlainRules}
 use Rattle.session.specs.Answers.{granted}
 use Rattle.session.specs.Core.{CoreState, Reads, plain_core, said, with_desk}

@@ -18,7 +18,7 @@ returns-in-Ok-clause-tells g c at empty = record {
   cause = c.in-Ok.ensures.driver;
   happened = opened_told at c.args.empty _ c.args.path.now _ _ _ _ _ empty c.requires.name
       c.in-Ok.ensures.fresh.1 c.in-Ok.ensures.looked;
-  looks = c.in-Ok.ensures.only.looks;
+  touches = c.in-Ok.ensures.only.looks;
   first = search rules;
   last = search rules;
 }
@@ -39,7 +39,7 @@ returns-in-Err-clause-tells g c at empty = record {
   cause = rw (c.faults-faults_before.ensures, c.faults.ensures) c.in-Err.ensures.cause;
   happened = unopened_told _ at c.args.empty c.args.path.now _ _ _ _ empty c.requires.name
       c.in-Err.ensures.looked;
-  looks = c.in-Err.ensures.only.looks;
+  touches = c.in-Err.ensures.only.looks;
   first = search rules;
   last = search rules;
 }

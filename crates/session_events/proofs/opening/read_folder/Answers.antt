@@ -65,6 +65,7 @@ returns-in-Ok-to_vec g c =
         listing = search rules;
         met = c.len.ensures ∙ sym (length-map c.scan.new.archive.items plain_letter);
         forgot = refl;
+        refused = refl;
         checked = search rules;
       };
       fresh = search rules;

@@ -26,18 +26,18 @@ returns-in-Ok-take_found g c =
     let old : Session = c.args.self.now in
     let folder : OpenFolder = c.scan-scanned.new.self in
     let mid : Session = record old { folder = folder } in
-    told_at _ c.args.moment _ old c.take_found.new.self c.args.archive.now.items
+    told_at _ c.args.quiet c.args.moment _ old c.take_found.new.self c.args.archive.now.items
     c.scan-scanned.new.archive.items (plain_found c.in-Ok-take_found.found)
     c.scan-scanned.result.marks _ _ (to_z-of_z c.ranges.moment)
-    (look_found _ c.args.moment old mid c.take_found.new.self
+    (look_found _ c.args.quiet c.args.moment old mid c.take_found.new.self
     c.args.archive.now.items c.scan-scanned.new.archive.items folder.known c.scan-scanned.result
     c.in-Ok.found c.in-Ok-take_found.found _ _ c.requires.known c.scan-scanned.ensures.scans
     c.in-Ok.is
     (ap (λ (f : OpenFolder). record old { folder = f }) c.scan-scanned.ensures.rest)
-    (subst (λ (m : ℤ). TakesIt (map plain_letter c.scan-scanned.new.archive.items) m mid
+    (subst (λ (m : ℤ). TakesIt c.args.quiet (map plain_letter c.scan-scanned.new.archive.items) m mid
     c.take_found.new.self c.in-Ok-take_found.found) (to_z-of_z c.ranges.moment)
     c.in-Ok-take_found.ensures.ok)
-    c.requires.ready c.requires.index c.requires.fits)
+    c.requires.index c.requires.fits)
 
 pub returns-in-Err-take_found : goal.returns-in-Err-take_found
 returns-in-Err-take_found g c =
@@ -47,7 +47,7 @@ returns-in-Err-take_found g c =
     let gone : OpenFolder = c.forget.new.self in
     let kept : left ≡ record old { folder = folder } = c.in-Err-take_found.ensures.err in
     let folder_kept : left.folder ≡ folder = ap (λ (s : Session). s.folder) kept in
-    look_forgot _ c.args.moment old (record left { folder = gone }) c.refuse_check.new.self
+    look_forgot _ c.args.quiet c.args.moment old (record left { folder = gone }) c.refuse_check.new.self
     c.args.archive.now.items c.scan-scanned.new.archive.items c.forget.new.archive.items
     c.scan-scanned.result c.in-Ok.found (plain_event c.refuse_check.result) _ _ c.requires.known
     folder gone c.scan-scanned.ensures.scans c.scan-scanned.ensures.rest c.in-Ok.is
@@ -62,21 +62,21 @@ returns-in-Err-take_found g c =
     (map plain_letter c.forget.new.archive.items) folder left.folder gone.known _ folder_kept
     c.forget.ensures.right)
     (ap (λ (s : Session). record s { folder = gone }) kept)
-    (subst (λ (m : ℤ). RefusesCheck NoMemory m c.scan-scanned.result.marks
+    (subst (λ (m : ℤ). RefusesCheck c.args.quiet NoMemory m c.scan-scanned.result.marks
     (record left { folder = gone }) c.refuse_check.new.self (plain_event c.refuse_check.result))
     (to_z-of_z c.ranges.moment) c.refuse_check.ensures)
-    c.requires.ready c.requires.index c.requires.fits
+    c.requires.index c.requires.fits
 
 pub returns-in-Err : goal.returns-in-Err
 returns-in-Err g c =
     let old : Session = c.args.self.now in
     let folder : OpenFolder = c.scan-scanned.new.self in
     let mid : Session = record old { folder = folder } in
-    look_off _ c.args.moment old mid c.refuse_check-in-Err.new.self
+    look_off _ c.args.quiet c.args.moment old mid c.refuse_check-in-Err.new.self
     c.args.archive.now.items c.scan-scanned.new.archive.items c.scan-scanned.result c.in-Err.why
     (plain_event c.refuse_check-in-Err.result) _ _ c.requires.known folder
     c.scan-scanned.ensures.scans c.scan-scanned.ensures.rest c.in-Err.is refl
-    (subst (λ (m : ℤ). RefusesCheck c.in-Err.why m c.scan-scanned.result.marks mid
+    (subst (λ (m : ℤ). RefusesCheck c.args.quiet c.in-Err.why m c.scan-scanned.result.marks mid
     c.refuse_check-in-Err.new.self (plain_event c.refuse_check-in-Err.result))
     (to_z-of_z c.ranges.moment) c.refuse_check-in-Err.ensures)
-    c.requires.ready c.requires.index c.requires.fits
+    c.requires.index c.requires.fits

@@ -64,6 +64,12 @@ open-requires-clause-forgot g c =
     let looked = opens_at (to_z-of_z c.ranges.moment) (c.in_ok-opening.ensures.ok at refl) in
     (opens_it looked c.in-Ok.is c.in-Ok.folder-is).forgot
 
+pub open-requires-clause-refused : goal.open-requires-clause-refused
+open-requires-clause-refused g c =
+    let at = standing_of (plain_session c.args.self.now c.args.trace.now.notes) in
+    let looked = opens_at (to_z-of_z c.ranges.moment) (c.in_ok-opening.ensures.ok at refl) in
+    (opens_it looked c.in-Ok.is c.in-Ok.folder-is).refused
+
 pub open-requires-clause-checked : goal.open-requires-clause-checked
 open-requires-clause-checked g c =
     let at = standing_of (plain_session c.args.self.now c.args.trace.now.notes) in

@@ -2,7 +2,7 @@ use Rattle.std.proofs.Common.{◌∙◌, map, subst, sym}
 use Rattle.folder_letters.specs.Letters.{plain_letter}
 use Rattle.session_index.specs.Desk.{Holds, plain_desk}
 use Rattle.session_index.specs.Effects.{went}
-use Rattle.session_index.specs.declared.way.Way.{Way}
+use Rattle.index_functions.specs.declared.way.Way.{Way}
 use Rattle.session_index.proofs.DeskLemmas.{motion_leads, quiet_holds, silent_holds, spoken_holds}
 use Rattle.session_index.proofs.desk.Desk.move_by.Goals as goal
 

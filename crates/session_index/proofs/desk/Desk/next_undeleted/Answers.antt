@@ -3,8 +3,8 @@ use Rattle.folder_letters.specs.Letters.{plain_letter}
 use Rattle.session_index.specs.Desk.{Holds, plain_desk}
 use Rattle.session_index.specs.Effects.{went_quietly}
 use Rattle.session_index.specs.Viewing.{leads}
-use Rattle.session_index.specs.declared.motion.Motion.TheVariants.{NextUndeleted}
-use Rattle.session_index.specs.declared.way.Way.{Way}
+use Rattle.index_functions.specs.declared.motion.Motion.TheVariants.{NextUndeleted}
+use Rattle.index_functions.specs.declared.way.Way.{Way}
 use Rattle.session_index.proofs.DeskLemmas.{motion_leads, quiet_holds}
 use Rattle.session_index.proofs.ViewingLemmas.{silent_leads}
 use Rattle.session_index.proofs.desk.Desk.next_undeleted.Goals as goal

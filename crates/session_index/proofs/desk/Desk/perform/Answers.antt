@@ -1,7 +1,7 @@
 use Rattle.std.proofs.Common.{◌≡◌, ◌∙◌, map, subst, sym, true}
 use Rattle.folder_letters.specs.Letters.{plain_letter}
 use Rattle.index_view.specs.View.{IsOf}
-use Rattle.session_index.specs.Functions.{writes}
+use Rattle.index_functions.specs.Functions.{writes}
 use Rattle.session_index.proofs.desk.Desk.perform.Goals as goal
 
 pub returns-then-lacks_message : goal.returns-then-lacks_message

@@ -1,0 +1,9 @@
+pub mod Notices
+pub mod Syncs
+pub mod Messages
+pub mod Finding
+pub mod Places
+pub mod Ways
+pub mod Functions
+pub mod Choosing
+pub mod Rules
