@@ -36,9 +36,8 @@ IsWriteError NoMemory = Unit {0}
 
 -- A mailbox got a new end under a lock that is ours, or not. Each stop at each mark of the call
 -- leaves a mailbox that settles to what it may have settled to before, or to its new bytes; and
--- none
--- of our calls changed it in front of them. Answered Ok, it has the new end in each image, and
--- neither a tail file nor a lock is there.
+-- none of our calls changed it in front of them. Answered Ok, it has the new end in each image,
+-- and neither a tail file nor a lock is there.
 pub record WritesEnd (path : List ℕ) (at : ℕ) (tail : List ℕ) (new_held : Bool)
     (result : Result (Unit {0}) TailError) (old new : Seen) : Type 0 where
   pub stays : (job : Job) → IsEnd at tail job

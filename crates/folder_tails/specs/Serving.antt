@@ -14,8 +14,7 @@ use Rattle.folder_tails.specs.declared.error.TailError.{TailError}
 use Rattle.folder_tails.specs.declared.error.TailError.TheVariants.{Fault, Gone, NoMemory}
 
 -- What every call keeps: a told past only grows, neither marks nor faults fall, and this error
--- comes
--- only where the faults of the device rose.
+-- comes only where the faults of the device rose.
 pub record Serves {A E : Type 0} (fault : E) (result : Result A E) (old new : Seen) : Type 0 where
   pub grows : Grows old.told new.told
   pub marks : old.marks ≤ new.marks

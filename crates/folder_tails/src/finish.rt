@@ -65,8 +65,7 @@ fn clear_sides(
 }
 
 /// Puts the end in its place that a tail file holds, once a stop leaves its name, and takes the
-/// tail
-/// file away.
+/// tail file away.
 pub fn put_found(
     alloc: Global,
     disk: &mut dyn Disk,
@@ -118,8 +117,7 @@ fn finish_found(
 }
 
 /// Finishes what stands under a lock that is ours, or takes away what a write left that did not
-/// come
-/// to name its tail file.
+/// come to name its tail file.
 pub fn finish_own(
     alloc: Global,
     disk: &mut dyn Disk,

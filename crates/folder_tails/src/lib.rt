@@ -14,6 +14,6 @@ mod text;
 mod write;
 
 pub use error::TailError;
-pub use lock::take_lock;
-pub use recover::finish_tail;
-pub use write::write_tail;
+pub use lock::{take_lock, take_lock_on};
+pub use recover::{finish_tail, finish_tail_on};
+pub use write::{write_tail, write_tail_on};

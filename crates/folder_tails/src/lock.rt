@@ -238,8 +238,8 @@ fn take_beside(
     }
 }
 
-// The same on a disk.
-fn take_on(
+/// As `take_lock`, on a disk.
+pub fn take_lock_on(
     alloc: Global,
     disk: &mut dyn Disk,
     path: &str,
@@ -274,5 +274,5 @@ pub fn take_lock(
         (seen (dev.old.disk.vtable, dev.old.disk.value))
         (seen (dev.new.disk.vtable, dev.new.disk.value)) }
 {
-    take_on(alloc, &mut *dev.disk, path, held, owner)
+    take_lock_on(alloc, &mut *dev.disk, path, held, owner)
 }

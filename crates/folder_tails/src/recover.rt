@@ -100,8 +100,8 @@ fn finish_there(
     }
 }
 
-// The same on a disk.
-fn finish_on(
+/// As `finish_tail`, on a disk.
+pub fn finish_tail_on(
     alloc: Global,
     disk: &mut dyn Disk,
     path: &str,
@@ -123,9 +123,8 @@ fn finish_on(
 }
 
 /// Finishes what a stop left of a write under a lock that is ours, or takes away what it left
-/// before
-/// the tail file had its name. A lock is ours where it is held, or where the owner has a name and
-/// the lock holds its line.
+/// before the tail file had its name. A lock is ours where it is held, or where the owner has a
+/// name and the lock holds its line.
 pub fn finish_tail(
     alloc: Global,
     dev: &mut Device,
@@ -137,5 +136,5 @@ pub fn finish_tail(
         (seen (dev.old.disk.vtable, dev.old.disk.value))
         (seen (dev.new.disk.vtable, dev.new.disk.value)) }
 {
-    finish_on(alloc, &mut *dev.disk, path, held, owner)
+    finish_tail_on(alloc, &mut *dev.disk, path, held, owner)
 }

@@ -59,8 +59,8 @@ fn make_steps(
     Ok(())
 }
 
-// The same on a disk.
-fn write_end(
+/// As `write_tail`, on a disk.
+pub fn write_tail_on(
     alloc: Global,
     disk: &mut dyn Disk,
     path: &str,
@@ -89,10 +89,8 @@ fn write_end(
 }
 
 /// Gives a mailbox a new end behind its first `at` bytes, under a lock that `take_lock` made or
-/// took
-/// over, and then takes the lock away. A stop at any moment leaves what was there before, or the
-/// new
-/// end whole.
+/// took over, and then takes the lock away. A stop at any moment leaves what was there before, or
+/// the new end whole.
 pub fn write_tail(
     alloc: Global,
     dev: &mut Device,
@@ -108,5 +106,5 @@ pub fn write_tail(
         (seen (dev.old.disk.vtable, dev.old.disk.value))
         (seen (dev.new.disk.vtable, dev.new.disk.value)) }
 {
-    write_end(alloc, &mut *dev.disk, path, held, head, at, tail)
+    write_tail_on(alloc, &mut *dev.disk, path, held, head, at, tail)
 }

@@ -1,5 +1,5 @@
 use Rattle.folder_tails.proofs.Finishes as F
-use Rattle.folder_tails.proofs.recover.finish_on.Goals as goal
+use Rattle.folder_tails.proofs.recover.finish_tail_on.Goals as goal
 
 pub returns-in-Err : goal.returns-in-Err
 returns-in-Err g c = F.unfinished_for_want c.args.path.now c.args.owner.now c.args.held.now _

@@ -1,5 +1,5 @@
 use Rattle.folder_tails.proofs.Takes as T
-use Rattle.folder_tails.proofs.lock.take_on.Goals as goal
+use Rattle.folder_tails.proofs.lock.take_lock_on.Goals as goal
 
 pub returns-in-Err : goal.returns-in-Err
 returns-in-Err g c = T.untaken c.args.path.now c.args.owner.now c.args.held.now _

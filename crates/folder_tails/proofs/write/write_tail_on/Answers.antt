@@ -2,7 +2,7 @@ use Rattle.std.proofs.Common.{List, ap, arith, length, ℕ, ◌+◌, ◌<◌, �
 use Rattle.folder_tails.specs.Tails.{read_tail}
 use Rattle.folder_tails.proofs.Texts.{text_read}
 use Rattle.folder_tails.proofs.Writes.{not_written, unwritten, was_written}
-use Rattle.folder_tails.proofs.write.write_end.Goals as goal
+use Rattle.folder_tails.proofs.write.write_tail_on.Goals as goal
 
 below : (at : ℕ) (tail : List ℕ) → at + length tail < 2 ^ 64 → at < 2 ^ 64
 below at tail fits = omega (arith, fits)
