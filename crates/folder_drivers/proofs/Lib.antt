@@ -1,3 +1,4 @@
+pub mod KnownLemmas
 pub mod Preparing
 pub mod Refusing
 pub mod FirstLooking

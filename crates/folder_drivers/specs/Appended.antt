@@ -9,9 +9,11 @@ use Rattle.folder_changes.specs.declared.sync_error.SyncError.{SyncError}
 use Rattle.folder_changes.specs.declared.sync_error.SyncError.TheVariants.{NotFolder}
 use Rattle.folder_drivers.specs.AppendRow.{AppendsAs}
 use Rattle.folder_drivers.specs.MaildirAppend.{maildir_additions}
+use Rattle.folder_drivers.specs.MboxAppend.{AddsToMailbox}
 use Rattle.folder_drivers.specs.MhAppend.{mh_additions}
 
--- Folders in one file are not written yet: each call is refused and does nothing.
+-- Folders in one file of the other form are not written yet: each call is refused and does
+-- nothing.
 pub record IsUnwritten (result : Result (Unit {0}) SyncError) (old new : Seen) : Type 0 where
   pub refused : result ≡ Err NotFolder
   pub same : new ≡ old
@@ -19,7 +21,7 @@ pub record IsUnwritten (result : Result (Unit {0}) SyncError) (old new : Seen) :
 -- a message was added to a folder of a kind, or not
 abbrev pub Appends : Kind → List ℕ → List Mail → Item → Result (Unit {0}) SyncError → Seen → Seen
     → Type 0
-Appends Mbox path mails item result old new = IsUnwritten result old new
+Appends Mbox path mails item result old new = AddsToMailbox path item result old new
 Appends Maildir path mails item result old new =
     AppendsAs maildir_additions path mails item result old new
 Appends Mh path mails item result old new =

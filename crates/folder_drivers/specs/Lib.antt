@@ -4,6 +4,9 @@ pub mod MhNames
 pub mod MhAlike
 pub mod MhSync
 pub mod MhLeft
+pub mod MboxFront
+pub mod MboxLocked
+pub mod MboxSync
 pub mod Synced
 pub mod FirstLooking
 pub mod AppendRow
@@ -12,6 +15,11 @@ pub mod MetNames
 pub mod Preparing
 pub mod MaildirAppend
 pub mod MhAppend
+pub mod MboxStamp
+pub mod MboxPostmark
+pub mod MboxFeeds
+pub mod MboxRegion
+pub mod MboxAppend
 pub mod Appended
 pub mod Recovered
 pub mod Made

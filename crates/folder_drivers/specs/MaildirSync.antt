@@ -179,8 +179,8 @@ maildir_syncs = record {
       WorksByName known.path mails changes result old new;
   Keeps = λ known mails changes old new.
       KeepsHolds (maildir_files known.path) (discarded mails changes) old new;
-  synced = λ changes known.
-      record known { listing = listing_synced Maildir changes known.listing };
+  IsSynced = λ changes known new_known old new.
+      new_known ≡ record known { listing = listing_synced Maildir changes known.listing };
   MayBe = λ known mails changes why. IsSyncError known.path mails (ids_of changes) why;
   Refused = MaildirRefused;
   home = λ path. (maildir_files path).shape.home;

@@ -183,7 +183,7 @@ mh_syncs = record {
   Works = λ purge known mails changes result old new.
       DidByNumber purge known.path mails changes result old new;
   Keeps = KeepsNumbers;
-  synced = mh_synced;
+  IsSynced = λ changes known new_known old new. new_known ≡ mh_synced changes known;
   MayBe = MhErrors;
   Refused = MhRefused;
   home = λ path. (mh_files path).shape.home;

@@ -1,5 +1,5 @@
 -- What taking away what was left over in a folder did, whatever its kind.
-use Rattle.std.specs.Prelude.{◌≡◌, ◌≤◌, ◌⊎◌, [], ℕ, false, List, Some, Result, Ok, Err, IfErr}
+use Rattle.std.specs.Prelude.{◌≡◌, ◌≤◌, ◌⊎◌, [], ℕ, Bool, false, List, Some, Result, Ok, Err, IfErr}
 use Rattle.std.specs.Prelude.{IsErrOf, OnOk}
 use Rattle.mail_base.specs.Faults.{Rose}
 use Rattle.mail_base.specs.declared.kind.Kind.{Kind}
@@ -22,6 +22,7 @@ use Rattle.folder_stops.specs.Along.{Grown}
 use Rattle.folder_stops.specs.Does.{AllOwn}
 use Rattle.folder_stops.specs.Syncs.{KeepsHolds}
 use Rattle.folder_stops.specs.Words.{Among}
+use Rattle.folder_tails.specs.Calls.{Finishes}
 
 -- Nothing is ever left over: nothing was called.
 pub record IsIdle (result : Result (Unit {0}) ScanError) (old new : Seen) : Type 0 where
@@ -79,17 +80,26 @@ pub record TakesLeft (path : List ℕ) (result : Result (Unit {0}) ScanError) (o
   pub faults : old.faults ≤ new.faults
   pub cause : IsErrOf result Fault → Rose old.faults new.faults
 
--- what was left over in a folder of a kind was taken away, or not
-abbrev pub RecoversAs : Kind → List ℕ → Result (Unit {0}) ScanError → Seen → Seen → Type 0
-RecoversAs Mbox path result old new = IsIdle result old new
-RecoversAs Maildir path result old new = IsIdle result old new
-RecoversAs Mh path result old new = TakesLeft path result old new
-RecoversAs Mmdf path result old new = IsIdle result old new
+-- Beside a mailbox in one file a new end may be left over, or what was to become one.
 
--- What was left over was taken away, or not; what is known of the folder stays, and stays right.
+-- it was finished or taken away by some owner, or not
+abbrev pub FinishesFor : List ℕ → Bool → Bool → Result (Unit {0}) ScanError → Seen → Seen → Type 0
+FinishesFor path held new_held result old new =
+    (owner : List ℕ) × Finishes path owner held new_held result old new
+
+-- what was left over in a folder of a kind was taken away, or not, and its lock is held then or not
+abbrev pub RecoversAs : Kind → List ℕ → Bool → Bool → Result (Unit {0}) ScanError → Seen → Seen
+    → Type 0
+RecoversAs Mbox path held new_held result old new = FinishesFor path held new_held result old new
+RecoversAs Maildir path held new_held result old new = IsIdle result old new
+RecoversAs Mh path held new_held result old new = TakesLeft path result old new
+RecoversAs Mmdf path held new_held result old new = IsIdle result old new
+
+-- What was left over was taken away, or not; what is known of the folder stays, but for whether its
+-- lock is held, and stays right.
 pub record Recovers (kind : Kind) (known new_known : KnownFolder)
     (result : Result (Unit {0}) ScanError) (old new : Seen) : Type 0 where
-  pub does : RecoversAs kind known.path result old new
-  pub known_is : new_known ≡ known
+  pub does : RecoversAs kind known.path known.held new_known.held result old new
+  pub known_is : new_known ≡ record known { held = new_known.held }
   pub right : (mails : List Mail) → Right kind mails known old.told
       → Right kind mails new_known new.told

@@ -17,8 +17,8 @@ pub record SyncRow : Type 1 where
       → Option Past → Option Past → Type 0
   -- which messages each stop leaves, whatever it was answered
   pub Keeps : KnownFolder → List Mail → List Changed → Option Past → Option Past → Type 0
-  -- what is known of the folder behind it
-  pub synced : List Changed → KnownFolder → KnownFolder
+  -- what is known of the folder behind one that was answered Ok
+  pub IsSynced : List Changed → KnownFolder → KnownFolder → Option Past → Option Past → Type 0
   -- how it may be refused
   pub MayBe : KnownFolder → List Mail → List Changed → SyncError → Type 0
   -- why it was refused so between two marks of a past, as far as that is told
@@ -28,17 +28,17 @@ pub record SyncRow : Type 1 where
   pub making : List ℕ → List ℕ → Option (List ℕ)
 
 -- A sync of a folder of a kind. Where it is answered Ok, all that is wanted was done, and what is
--- known is so; after a refusal a part of it was done or nothing, what is known is as before, and
--- the refusal had its cause. Whatever the answer, each stop leaves the messages, and our calls
--- changed the folder alone.
+-- known is so; after a refusal a part of it was done or nothing, what is known is as before, but
+-- that its lock may be held now or no longer, and the refusal had its cause. Whatever the answer,
+-- each stop leaves the messages, and our calls changed the folder alone.
 pub record SyncsAs (row : SyncRow) (purge : Bool) (mails : List Mail) (changes : List Changed)
     (known new_known : KnownFolder) (result : Result (Unit {0}) SyncError) (old new : Seen)
     : Type 0 where
   pub works : row.Works purge known mails changes result old.told new.told
   pub keeps : row.Keeps known mails changes old.told new.told
   pub here : Does (row.home known.path) (row.making known.path) None old.told new.told
-  pub ok_known : OnOk result (new_known ≡ row.synced changes known)
-  pub err_known : OnErr result (new_known ≡ known)
+  pub ok_known : OnOk result (row.IsSynced changes known new_known old.told new.told)
+  pub err_known : OnErr result (new_known ≡ record known { held = new_known.held })
   pub may_be : IfErr result (row.MayBe known mails changes)
   pub cause : IfErr result (λ why.
       IsBetween (row.Refused known mails changes why) old.told new.told)

@@ -12,6 +12,7 @@ use Rattle.folder_changes.specs.Refused.{Untold}
 use Rattle.folder_changes.specs.declared.sync_error.SyncError.{SyncError}
 use Rattle.folder_changes.specs.declared.sync_error.SyncError.TheVariants.{NotFolder}
 use Rattle.folder_drivers.specs.MaildirSync.{maildir_syncs}
+use Rattle.folder_drivers.specs.MboxSync.{mbox_syncs}
 use Rattle.folder_drivers.specs.MhLeft.{mh_syncs}
 use Rattle.folder_drivers.specs.SyncRow.{SyncRow, SyncsAs}
 
@@ -19,12 +20,13 @@ use Rattle.folder_drivers.specs.SyncRow.{SyncRow, SyncsAs}
 abbrev pub StaysAsIs : {A : Type 0} → Result A SyncError → Option Past → Option Past → Type 0
 StaysAsIs result old new = OnOk result ⊥ × (new ≡ old)
 
--- Folders in one file are not written yet: each call is refused and does nothing.
+-- Folders in one file of the other form are not written yet: each call is refused and does
+-- nothing.
 abbrev pub unwritten_syncs : SyncRow
 unwritten_syncs = record {
   Works = λ purge known mails changes result old new. StaysAsIs result old new;
   Keeps = λ known mails changes old new. new ≡ old;
-  synced = λ changes known. known;
+  IsSynced = λ changes known new_known old new. ⊥;
   MayBe = λ known mails changes why. why ≡ NotFolder;
   Refused = λ known mails changes why. Untold;
   home = λ path other. false;
@@ -33,7 +35,7 @@ unwritten_syncs = record {
 
 -- what a sync is, by the kind of the folder
 abbrev pub sync_row : Kind → SyncRow
-sync_row Mbox = unwritten_syncs
+sync_row Mbox = mbox_syncs
 sync_row Maildir = maildir_syncs
 sync_row Mh = mh_syncs
 sync_row Mmdf = unwritten_syncs

@@ -11,6 +11,7 @@ use Rattle.folder_changes.specs.declared.sync_error.SyncError.TheVariants.{NoMem
 use Rattle.maildir_folder.proofs.StepLemmas.{did_after, did_end, did_none, looks_did}
 use Rattle.maildir_folder.proofs.NamingLemmas.{all_longer}
 use Rattle.maildir_folder.specs.Steps.{DidNothing}
+use Rattle.folder_drivers.proofs.KnownLemmas.{held_so}
 use Rattle.folder_drivers.specs.MaildirSync.{WorksByName}
 use Rattle.disk_model.specs.Judge.{Grows}
 use Rattle.std.specs.Prelude.{OnOk}
@@ -153,7 +154,7 @@ syncs_not mails changes known new_known why old new same right does holds here n
         keeps = holds;
         here = here;
         ok_known = tt;
-        err_known = same;
+        err_known = held_so known new_known same;
         may_be = names;
         cause = cause;
         serves = serves;

@@ -4,3 +4,4 @@ pub mod Reading
 pub mod Rising
 pub mod Staying
 pub mod Unchanged
+pub mod Recovering

@@ -8,6 +8,10 @@ ghost use Rattle.folder_core.specs.Keeping.{IsDifference, mails_of};
 ghost use Rattle.folder_core.specs.Limits.{count_refusal as spec_refusal};
 ghost use Rattle.folder_core.specs.Right.{Right};
 ghost use Rattle.folder_core.specs.Scanned.{Scans};
+ghost use Rattle.folder_changes.specs.Asked.{AreListed};
+ghost use Rattle.folder_drivers.specs.Recovered.{Recovers};
+ghost use Rattle.folder_drivers.specs.Synced.{Syncs};
+ghost use Rattle.index_items.specs.Changes.{plain_changes};
 ghost use Rattle.mbox_folder.specs.FileSeen.{bytes_now};
 ghost use Rattle.mbox_folder.specs.ListedFile.{FindsFile, IsNothing, IsUnlisted};
 
@@ -18,10 +22,12 @@ use folder_changes::{Item, SyncError};
 use folder_core::{Archive, Found, Known, Listing, ScanError, put_listing};
 use folder_drivers::Driver;
 use folder_letters::Changes;
+use folder_tails::finish_tail_on;
 use mail_base::{Ids, Kind, NoMemory, Stamps};
+use mbox_writes::{append_mailbox, sync_mailbox};
 use std::alloc::Global;
 
-/// Reads mailboxes in one file (mbox(5)).
+/// Reads and writes mailboxes in one file (mbox(5)).
 #[derive(Drop)]
 pub struct MboxDriver;
 
@@ -48,48 +54,93 @@ impl Driver for MboxDriver {
         scan_file(alloc, &mut *dev.disk, known, archive)
     }
 
-    /// Refused: mailboxes in one file are not written yet.
+    /// Writes changes by way of a tail file, under a lock that the owner gives his line.
     fn sync(
         &self,
-        _alloc: Global,
-        _dev: &mut Device,
-        _known: &mut Known,
-        _owner: &[u8],
-        _purge_files: bool,
-        _archive: &Archive,
-        _changes: &Changes,
+        alloc: Global,
+        dev: &mut Device,
+        known: &mut Known,
+        owner: &[u8],
+        purge_files: bool,
+        archive: &Archive,
+        changes: &Changes,
     ) -> Result<(), SyncError> {
-        Err(SyncError::NotFolder)
+        sync_changes(
+            alloc,
+            &mut *dev.disk,
+            known,
+            owner,
+            purge_files,
+            archive,
+            changes,
+        )
     }
 
-    /// Does nothing, since nothing is written.
+    /// Finishes a new end that a stop left under a lock that is ours, or takes away what it left
+    /// before that.
     fn recover(
         &self,
-        _alloc: Global,
-        _dev: &mut Device,
-        _known: &mut Known,
-        _owner: &[u8],
+        alloc: Global,
+        dev: &mut Device,
+        known: &mut Known,
+        owner: &[u8],
     ) -> Result<(), ScanError> {
-        Ok(())
+        recover_file(alloc, &mut *dev.disk, known, owner)
     }
 
-    /// Refused: mailboxes in one file are not written yet.
+    /// Puts the message behind all others, by way of a tail file, under a lock that the owner gives
+    /// his line.
     fn append(
         &self,
-        _alloc: Global,
-        _dev: &mut Device,
-        _path: &str,
-        _owner: &[u8],
+        alloc: Global,
+        dev: &mut Device,
+        path: &str,
+        owner: &[u8],
         _archive: &Archive,
-        _item: &Item,
+        item: &Item,
     ) -> Result<(), SyncError> {
-        Err(SyncError::NotFolder)
+        append_mailbox(alloc, &mut *dev.disk, path, owner, item)
     }
 
-    /// Refused: mailboxes in one file are not written yet.
+    /// Refused: mailboxes in one file are not made yet.
     fn make(&self, _alloc: Global, _dev: &mut Device, _path: &str) -> Result<(), SyncError> {
         Err(SyncError::NotFolder)
     }
+}
+
+// Does changes to a mailbox, as the driver's `sync`.
+fn sync_changes(
+    alloc: Global,
+    disk: &mut dyn Disk,
+    known: &mut Known,
+    owner: &[u8],
+    _purge_files: bool,
+    archive: &Archive,
+    changes: &Changes,
+) -> Result<(), SyncError>
+    requires right { Right Mbox (map plain_letter archive.now.items) known.old
+        (seen disk.old).told }
+    requires listed { AreListed known.old.listing (plain_changes changes.now.items) }
+    ensures { Syncs Mbox _purge_files (map plain_letter archive.now.items)
+        (plain_changes changes.now.items) known.old known.new result (seen disk.old)
+        (seen disk.new) }
+{
+    sync_mailbox(alloc, disk, known, owner, archive, changes.as_slice())
+}
+
+// Finishes or takes away what was left over, as the driver's `recover`.
+fn recover_file(
+    alloc: Global,
+    disk: &mut dyn Disk,
+    known: &mut Known,
+    owner: &[u8],
+) -> Result<(), ScanError>
+    ensures { Recovers Mbox known.old known.new result (seen disk.old) (seen disk.new) }
+{
+    let mut held = known.held();
+    let result = finish_tail_on(alloc, disk, known.path(), &mut held, owner);
+    known.set_held(held);
+    result
 }
 
 // Reads a mailbox of which this is known, as the driver's `scan`.

@@ -26,6 +26,7 @@ use Rattle.folder_changes.specs.declared.sync_error.SyncError.{SyncError}
 use Rattle.folder_changes.specs.declared.sync_error.SyncError.TheVariants.{Fault, NoMemory}
 use Rattle.folder_changes.proofs.ApartLemmas.{apart_of, right_below}
 use Rattle.folder_changes.proofs.ServingLemmas.{serves_looked}
+use Rattle.folder_drivers.proofs.KnownLemmas.{held_so}
 use Rattle.folder_drivers.specs.MhLeft.{KeepsNumbers, MhErrors, MhRefused, mh_synced, stamp_known}
 use Rattle.folder_drivers.specs.MhLeft.{stamps_synced}
 use Rattle.folder_drivers.specs.MhSync.{DidByNumber}
@@ -76,7 +77,7 @@ module _ (purge : Bool) (changes : List Changed) (known new_known : KnownFolder)
       keeps = keeps;
       here = here;
       ok_known = tt;
-      err_known = same;
+      err_known = held_so known new_known same;
       may_be = names;
       cause = cause;
       serves = serves;

@@ -332,9 +332,10 @@ module _ (mails more : List Mail) (first : take (length mails) more ≡ mails) w
       refused_more at scan.ArchiveFull p q low was
   happened_more Has at (FolderSynced changes marks) p q low was = record {
     tried = tried_more at changes (Ok tt) p q low was.tried;
+    left = was.left;
+    synced = was.synced;
     listing = was.listing;
-    right = subst (λ (l : List Mail). Right at.kind l
-        ((sync_row at.kind).synced changes was.tried.known) (Some q))
+    right = subst (λ (l : List Mail). Right at.kind l was.left (Some q))
         (sym (takes_same at.met low)) was.right;
   }
   happened_more Has at (SyncRefused changes why marks) p q low was =

@@ -27,7 +27,8 @@ use Rattle.session_events.specs.Checking.{IsOpen, counts_before, counts_behind, 
 use Rattle.session_events.specs.Events.{FolderSynced, SyncRefused, plain_refusal}
 use Rattle.session_events.specs.Happened.{Counts, HasCause, IsKnown, IsKnownOf, Standing, WasSynced}
 use Rattle.session_events.specs.Happened.{WasNotSynced, WasTried, counts_of}
-use Rattle.session_events.specs.Syncing.{MaySync, PreparesSync, SyncsOpen, TriesNothing, TriesSync, is_refused}
+use Rattle.session_events.specs.Syncing.{MaySync, PreparesSync, SyncsOpen, TriesNothing, TriesSync}
+use Rattle.session_events.specs.Syncing.{is_refused}
 use Rattle.session_events.specs.Syncing.{sync_event}
 use Rattle.session_events.specs.Telling.{IsMarked, Tells, TouchesFolder}
 use Rattle.session_events.specs.declared.event.Marks.{Marks}
@@ -93,11 +94,10 @@ module _ (Has : Kind → Type 0) (purges : Bool) (mails : List Mail) (changes : 
           subst (λ (b : Bool). IsKnownOf b folder.listing.items folder.known.listing)
           tries.all_known is_open.known
 
-      left_known : ((sync_row folder.known.kind).synced changes folder.known).listing
-          ≡ listing_synced folder.known.kind changes folder.listing.items
+      left_known : mid.known.listing ≡ listing_synced folder.known.kind changes folder.listing.items
       left_known =
-          synced_listing folder.known.kind purges folder.known mails changes old.told new.told
-          tries.syncs.syncs.works
+          synced_listing changes folder.known mid.known old.told new.told folder.known.kind
+          tries.syncs.syncs.ok_known
           ∙ ap (listing_synced folder.known.kind changes) all_known
 
       synced_at : (empty : Kind) (p q : Past) → old.told ≡ Some p → new.told ≡ Some q
@@ -116,11 +116,12 @@ module _ (Has : Kind → Type 0) (purges : Bool) (mails : List Mail) (changes : 
           may_be = tt;
           cause = tt;
         };
+        left = mid.known;
+        synced = met_here (λ l a b. (sync_row folder.known.kind).IsSynced changes folder.known
+            mid.known a b) p q from to tries.syncs.syncs.ok_known;
         listing = left_known;
-        right = met_here (λ l a b. Right folder.known.kind l
-            ((sync_row folder.known.kind).synced changes folder.known) b) p q from to
-            (subst (λ (k : KnownFolder). Right folder.known.kind mails k new.told)
-            tries.syncs.syncs.ok_known tries.syncs.right);
+        right = met_here (λ l a b. Right folder.known.kind l mid.known b) p q from to
+            tries.syncs.right;
       }
 
       synced_told : (empty : Kind) (a b : Option Past) → old.told ≡ a → new.told ≡ b → Grows a b
@@ -129,7 +130,8 @@ module _ (Has : Kind → Type 0) (purges : Bool) (mails : List Mail) (changes : 
       synced_told empty (Some p) None from to grows = absurd grows
       synced_told empty (Some p) (Some q) from to grows = synced_at empty p q from to
 
-      tells_synced : (empty : Kind) → Tells Has (at empty) mails (FolderSynced changes marks) old new
+      tells_synced : (empty : Kind)
+          → Tells Has (at empty) mails (FolderSynced changes marks) old new
       tells_synced empty = record {
         marks = marks;
         marked = refl;
@@ -146,8 +148,8 @@ module _ (Has : Kind → Type 0) (purges : Bool) (mails : List Mail) (changes : 
 
       kind_synced : mid.known.kind ≡ folder.known.kind
       kind_synced =
-          ap (λ (k : KnownFolder). k.kind) tries.syncs.syncs.ok_known
-          ∙ synced_kind folder.known.kind changes folder.known
+          synced_kind changes folder.known mid.known old.told new.told folder.known.kind
+          tries.syncs.syncs.ok_known
 
       open_synced : IsOpen mails new.told mid
       open_synced = record {
@@ -155,8 +157,7 @@ module _ (Has : Kind → Type 0) (purges : Bool) (mails : List Mail) (changes : 
             tries.syncs.right;
         known = subst (λ (b : Bool). IsKnownOf b mid.listing.items mid.known.listing)
             (sym (ap (λ (f : OpenFolder). f.forgot) tries.rest ∙ tries.all_known))
-            (ap (λ (k : KnownFolder). k.listing) tries.syncs.syncs.ok_known ∙ left_known
-            ∙ sym tries.done);
+            (left_known ∙ sym tries.done);
         within = subst (λ (l : List Listed). All (λ l. l.id.0 < length mails) l) (sym tries.done)
             (synced_within folder.known.kind changes (length mails) folder.listing.items
             is_open.within);
@@ -301,8 +302,8 @@ module _ (Has : Kind → Type 0) (purges : Bool) (mails : List Mail) (changes : 
             once = (open_synced tries).once;
             met = (open_synced tries).met;
           };
-          path = ap (λ (k : KnownFolder). k.path) tries.syncs.syncs.ok_known
-              ∙ synced_path folder.known.kind changes folder.known;
+          path = synced_path changes folder.known mid.known old.told new.told folder.known.kind
+              tries.syncs.syncs.ok_known;
           kind = kind_synced tries;
           listing = tries.done;
           met = ap (λ (f : OpenFolder). f.met) tries.rest;

@@ -156,10 +156,10 @@ pub record WasTried (at : Standing) (mails : List Mail) (changes : List Changed)
 pub record WasSynced (at : Standing) (mails : List Mail) (changes : List Changed) (old new : Past)
     : Type 0 where
   pub tried : WasTried at mails changes (Ok tt) old new
-  pub listing : ((sync_row at.kind).synced changes tried.known).listing
-      ≡ listing_synced at.kind changes at.listing
-  pub right : Right at.kind (take at.met mails) ((sync_row at.kind).synced changes tried.known)
-      (Some new)
+  pub left : KnownFolder
+  pub synced : (sync_row at.kind).IsSynced changes tried.known left (Some old) (Some new)
+  pub listing : left.listing ≡ listing_synced at.kind changes at.listing
+  pub right : Right at.kind (take at.met mails) left (Some new)
 
 -- why the open folder was not synced: for want of memory nothing was tried, or the sync was refused
 abbrev pub WasNotSynced : Standing → List Mail → List Changed → SyncError → Past → Past → Type 0

@@ -1,0 +1,15 @@
+pub mod CalendarLemmas
+pub mod Days
+pub mod Words
+pub mod StampLemmas
+pub mod Marks
+pub mod PostmarkLemmas
+pub mod ClosedLines
+pub mod FeedsLemmas
+pub mod QuotedLines
+pub mod RegionLemmas
+pub mod FedFields
+pub mod ClosedCore
+pub mod ClosedStatus
+pub mod ClosedMessages
+pub mod AppendedLemmas

@@ -1,0 +1,13 @@
+pub mod FrontLemmas
+pub mod LawLemmas
+mod Stages
+mod Traces
+mod Causes
+mod Touching
+mod Putting
+mod Dropping
+mod Unread
+mod Planning
+mod Rewriting
+mod Adding
+pub mod Ending
