@@ -4,7 +4,7 @@ ghost use Rattle.std.specs.Prelude.{◌≡◌, Any};
 
 use crate::flags::flags_named;
 use crate::outcome::put_outcome;
-use crate::playing::{folder_of, put_played};
+use crate::playing::{folder_of, owner_of, put_played};
 use case_disks::text_of;
 use case_files::{Answer, Case, CaseFault, Entry, Subject, read_number};
 use disk_model::Device;
@@ -14,16 +14,17 @@ use folder_drivers::Drivers;
 use mail_base::{Bytes, Kind};
 use std::alloc::Global;
 
-/// A `maildir` or an `mh` is made at each `make`, and to it the text of each `append LETTERS
-/// SECONDS` is added, with the flags of these letters (`-` for none), and received so many seconds
-/// after 1970 began. Behind each stands what it answered; behind all of them stands the tree.
+/// An `mbox`, a `maildir` or an `mh` is made at each `make`, and to it the text of each `append
+/// LETTERS SECONDS SENDER` is added, with the flags of these letters (`-` for none), received so
+/// many seconds after 1970 began, from that sender if one stands there, under the lock of the
+/// `owner`. Behind each stands what it answered; behind all of them stands the tree.
 pub struct Additions;
 
 impl Subject for Additions {
     fn inputs(&self) -> &[&[u8]] {
         &[
-            b"file", b"folder", b"failing", b"stop", b"others", b"maildir", b"mh", b"make",
-            b"append",
+            b"file", b"folder", b"failing", b"stop", b"others", b"mbox", b"maildir", b"mh",
+            b"owner", b"make", b"append",
         ]
     }
 
@@ -59,8 +60,9 @@ fn put_each(
 ) -> Result<(), CaseFault>
     requires has { Any (λ d. sort (d.vtable, d.value) ≡ kind) drivers.now.list.items }
 {
+    let owner = owner_of(case);
     for entry in case.entries.as_slice() {
-        put_addition(alloc, answer, dev, drivers, kind, path, entry)?;
+        put_addition(alloc, answer, dev, drivers, kind, path, owner, entry)?;
     }
     Ok(())
 }
@@ -72,6 +74,7 @@ fn put_addition(
     drivers: &Drivers,
     kind: Kind,
     path: &str,
+    owner: &[u8],
     entry: &Entry,
 ) -> Result<(), CaseFault>
     requires has { Any (λ d. sort (d.vtable, d.value) ≡ kind) drivers.now.list.items }
@@ -85,13 +88,14 @@ fn put_addition(
     }
     let item = item_of(alloc, entry)?;
     let archive = Archive::new(alloc);
-    let outcome = drivers.append(alloc, kind, dev, path, b"", &archive, &item);
+    let outcome = drivers.append(alloc, kind, dev, path, owner, &archive, &item);
     put_outcome(alloc, answer, b"added", &outcome)
 }
 
 fn item_of(alloc: Global, entry: &Entry) -> Result<Item, CaseFault> {
     let about = text_of(entry.about())?;
-    let (letters, seconds) = about.split_once(' ').ok_or(CaseFault::BadInput)?;
+    let (letters, rest) = about.split_once(' ').ok_or(CaseFault::BadInput)?;
+    let (seconds, sender) = rest.split_once(' ').unwrap_or((rest, ""));
     let letters = if letters == "-" { "" } else { letters };
     let seconds = read_number(seconds.as_bytes())?;
     if seconds > 253_000_000_000 {
@@ -100,7 +104,7 @@ fn item_of(alloc: Global, entry: &Entry) -> Result<Item, CaseFault> {
     Ok(Item {
         text: Bytes::copy_of(alloc, entry.value.as_slice())?,
         flags: flags_named(letters.as_bytes())?,
-        sender: Bytes::new(alloc),
+        sender: Bytes::copy_of(alloc, sender.as_bytes())?,
         moment: seconds as i64,
     })
 }

@@ -47,10 +47,10 @@ pub fn may_sync(listing: &[Listed], changes: &[Changed1]) -> bool
 }
 
 /// The changes of a value: an id with `discard`, or with letters of flags behind `+` and `-`; `; `
-/// stands between them.
+/// stands between them. An empty value has none.
 pub fn changes_of(alloc: Global, value: &str) -> Result<Changes, CaseFault> {
     let mut changes = Changes::new(alloc);
-    for piece in value.split("; ") {
+    for piece in value.split("; ").filter(|piece| !piece.is_empty()) {
         changes.push(change_of(piece)?)?;
     }
     Ok(changes)

@@ -31,5 +31,8 @@ fn main(rt: HostRuntime) -> io::Result<ExitCode> {
 fn play_all(rt: &HostRuntime, report: &mut Report) -> Result<(), NoMemory> {
     play_file(rt, &Syncs, "syncs", report)?;
     play_file(rt, &Additions, "additions", report)?;
-    play_file(rt, &Stops, "stops", report)
+    play_file(rt, &Stops, "stops", report)?;
+    play_file(rt, &Syncs, "mailboxes", report)?;
+    play_file(rt, &Additions, "mail_additions", report)?;
+    play_file(rt, &Stops, "mail_stops", report)
 }

@@ -28,7 +28,9 @@ fn put_refusal(
         SyncError::Locked => answer.put(key, b"locked"),
         SyncError::Unfinished => answer.put(key, b"unfinished"),
         SyncError::Changed(Spot::Name(name)) => put_changed(alloc, answer, key, name.as_slice()),
-        SyncError::Changed(Spot::At(_)) => answer.put(key, b"changed at a place"),
+        SyncError::Changed(Spot::At(place)) => {
+            answer.put_text(key, format!(in alloc; "changed at {place}")?.as_str())
+        }
         SyncError::TooMany(_) => answer.put(key, b"too many"),
         SyncError::TooLarge(_) => answer.put(key, b"too large"),
         SyncError::Fault => answer.put(key, b"fault"),

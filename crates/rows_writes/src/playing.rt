@@ -9,6 +9,7 @@ use disk_model::Device;
 use folder_drivers::{Drivers, DriversError};
 use mail_base::Kind;
 use maildir_folder::MaildirDriver;
+use mbox_folder::MboxDriver;
 use mh_folder::MhDriver;
 use std::alloc::Global;
 
@@ -16,9 +17,16 @@ pub fn no_room(_why: DriversError) -> CaseFault {
     CaseFault::NoMemory
 }
 
-/// The folder of a case: the path of its `maildir` or of its `mh`.
+/// The owner of a case, whose word stands in locks; empty where there is none.
+pub fn owner_of(case: &Case) -> &[u8] {
+    case.find(b"owner").unwrap_or(b"")
+}
+
+/// The folder of a case: the path of its `mbox`, its `maildir` or its `mh`.
 pub fn folder_of(case: &Case) -> Result<(Kind, &[u8]), CaseFault> {
-    if let Some(path) = case.find(b"maildir") {
+    if let Some(path) = case.find(b"mbox") {
+        Ok((Kind::Mbox, path))
+    } else if let Some(path) = case.find(b"maildir") {
         Ok((Kind::Maildir, path))
     } else {
         Ok((Kind::Mh, case.need(b"mh")?))
@@ -41,6 +49,9 @@ pub fn put_all(
 pub fn put_played(alloc: Global, answer: &mut Answer, case: &Case) -> Result<(), CaseFault> {
     let mut dev = Device::new(Box::new(alloc, disk_of(alloc, case)?)?);
     let mut drivers = Drivers::new(alloc);
+    drivers
+        .add(Box::new(alloc, MboxDriver::new())?)
+        .map_err(no_room)?;
     drivers
         .add(Box::new(alloc, MaildirDriver::new())?)
         .map_err(no_room)?;

@@ -7,7 +7,7 @@ ghost use Rattle.folder_letters.specs.Letters.{plain_letter};
 use crate::asked::{changes_of, may_sync};
 use crate::flags::letters_of;
 use crate::outcome::put_outcome;
-use crate::playing::{folder_of, put_played};
+use crate::playing::{folder_of, owner_of, put_played};
 use case_disks::text_of;
 use case_files::{Answer, Case, CaseFault, Entry, Subject};
 use disk_model::Device;
@@ -16,16 +16,17 @@ use folder_drivers::Drivers;
 use mail_base::Kind;
 use std::alloc::Global;
 
-/// A `maildir` or an `mh` is scanned at each `scan`, and written at each `sync`, whose value is
-/// what is to change. Where `purge` stands, files that are discarded go for good. Behind each step
-/// stands what it answered, and the listing that is known then; behind all of them stands the tree.
+/// An `mbox`, a `maildir` or an `mh` is scanned at each `scan`, and written at each `sync`, whose
+/// value is what is to change, under the lock of the `owner`. Where `purge` stands, files that are
+/// discarded go for good. Behind each step stands what it answered, and the listing that is known
+/// then; behind all of them stands the tree.
 pub struct Syncs;
 
 impl Subject for Syncs {
     fn inputs(&self) -> &[&[u8]] {
         &[
-            b"file", b"folder", b"failing", b"stop", b"others", b"maildir", b"mh", b"scan",
-            b"sync", b"recover", b"purge",
+            b"file", b"folder", b"failing", b"stop", b"others", b"mbox", b"maildir", b"mh",
+            b"owner", b"scan", b"sync", b"recover", b"purge",
         ]
     }
 
@@ -80,7 +81,6 @@ fn put_each(
 {
     let mut known = Known::new(alloc, path, kind)?;
     let mut archive = Archive::new(alloc);
-    let purge = case.find(b"purge").is_some();
     for entry in case.entries.as_slice() {
         put_step(
             alloc,
@@ -88,7 +88,7 @@ fn put_each(
             dev,
             drivers,
             kind,
-            purge,
+            case,
             &mut known,
             &mut archive,
             entry,
@@ -103,7 +103,7 @@ fn put_step(
     dev: &mut Device,
     drivers: &Drivers,
     kind: Kind,
-    purge: bool,
+    case: &Case,
     known: &mut Known,
     archive: &mut Archive,
     entry: &Entry,
@@ -122,10 +122,10 @@ fn put_step(
         Step::Sync => {
             let value = text_of(entry.value.as_slice())?;
             put_sync(
-                alloc, answer, dev, drivers, kind, purge, known, archive, value,
+                alloc, answer, dev, drivers, kind, case, known, archive, value,
             )
         }
-        Step::Recover => put_recover(alloc, answer, dev, drivers, kind, known, archive),
+        Step::Recover => put_recover(alloc, answer, dev, drivers, kind, case, known, archive),
         Step::Other => Ok(()),
     }
 }
@@ -161,7 +161,7 @@ fn put_sync(
     dev: &mut Device,
     drivers: &Drivers,
     kind: Kind,
-    purge: bool,
+    case: &Case,
     known: &mut Known,
     archive: &Archive,
     value: &str,
@@ -177,7 +177,9 @@ fn put_sync(
     if !may_sync(known.listing().as_slice(), changes.as_slice()) {
         return answer.put(b"synced", b"not listed once each");
     }
-    let outcome = drivers.sync(alloc, kind, dev, known, b"", purge, archive, &changes);
+    let purge = case.find(b"purge").is_some();
+    let owner = owner_of(case);
+    let outcome = drivers.sync(alloc, kind, dev, known, owner, purge, archive, &changes);
     put_outcome(alloc, answer, b"synced", &outcome)?;
     put_listing(alloc, answer, known)
 }
@@ -188,6 +190,7 @@ fn put_recover(
     dev: &mut Device,
     drivers: &Drivers,
     kind: Kind,
+    case: &Case,
     known: &mut Known,
     archive: &Archive,
 ) -> Result<(), CaseFault>
@@ -198,7 +201,7 @@ fn put_recover(
     ensures right { OnOk result (Right kind (map plain_letter archive.now.items) known.new
         (seen (dev.new.disk.vtable, dev.new.disk.value)).told) }
 {
-    match drivers.recover(alloc, kind, dev, known, b"") {
+    match drivers.recover(alloc, kind, dev, known, owner_of(case)) {
         Ok(()) => answer.put(b"recovered", b"done"),
         Err(error) => answer.put_text(b"recovered", format!(in alloc; "{error}")?.as_str()),
     }
