@@ -8,7 +8,7 @@ use mail_base::{
     RealClock, Sink, Source, StdSink, StdSource, WriteFault,
 };
 use maildir_folder::MaildirDriver;
-use mbox_folder::MboxDriver;
+use mh_folder::MhDriver;
 use std::alloc::Global;
 use std::io;
 use std::test::Fail;
@@ -112,15 +112,15 @@ fn each_kind_has_one_driver(rt: HostRuntime) -> Result<(), Fail> {
     let alloc = rt.alloc();
     let mut drivers = Drivers::new(alloc);
     for wanted in [Ok(()), Err(DriversError::Twice)] {
-        let mailboxes = Box::new(alloc, MboxDriver::new())?;
-        assert_eq!(rt; drivers.add(mailboxes), wanted);
+        let handlers = Box::new(alloc, MhDriver::new())?;
+        assert_eq!(rt; drivers.add(handlers), wanted);
         let maildirs = Box::new(alloc, MaildirDriver::new())?;
         assert_eq!(rt; drivers.add(maildirs), wanted);
     }
     for (kind, there) in [
-        (Kind::Mbox, true),
+        (Kind::Mh, true),
         (Kind::Maildir, true),
-        (Kind::Mh, false),
+        (Kind::Mbox, false),
         (Kind::Mmdf, false),
     ] {
         assert_eq!(rt; drivers.has(kind), there, "{kind:?}");
