@@ -3,8 +3,10 @@
 
 mod clock;
 mod runs;
+mod stops;
 
 use crate::runs::WholeRuns;
+use crate::stops::StoppedRuns;
 use case_files::{Report, play_file, print_report};
 use mail_base::NoMemory;
 use std::io;
@@ -29,5 +31,6 @@ fn play_all(rt: &HostRuntime, report: &mut Report) -> Result<(), NoMemory> {
     play_file(rt, &WholeRuns, "runs_sources", report)?;
     play_file(rt, &WholeRuns, "runs_pager", report)?;
     play_file(rt, &WholeRuns, "runs_checks", report)?;
-    play_file(rt, &WholeRuns, "runs_syncs", report)
+    play_file(rt, &WholeRuns, "runs_syncs", report)?;
+    play_file(rt, &StoppedRuns, "runs_stops", report)
 }

@@ -40,7 +40,8 @@ impl Subject for WholeRuns {
         let words = words_of(alloc, case)?;
         let mut dev = Device::new(Box::new(alloc, disk_of(alloc, case)?)?);
         let mut streams = streams_of(alloc, case)?;
-        put_run(alloc, answer, &words, &mut dev, &mut streams)?;
+        let ended = play_run(alloc, &words, &mut dev, &mut streams)?;
+        put_end(answer, &ended, &streams)?;
         put_screens(alloc, answer, streams.out.written().as_slice())?;
         put_nodes(alloc, answer, case, &mut dev)
     }
@@ -48,14 +49,23 @@ impl Subject for WholeRuns {
 
 /// What a run reads and writes beside the disk.
 #[derive(Drop)]
-struct Streams {
-    keys: MemorySource,
+pub struct Streams {
+    pub keys: MemorySource,
     out: MemorySink,
     errs: MemorySink,
     clock: LateClock,
 }
 
-fn streams_of(alloc: Global, case: &Case) -> Result<Streams, CaseFault> {
+/// How a run ended, the letters that it met, and what happened.
+#[derive(Drop)]
+pub struct Ended {
+    status: u8,
+    pub archive: Archive,
+    events: Events,
+}
+
+/// What the run of a case reads and writes.
+pub fn streams_of(alloc: Global, case: &Case) -> Result<Streams, CaseFault> {
     Ok(Streams {
         keys: keys_of(alloc, case)?,
         out: sink_of(alloc, case, OUT_ROOM, b"failing out")?,
@@ -84,14 +94,13 @@ fn clock_of(alloc: Global, case: &Case) -> Result<LateClock, CaseFault> {
     })
 }
 
-// Makes a run, and puts how it ended.
-fn put_run(
+/// Makes a run.
+pub fn play_run(
     alloc: Global,
-    answer: &mut Answer,
     words: &Words,
     dev: &mut Device,
     streams: &mut Streams,
-) -> Result<(), CaseFault> {
+) -> Result<Ended, CaseFault> {
     let mut drivers = Drivers::new(alloc);
     if drivers.add(Box::new(alloc, MboxDriver::new())?).is_err() {
         return Err(CaseFault::NoMemory);
@@ -120,18 +129,22 @@ fn put_run(
         &mut streams.clock,
         &mut trace,
     );
-    put_end(answer, status.number(), &trace, streams)
+    let Trace {
+        archive,
+        events,
+        ..
+    } = trace;
+    Ok(Ended {
+        status: status.number(),
+        archive,
+        events,
+    })
 }
 
-fn put_end(
-    answer: &mut Answer,
-    status: u8,
-    trace: &Trace,
-    streams: &Streams,
-) -> Result<(), CaseFault> {
-    answer.put_count(b"status", usize::from(status))?;
-    answer.put_count(b"letters", trace.archive.len())?;
-    for event in trace.events.as_slice() {
+fn put_end(answer: &mut Answer, ended: &Ended, streams: &Streams) -> Result<(), CaseFault> {
+    answer.put_count(b"status", usize::from(ended.status))?;
+    answer.put_count(b"letters", ended.archive.len())?;
+    for event in ended.events.as_slice() {
         if let Event::Pressed { moment, .. } = event {
             answer.put_number(b"pressed", *moment)?;
         }

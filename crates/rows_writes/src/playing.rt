@@ -33,21 +33,13 @@ pub fn folder_of(case: &Case) -> Result<(Kind, &[u8]), CaseFault> {
     }
 }
 
-/// Takes each step of the case, and then adds each message of it.
+/// Takes each step of the case on a disk, and then adds each message of it.
 pub fn put_all(
     alloc: Global,
     answer: &mut Answer,
     dev: &mut Device,
-    drivers: &Drivers,
     case: &Case,
 ) -> Result<(), CaseFault> {
-    put_steps(alloc, answer, dev, drivers, case)?;
-    put_additions(alloc, answer, dev, drivers, case)
-}
-
-/// Takes all of that on the disk of the case, and puts the tree that is left.
-pub fn put_played(alloc: Global, answer: &mut Answer, case: &Case) -> Result<(), CaseFault> {
-    let mut dev = Device::new(Box::new(alloc, disk_of(alloc, case)?)?);
     let mut drivers = Drivers::new(alloc);
     drivers
         .add(Box::new(alloc, MboxDriver::new())?)
@@ -58,6 +50,13 @@ pub fn put_played(alloc: Global, answer: &mut Answer, case: &Case) -> Result<(),
     drivers
         .add(Box::new(alloc, MhDriver::new())?)
         .map_err(no_room)?;
-    put_all(alloc, answer, &mut dev, &drivers, case)?;
+    put_steps(alloc, answer, dev, &drivers, case)?;
+    put_additions(alloc, answer, dev, &drivers, case)
+}
+
+/// Takes all of that on the disk of the case, and puts the tree that is left.
+pub fn put_played(alloc: Global, answer: &mut Answer, case: &Case) -> Result<(), CaseFault> {
+    let mut dev = Device::new(Box::new(alloc, disk_of(alloc, case)?)?);
+    put_all(alloc, answer, &mut dev, case)?;
     put_tree(alloc, answer, &dev)
 }
