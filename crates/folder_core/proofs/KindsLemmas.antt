@@ -23,9 +23,8 @@ use Rattle.disk_model.proofs.Folders.{folder_stays}
 use Rattle.disk_model.proofs.Looking.{looked_longer, looked_then}
 use Rattle.disk_model.proofs.Marks.{tree_at-longer}
 use Rattle.folder_core.specs.Directory.{file_at, is_folder_at, is_name, node_file, path_in}
-use Rattle.folder_core.specs.FirstLook.{FindsFirst, TellsMissing}
-use Rattle.folder_core.specs.Kinds.{DirectorySeen, IsDirectoryError, IsKindError, IsKindSeen}
-use Rattle.folder_core.specs.Kinds.{KindSeen, MhSeen, NumberSeen}
+use Rattle.folder_core.specs.Kinds.{DirectorySeen, IsDirectoryError, IsKindError, IsRuleSeen}
+use Rattle.folder_core.specs.Kinds.{MhSeen, NumberSeen, RuleSeen}
 use Rattle.folder_core.specs.Kinds.{NumbersSeen, WasKind, bytes_kind, directory_kind, file_kind}
 use Rattle.folder_core.specs.Kinds.{front_kind, names_sequences, has_number, has_sequences}
 use Rattle.folder_core.specs.Kinds.{is_filled, is_message, kind_at, node_kind}
@@ -35,9 +34,8 @@ use Rattle.folder_core.specs.declared.error.ScanError.TheVariants.{ArchiveFull, 
 use Rattle.folder_core.specs.Maildir.{directory}
 use Rattle.folder_core.specs.declared.looks.Front.{Front}
 use Rattle.folder_core.specs.declared.looks.Front.TheVariants.{Directory}
-use Rattle.folder_core.specs.Looked.{IsContents, IsFrontOf, SawAt, has_front, is_names, node_stat}
+use Rattle.folder_core.specs.Looked.{IsContents, IsFrontOf, SawAt, is_names, node_stat}
 use Rattle.folder_core.specs.Looked.{stat_there}
-use Rattle.folder_core.proofs.FirstLookLemmas.{stood_later, tells_there}
 use Rattle.folder_core.specs.declared.looks.Contents.{Contents}
 use Rattle.folder_core.specs.declared.looks.Contents.TheVariants.{Nothing, File, Names}
 use Rattle.folder_core.specs.declared.error.ScanError.{ScanError}
@@ -524,7 +522,7 @@ kind_seen result empty names path there a b c is first next seen mh =
 
 -- a cause or a kind that one mark shows
 was_seen : (result : Result Kind ScanError) (empty : Kind) (path : List ℕ) (m n : ℕ) (past : Past)
-    → WasKind result empty path m n past → IsKindSeen result empty path m n past
+    → WasKind result empty path m n past → IsRuleSeen result empty path m n past
 was_seen (Ok kind) empty path m n past was = was
 was_seen (Err Fault) empty path m n past was = tt
 was_seen (Err NoMemory) empty path m n past was = tt
@@ -554,7 +552,7 @@ front_kind_is empty tree path all (Some node) is = by_bytes node.bytes is
 
 pub free_seen : (empty : Kind) (path : List ℕ) (call : Call) (a b : Option Past)
     → GoesOn (SawAt call (λ tree. node_at tree path ≡ None)) a b
-    → GoesOn (KindSeen (Err Missing) empty path) a b
+    → GoesOn (RuleSeen (Err Missing) empty path) a b
 free_seen empty path call a b seen =
     goes_as a b (λ p q saw. record {
       mark = saw.mark;
@@ -568,7 +566,7 @@ pub front_seen : (result : Result Kind ScanError) (empty : Kind) (path front : L
     → result ≡ front_kind empty front
     → GoesOn (SawAt call
     (λ tree. (bytes : List ℕ) × (file_at tree path ≡ Some bytes) × (take 5 bytes ≡ front))) a b
-    → GoesOn (KindSeen result empty path) a b
+    → GoesOn (RuleSeen result empty path) a b
 front_seen result empty path front call a b is seen =
     goes_as a b
     (λ p q saw. was_seen result empty path (length p.journal) (length q.journal) q (record {
@@ -589,7 +587,7 @@ earlier_kind result empty path k m n past low was =
 
 seen_earlier : (result : Result Kind ScanError) (empty : Kind) (path : List ℕ) (k m n : ℕ)
     (past : Past) → k ≤ m
-    → IsKindSeen result empty path m n past → IsKindSeen result empty path k n past
+    → IsRuleSeen result empty path m n past → IsRuleSeen result empty path k n past
 seen_earlier (Ok kind) empty path k m n past low was =
     earlier_kind (Ok kind) empty path k m n past low was
 seen_earlier (Err Fault) empty path k m n past low was = tt
@@ -625,7 +623,7 @@ pub directory_seen : (result : Result Kind ScanError) (front : Front) (call : Ca
     (path : List ℕ)
     (a b c : Option Past) → front ≡ Directory → LooksOnly a b → LooksOnly b c
     → GoesOn (SawAt call (λ tree. IsFrontOf front tree path)) a b
-    → GoesOn (DirectorySeen result empty path) b c → GoesOn (KindSeen result empty path) a c
+    → GoesOn (DirectorySeen result empty path) b c → GoesOn (RuleSeen result empty path) a c
 directory_seen result front call empty path a b c is first next saw told =
     let seen : GoesOn (SawAt call (λ tree. is_folder_at tree path ≡ true)) a b =
     subst (λ (f : Front). GoesOn (SawAt call (λ tree. IsFrontOf f tree path)) a b) is saw in
@@ -636,21 +634,12 @@ directory_seen result front call empty path a b c is first next saw told =
     (kind (λ mark from to. folder_stays p r mark later.mark path (looked_then p q r x y)
     (omega (arith, from, longer_later p q x)) later.from ∙ later.tells))) first next seen told
 
--- What the first look has found, where a directory stood there.
+-- Refusals.
 
-not_missing : (result : Result Kind ScanError) → IfErr result IsDirectoryError
+pub not_missing : (result : Result Kind ScanError) → IfErr result IsDirectoryError
     → result ≡ Err Missing → ⊥
 not_missing result errors is =
     subst (λ (r : Result Kind ScanError). IfErr r IsDirectoryError) is errors
-
-pub directory_first : (result : Result Kind ScanError) (path : List ℕ) (front : Front)
-    (a b c : Option Past) → front ≡ Directory → IfErr result IsDirectoryError → LooksOnly a b
-    → LooksOnly b c → GoesOn (FindsFirst has_front (Ok front) path) a b
-    → GoesOn (TellsMissing result path) a c
-directory_first result path front a b c is errors first next found =
-    tells_there result path a c (not_missing result errors)
-    (stood_later path a b c first next
-    (goes_as a b (λ p q f. f ∙ ap (λ (d : Front). Some (has_front d)) is) found))
 
 pub directory_error : (why : ScanError) → IsDirectoryError why → IsKindError why
 directory_error Missing error = absurd error

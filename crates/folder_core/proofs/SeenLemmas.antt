@@ -80,6 +80,28 @@ goes_then (Some a) None c by first second p q = absurd p
 goes_then (Some a) (Some b) None by first second p q = absurd q
 goes_then (Some a) (Some b) (Some c) by first second p q = by a b c first second p q
 
+-- two relations of the same pasts
+pub goes_both : {P Q R : Past → Past → Type 0} (old new : Option Past)
+    → ((p q : Past) → P p q → Q p q → R p q)
+    → GoesOn P old new → GoesOn Q old new → GoesOn R old new
+goes_both None new by first second = first
+goes_both (Some old) None by first second = absurd first
+goes_both (Some old) (Some new) by first second = by old new first second
+
+-- what one look saw, before others
+pub sees_later : (call : Call) (Tells : List TreeNode → Type 0) (a b c : Option Past)
+    → LooksOnly a b → LooksOnly b c → GoesOn (SawAt call Tells) a b → GoesOn (SawAt call Tells) a c
+sees_later call Tells a b c first next saw =
+    goes_then {Q = HasLooked} a b c (λ p q r x y saw looked. saw_later {Tells = Tells} p q r saw y)
+    first next saw next
+
+-- what one look saw, behind others
+pub sees_earlier : (call : Call) (Tells : List TreeNode → Type 0) (a b c : Option Past)
+    → LooksOnly a b → LooksOnly b c → GoesOn (SawAt call Tells) b c → GoesOn (SawAt call Tells) a c
+sees_earlier call Tells a b c first next saw =
+    goes_then {P = HasLooked} a b c
+    (λ p q r x y looked saw. saw_earlier {Tells = Tells} p q r x saw) first next first saw
+
 -- Two calls that only look.
 
 pub only_same : (seen : Seen) → OnlyLooks seen seen
