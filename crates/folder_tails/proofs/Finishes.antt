@@ -13,9 +13,11 @@ use Rattle.disk_model.specs.declared.answers.DiskError.TheVariants.{Long, Missin
 use Rattle.disk_model.specs.declared.answers.DiskError.TheVariants.{NoMemory as NoRoom, WrongNode}
 use Rattle.disk_model.proofs.Looking.{grows_then, looks_grows, looks_then}
 use Rattle.folder_core.specs.declared.error.ScanError.{ScanError}
-use Rattle.folder_core.specs.declared.error.ScanError.TheVariants.{Fault as ScanFault, NoMemory}
+use Rattle.folder_core.specs.declared.error.ScanError.TheVariants.{Fault as ScanFault, Missing}
+use Rattle.folder_core.specs.declared.error.ScanError.TheVariants.{NoMemory}
 use Rattle.folder_core.specs.declared.error.ScanError.TheVariants.{Unfinished as ScanUnfinished}
 use Rattle.folder_tails.specs.Calls.{Finishes, FinishesOwn, FinishesPart, IsFinishError, TellsFirst}
+use Rattle.folder_tails.specs.Causes.{FinishesFor, IsOfTree, WasStopped}
 use Rattle.folder_tails.specs.Recovery.{Entered, Idle, PassesOwn, Right, SafeLeads}
 use Rattle.folder_tails.specs.Rows.{IsSafe}
 use Rattle.folder_tails.specs.Serving.{Serves, scan_error}
@@ -42,8 +44,21 @@ never_unfinished (Long size) is = cc
 never_unfinished DiskFault is = cc
 never_unfinished NoRoom is = cc
 
-not_so : (why : DiskError) → IsErrOf {T = Unit {0}} (Err (scan_error why)) ScanUnfinished → ⊥
+pub not_so : (why : DiskError) → IsErrOf {T = Unit {0}} (Err (scan_error why)) ScanUnfinished → ⊥
 not_so why is = never_unfinished why (let e : scan_error why ≡ ScanUnfinished = cc in e)
+
+missing_as : {P : Type 0} (why : DiskError) → (IsOfTree why → P) → scan_error why ≡ Missing → P
+missing_as NotThere told is = told tt
+missing_as WrongNode told is = told tt
+missing_as Exists told is = told tt
+missing_as (Long size) told is = told tt
+missing_as DiskFault told is = absurd (cc)
+missing_as NoRoom told is = absurd (cc)
+
+-- what is so where a call was refused for the tree is so where it is told as Missing
+pub missing_for : {P : Type 0} (why : DiskError) → (IsOfTree why → P)
+    → IsErrOf {T = Unit {0}} (Err (scan_error why)) Missing → P
+missing_for why told is = missing_as why told (let e : scan_error why ≡ Missing = cc in e)
 
 -- what is not held is entered
 pub unheld : (path : List ℕ) (ours : List ℕ → Bool) (held other : Bool) (a b : Option Past)
@@ -128,6 +143,7 @@ own_ok path new_held old new idle counted is = record {
   refused = tt;
   unfinished = λ is. absurd (cc);
   given_back = is;
+  missing_for = λ is. absurd (cc);
 }
 
 pub own_refused : (path : List ℕ) (new_held : Bool) (why : DiskError) (told : ScanError)
@@ -135,8 +151,9 @@ pub own_refused : (path : List ℕ) (new_held : Bool) (why : DiskError) (told : 
     → ((ours : List ℕ → Bool)
     → SafeLeads path ours old.told new.told (Right path ours) (IsSafe path ours))
     → Counted {A = Unit {0}} (Err why) old new
+    → (IsOfTree why → WasStopped path old.told new.told)
     → FinishesOwn path new_held (Err told) old new
-own_refused path new_held why told old new e stays counted =
+own_refused path new_held why told old new e stays counted stopped =
     subst (λ (t : ScanError). FinishesOwn path new_held (Err t) old new) (sym e)
     (record {
       stays = stays;
@@ -145,6 +162,7 @@ own_refused path new_held why told old new e stays counted =
       refused = finish_error why;
       unfinished = not_so why;
       given_back = tt;
+      missing_for = missing_for why stopped;
     })
 
 -- one part behind another
@@ -222,6 +240,9 @@ unfinished_for_want path owner held s = record {
   missing = found_none path (Err NoMemory) s.told;
   unfinished = λ is. absurd (cc);
   given_back = tt;
+  missing_for = λ is. absurd (cc);
+  unfinished_for = λ is. absurd (cc);
+  done_for = tt;
 }
 
 pub there : (path home owner : List ℕ) (held new_held : Bool) (result : Result (Unit {0}) ScanError)
@@ -233,8 +254,10 @@ there path home owner held new_held result old new e is =
 -- behind the look at the path
 pub finishes : (path owner : List ℕ) (held new_held : Bool) (result : Result (Unit {0}) ScanError)
     (old new : Seen) → FinishesPart path owner held new_held result old new
-    → TellsFirst path result old.told new.told → Finishes path owner held new_held result old new
-finishes path owner held new_held result old new part missing = record {
+    → TellsFirst path result old.told new.told
+    → FinishesFor path owner held result old.told new.told
+    → Finishes path owner held new_held result old new
+finishes path owner held new_held result old new part missing why = record {
   stays = part.stays;
   settles = part.settles;
   serves = part.serves;
@@ -242,4 +265,7 @@ finishes path owner held new_held result old new part missing = record {
   unfinished = part.unfinished;
   missing = missing;
   given_back = part.given_back;
+  missing_for = why.missing;
+  unfinished_for = why.unfinished;
+  done_for = why.done;
 }

@@ -1,9 +1,13 @@
 pub mod Names
 pub mod Same
+pub mod Folders
 pub mod Images
 pub mod Leading
 pub mod Files
 pub mod Traces
+pub mod Causes
+pub mod Locking
+pub mod Foreign
 pub mod Texts
 pub mod Stages
 pub mod Steps
@@ -12,6 +16,7 @@ pub mod Recovering
 pub mod Finding
 pub mod Leads
 pub mod Finishes
+pub mod Reasons
 pub mod Firsts
 pub mod Locks
 pub mod Takes

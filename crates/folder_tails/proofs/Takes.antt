@@ -36,10 +36,12 @@ use Rattle.folder_tails.specs.Taking.{Knows, Locking, MissesTail, NoTail, Quiet,
 use Rattle.folder_tails.specs.Taking.{ReadsLock}
 use Rattle.folder_tails.specs.Taking.{CountsOn, Ready, SeesTail, Taken, Unclaimed}
 use Rattle.folder_tails.specs.Taking.{IfUnfinished}
-use Rattle.folder_tails.specs.Traces.{LockAlone, MeetsTail}
+use Rattle.folder_tails.specs.Traces.{LockAlone}
 use Rattle.folder_tails.proofs.Traces.{alone_then, meets_later}
 use Rattle.folder_tails.proofs.Finding.{misses}
 use Rattle.folder_tails.proofs.Leading.{IsOwnStage, goes_judged, goes_on, stops_short, weaken}
+use Rattle.folder_tails.specs.Causes.{IsNotOurs, MadeLock, MetTail, WasSeen}
+use Rattle.folder_tails.proofs.Foreign.{met_under, not_ours_later, under_later}
 use Rattle.folder_tails.proofs.Leads as L
 use Rattle.folder_tails.proofs.Locks as K
 use Rattle.folder_tails.proofs.Recovering.{file_read, no_file_seen, no_tail_after}
@@ -331,6 +333,8 @@ take_refused path owner held new_held why told old new e stays grows counted =
       locked = λ is. absurd (not_locked why is);
       unfinished = λ is. absurd (not_unfinished why is);
       is_held = tt;
+      locked_for = λ is. absurd (not_locked why is);
+      unfinished_for = λ is. absurd (not_unfinished why is);
     })
 
 -- somebody else has the lock
@@ -339,8 +343,9 @@ pub take_locked : (path owner : List ℕ) (held new_held found : Bool) (old new 
     → ((ours : List ℕ → Bool)
     → SafeLeads path ours old.told new.told (Entered path ours held) (Entered path ours held))
     → LooksOnly old.told new.told → Counted {A = Bool} (Ok found) old new
+    → IsNotOurs path owner held old.told new.told
     → TakesLock path owner held new_held (Err Locked) old new
-take_locked path owner held new_held found old new none stays looks counted = record {
+take_locked path owner held new_held found old new none stays looks counted foreign = record {
   stays = λ ours knows. L.only path ours (stays ours) (L.entered path ours held);
   takes = tt;
   serves = record {
@@ -352,6 +357,8 @@ take_locked path owner held new_held found old new none stays looks counted = re
   locked = λ is. (looks, none);
   unfinished = λ is. absurd (cc);
   is_held = tt;
+  locked_for = λ is. foreign;
+  unfinished_for = λ is. absurd (cc);
 }
 
 -- the lock is ours
@@ -379,6 +386,8 @@ take_owned path owner line held new_held old mid new is held_is own looks marks 
       locked = λ e. absurd (cc);
       unfinished = λ e. absurd (cc);
       is_held = held_is;
+      locked_for = λ e. absurd (cc);
+      unfinished_for = λ e. absurd (cc);
     }
 
 pub take_unowned : (path owner : List ℕ) (held new_held : Bool) (why : DiskError) (told : TailError)
@@ -401,6 +410,8 @@ take_unowned path owner held new_held why told old mid new e own looks marks fau
       locked = λ is. absurd (not_locked why is);
       unfinished = λ is. absurd (not_unfinished why is);
       is_held = tt;
+      locked_for = λ is. absurd (not_locked why is);
+      unfinished_for = λ is. absurd (not_unfinished why is);
     })
 
 -- the lock was just made
@@ -417,11 +428,12 @@ pub take_made : (path owner line : List ℕ) (held new_held : Bool)
     → OnOk result ((ours : List ℕ → Bool) → ours [] ≡ false
     → SafeLeads path ours mid.told new.told (Locking path ours (IsDurable []) AnyState)
     (Ready path ours line))
-    → IfUnfinished result (MeetsTail path mid.told new.told) (LockAlone path mid.told new.told)
+    → IfUnfinished result (MetTail path mid.told new.told) (LockAlone path mid.told new.told)
     → Serves Fault result mid new → (IsErrOf result Locked → ⊥) → OnOk result (new_held ≡ true)
+    → WasSeen (MadeLock path) old.told mid.told
     → TakesLock path owner held new_held result old new
 take_made path owner line held new_held result old mid new is first grows own marks faults stays
-    ready left serves never held_is =
+    ready left serves never held_is lock =
     record {
       stays = λ ours knows. L.on path ours (first ours knows.empty) (stays ours knows.empty);
       takes = L.on_ok result ready (λ each ours knows. L.on path ours (first ours knows.empty)
@@ -431,10 +443,13 @@ take_made path owner line held new_held result old mid new is first grows own ma
       serves = serves_then Fault result old mid new grows marks faults serves;
       locked = λ e. absurd (never e);
       unfinished = λ e. let both = left e in (
-        meets_later path old.told mid.told new.told grows both.0,
+        meets_later path old.told mid.told new.told grows both.0.0,
         alone_then path old.told mid.told new.told own both.1,
       );
       is_held = held_is;
+      locked_for = λ e. absurd (never e);
+      unfinished_for = λ e.
+          met_under path old.told mid.told new.told grows serves.grows lock (left e).0.1;
     }
 
 -- looks come before
@@ -459,6 +474,10 @@ then_takes path owner held new_held result old mid new first looks own marks fau
     alone_then path old.told mid.told new.told own left.1,
   );
   is_held = next.is_held;
+  locked_for = λ is. not_ours_later path owner held (looks_grows old.told mid.told looks)
+      (next.locked_for is);
+  unfinished_for = λ is. under_later path old.told mid.told new.told
+      (looks_grows old.told mid.told looks) (next.unfinished_for is);
 }
 
 -- memory ran out before the first call
@@ -472,6 +491,8 @@ untaken path owner held s = record {
   locked = λ is. absurd (cc);
   unfinished = λ is. absurd (cc);
   is_held = tt;
+  locked_for = λ is. absurd (cc);
+  unfinished_for = λ is. absurd (cc);
 }
 
 pub taken_there : (path home owner : List ℕ) (held new_held : Bool)

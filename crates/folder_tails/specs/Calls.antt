@@ -10,6 +10,8 @@ use Rattle.folder_core.specs.declared.error.ScanError.{ScanError}
 use Rattle.folder_core.specs.declared.error.ScanError.TheVariants.{Fault as ScanFault, Missing}
 use Rattle.folder_core.specs.declared.error.ScanError.TheVariants.{NoMemory as ScanNoMemory}
 use Rattle.folder_core.specs.declared.error.ScanError.TheVariants.{Unfinished as ScanUnfinished}
+use Rattle.folder_tails.specs.Causes.{IsForeignTail, IsNotOurs, IsTailUnder, MayFinish}
+use Rattle.folder_tails.specs.Causes.{WasStopped}
 use Rattle.folder_tails.specs.Recovery.{Entered, Idle, PassesOwn, Right, SafeLeads}
 use Rattle.folder_tails.specs.Rows.{IsSafe}
 use Rattle.folder_tails.specs.Tails.{line_of}
@@ -78,6 +80,10 @@ pub record Finishes (path : List ℕ) (owner : List ℕ) (held new_held : Bool)
       × ((new_held ≡ false) × MeetsTail path old.told new.told)
   pub missing : TellsFirst path result old.told new.told
   pub given_back : OnOk result (new_held ≡ false)
+  pub missing_for : IsErrOf result Missing → WasStopped path old.told new.told
+  pub unfinished_for : IsErrOf result ScanUnfinished
+      → IsForeignTail path owner held old.told new.told
+  pub done_for : OnOk result (MayFinish path owner held old.told new.told)
 
 -- A lock was made, or taken over, or not. Each stop at each mark of the call leaves a mailbox that
 -- settles to what it may have settled to before, with what others put behind it while no lock was
@@ -95,6 +101,8 @@ pub record TakesLock (path : List ℕ) (owner : List ℕ) (held new_held : Bool)
   pub unfinished : IsErrOf result Unfinished
       → MeetsTail path old.told new.told × LockAlone path old.told new.told
   pub is_held : OnOk result (new_held ≡ true)
+  pub locked_for : IsErrOf result Locked → IsNotOurs path owner held old.told new.told
+  pub unfinished_for : IsErrOf result Unfinished → IsTailUnder path old.told new.told
 
 -- For the code alone.
 
@@ -122,3 +130,4 @@ pub record FinishesOwn (path : List ℕ) (new_held : Bool) (result : Result (Uni
   pub refused : IfErr result IsFinishError
   pub unfinished : IsErrOf result ScanUnfinished → ⊥
   pub given_back : OnOk result (new_held ≡ false)
+  pub missing_for : IsErrOf result Missing → WasStopped path old.told new.told

@@ -8,4 +8,5 @@ pub mod Recovery
 pub mod Taking
 pub mod Traces
 pub mod Serving
+pub mod Causes
 pub mod Calls

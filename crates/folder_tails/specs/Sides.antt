@@ -1,6 +1,7 @@
 -- The names beside a mailbox in one file.
 use Rattle.std.specs.Prelude.{◌≡◌, ◌⊎◌, ℕ, List, ◌++◌, codes}
 use Rattle.std.specs.String.{string_bytes}
+use Rattle.disk_model.specs.Tree.{folder_of}
 use Rattle.folder_tails.specs.declared.sides.Sides.{Sides}
 
 -- the lock
@@ -25,8 +26,9 @@ IsSide path at = (at ≡ lock_of path) ⊎ ((at ≡ tail_of path) ⊎ (at ≡ tm
 abbrev pub home_of : Sides → List ℕ
 home_of sides = string_bytes sides.path
 
--- the names are those beside the mailbox
+-- the names are those beside the mailbox, in its folder
 pub record AreSides (sides : Sides) : Type 0 where
   pub lock : string_bytes sides.lock ≡ lock_of (home_of sides)
   pub tail : string_bytes sides.tail ≡ tail_of (home_of sides)
   pub tmp : string_bytes sides.tmp ≡ tmp_of (home_of sides)
+  pub dir : string_bytes sides.dir ≡ folder_of (home_of sides)

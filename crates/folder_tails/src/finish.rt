@@ -3,12 +3,12 @@
 ghost use Rattle.std.specs.Prelude.{ℕ, ◌≡◌, Bool, false, true, List, IfOk, OnErr, OnOk};
 ghost use Rattle.disk_model.specs.Judge.{Counted};
 ghost use Rattle.disk_model.specs.Looking.{LooksOnly};
+ghost use Rattle.folder_tails.specs.Causes as causes;
 ghost use Rattle.folder_tails.specs.Recovery as spec;
 ghost use Rattle.folder_tails.specs.Rows.{IsSafe};
 ghost use Rattle.folder_tails.specs.Sides.{AreSides, home_of, lock_of};
 ghost use Rattle.folder_tails.specs.Stages.{Clears};
-ghost use Rattle.folder_tails.specs.Taking.{MissesTail, SeesTail};
-ghost use Rattle.folder_tails.specs.Traces.{MeetsTail};
+ghost use Rattle.folder_tails.specs.Taking.{SeesTail};
 
 use crate::acts::{remove_lock, sync_names};
 use crate::putting::{give_back, put_tail};
@@ -56,6 +56,8 @@ fn clear_sides(
         (spec.Idle (home_of sides.now) ours) (spec.Idle (home_of sides.now) ours)) }
     ensures counts { Counted result (seen disk.old) (seen disk.new) }
     ensures given_back { OnOk result (held.new ≡ false) }
+    ensures why { causes.TellsAround (home_of sides.now) result (seen disk.old).told
+        (seen disk.new).told }
 {
     clear_tmp(alloc, disk, sides)?;
     clear_lock(alloc, disk, sides, held)?;
@@ -81,6 +83,8 @@ pub fn put_found(
         (spec.Found (home_of sides.now) ours text.now)
         (spec.IsPut (home_of sides.now) ours text.now)) }
     ensures counts { Counted result (seen disk.old) (seen disk.new) }
+    ensures why { causes.TellsFit (home_of sides.now) text.now result (seen disk.old).told
+        (seen disk.new).told }
 {
     let Some((at, end)) = read_tail(text) else {
         return Err(DiskError::WrongNode);
@@ -110,6 +114,8 @@ fn finish_found(
         (spec.Found (home_of sides.now) ours text.now) (spec.Idle (home_of sides.now) ours)) }
     ensures counts { Counted result (seen disk.old) (seen disk.new) }
     ensures given_back { OnOk result (held.new ≡ false) }
+    ensures why { causes.TellsFit (home_of sides.now) text.now result (seen disk.old).told
+        (seen disk.new).told }
 {
     put_found(alloc, disk, sides, text)?;
     give_back(alloc, disk, sides, held)?;
@@ -133,6 +139,8 @@ pub fn finish_own(
         (spec.Right (home_of sides.now) ours) (spec.Idle (home_of sides.now) ours)) }
     ensures counts { Counted result (seen disk.old) (seen disk.new) }
     ensures given_back { OnOk result (held.new ≡ false) }
+    ensures why { causes.TellsWhy result (causes.WasStopped (home_of sides.now)
+        (seen disk.old).told (seen disk.new).told) }
 {
     match read_tail_file(alloc, disk, sides) {
         Ok(read) => finish_found(alloc, disk, sides, held, read.bytes.as_slice()),
@@ -151,10 +159,8 @@ pub fn has_tail(disk: &mut dyn Disk, sides: &Sides) -> Result<bool, DiskError>
         → spec.SafeLeads (home_of sides.now) ours (seen disk.old).told (seen disk.new).told
         (spec.Entered (home_of sides.now) ours held) (spec.Idle (home_of sides.now) ours)) }
     ensures looked { SeesTail (home_of sides.now) (seen disk.old).told (seen disk.new).told }
-    ensures missed { IfOk result (λ found. found ≡ false
-        → MissesTail (home_of sides.now) (seen disk.old).told (seen disk.new).told) }
-    ensures met { IfOk result (λ found. found ≡ true
-        → MeetsTail (home_of sides.now) (seen disk.old).told (seen disk.new).told) }
+    ensures tells { causes.TellsTail (home_of sides.now) result (seen disk.old).told
+        (seen disk.new).told }
     ensures looks { LooksOnly (seen disk.old).told (seen disk.new).told }
     ensures counts { Counted result (seen disk.old) (seen disk.new) }
 {

@@ -4,6 +4,7 @@ ghost use Rattle.std.specs.Prelude.{ℕ, ◌≡◌, Bool, [], false, true, List,
 ghost use Rattle.disk_model.specs.Judge.{Counted};
 ghost use Rattle.folder_stops.specs.Rows.{IsDurable};
 ghost use Rattle.folder_tails.specs.Calls as calls;
+ghost use Rattle.folder_tails.specs.Causes.{MetTail};
 ghost use Rattle.folder_tails.specs.Recovery as recovery;
 ghost use Rattle.folder_tails.specs.Rows.{IsSafe};
 ghost use Rattle.folder_tails.specs.Serving.{Serves};
@@ -11,7 +12,7 @@ ghost use Rattle.folder_tails.specs.Sides.{AreSides, home_of};
 ghost use Rattle.folder_tails.specs.Stages.{AnyState};
 ghost use Rattle.folder_tails.specs.Tails.{line_of};
 ghost use Rattle.folder_tails.specs.Taking as spec;
-ghost use Rattle.folder_tails.specs.Traces.{LockAlone, MeetsTail};
+ghost use Rattle.folder_tails.specs.Traces.{LockAlone};
 
 use crate::TailError;
 use crate::acts::{cut_lock, make_lock, remove_lock, sync_lock, sync_names, write_lock};
@@ -59,7 +60,7 @@ fn fill_lock(
         (spec.Locking (home_of sides.now) ours (IsDurable []) AnyState)
         (spec.Taken (home_of sides.now) ours line.now)) }
     ensures serves { Serves TailError.Fault result (seen disk.old) (seen disk.new) }
-    ensures unfinished { spec.IfUnfinished result (MeetsTail (home_of sides.now)
+    ensures unfinished { spec.IfUnfinished result (MetTail (home_of sides.now)
         (seen disk.old).told (seen disk.new).told) (LockAlone (home_of sides.now)
         (seen disk.old).told (seen disk.new).told) }
     ensures not_locked { spec.NotLocked result }
@@ -110,7 +111,7 @@ fn begin_lock(
         (spec.Locking (home_of sides.now) ours (IsDurable []) AnyState)
         (spec.Ready (home_of sides.now) ours line.now)) }
     ensures serves { Serves TailError.Fault result (seen disk.old) (seen disk.new) }
-    ensures unfinished { spec.IfUnfinished result (MeetsTail (home_of sides.now)
+    ensures unfinished { spec.IfUnfinished result (MetTail (home_of sides.now)
         (seen disk.old).told (seen disk.new).told) (LockAlone (home_of sides.now)
         (seen disk.old).told (seen disk.new).told) }
     ensures not_locked { spec.NotLocked result }

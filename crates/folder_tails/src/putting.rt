@@ -2,6 +2,7 @@
 
 ghost use Rattle.std.specs.Prelude.{◌≡◌, ◌+◌, ◌<◌, ◌^◌, false, OnOk, length};
 ghost use Rattle.disk_model.specs.Judge.{Counted};
+ghost use Rattle.folder_tails.specs.Causes.{TellsAround};
 ghost use Rattle.folder_tails.specs.Sides.{AreSides, home_of};
 ghost use Rattle.folder_tails.specs.Stages as spec;
 
@@ -28,6 +29,8 @@ pub fn put_tail(
         (spec.Writing (home_of sides.now) job spec.AnyFile)
         (spec.Finished (home_of sides.now) job (spec.HasLock (home_of sides.now) job))) }
     ensures counts { Counted result (seen disk.old) (seen disk.new) }
+    ensures why { TellsAround (home_of sides.now) result (seen disk.old).told
+        (seen disk.new).told }
 {
     write_mail(alloc, disk, sides, at, end)?;
     cut_mail(alloc, disk, sides, at + end.len() as u64)?;
@@ -54,6 +57,8 @@ pub fn give_back(
         (spec.Ended (home_of sides.now) job)) }
     ensures counts { Counted result (seen disk.old) (seen disk.new) }
     ensures given_back { OnOk result (held.new ≡ false) }
+    ensures why { TellsAround (home_of sides.now) result (seen disk.old).told
+        (seen disk.new).told }
 {
     remove_lock(alloc, disk, sides)?;
     *held = false;

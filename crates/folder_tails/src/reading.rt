@@ -6,6 +6,7 @@ ghost use Rattle.disk_model.specs.Journal.{ReadAll, StatPath};
 ghost use Rattle.disk_model.specs.Judge.{Counted, MakesStep, plain_read, read_length, read_of};
 ghost use Rattle.disk_model.specs.Judge.{stat_of};
 ghost use Rattle.disk_model.specs.Looking.{LooksOnly};
+ghost use Rattle.folder_tails.specs.Causes as causes;
 ghost use Rattle.folder_tails.specs.Recovery as spec;
 ghost use Rattle.folder_tails.specs.Sides.{AreSides, home_of, lock_of, tail_of};
 ghost use Rattle.folder_tails.specs.Taking as taking;
@@ -69,6 +70,16 @@ pub fn read_lock(
     disk.read_all(alloc, sides.lock.as_str(), limit)
 }
 
+// Whether no file of so few bytes was there to be read.
+fn is_absence(why: DiskError) -> bool
+    ensures { result ≡ causes.is_absence why }
+{
+    match why {
+        DiskError::Missing | DiskError::WrongNode | DiskError::Long(_) => true,
+        DiskError::Exists | DiskError::Fault | DiskError::NoMemory => false,
+    }
+}
+
 /// Whether the lock holds this line.
 pub fn has_line(
     alloc: Global,
@@ -89,12 +100,14 @@ pub fn has_line(
     ensures read { IfOk result (λ found. found ≡ true → taking.ReadsLine (home_of sides.now)
         line.now
         (seen disk.old).told (seen disk.new).told) }
+    ensures tells { causes.TellsLine (home_of sides.now) line.now result (seen disk.old).told
+        (seen disk.new).told }
     ensures looks { LooksOnly (seen disk.old).told (seen disk.new).told }
     ensures counts { Counted result (seen disk.old) (seen disk.new) }
 {
     match read_lock(alloc, disk, sides, line.len() as u64) {
         Ok(read) => Ok(read.bytes.as_slice() == line),
-        Err(DiskError::Missing | DiskError::WrongNode | DiskError::Long(_)) => Ok(false),
+        Err(why) if is_absence(why) => Ok(false),
         Err(why) => Err(why),
     }
 }
@@ -119,6 +132,8 @@ pub fn has_lock(
         → spec.SafeLeads (home_of sides.now) ours (seen disk.old).told (seen disk.new).told
         (spec.Entered (home_of sides.now) ours held.old) (spec.Right (home_of sides.now) ours)) }
     ensures held { spec.TellsHeld result held.old held.new }
+    ensures tells { causes.TellsLock (home_of sides.now) owner.now held.old result
+        (seen disk.old).told (seen disk.new).told }
     ensures looks { LooksOnly (seen disk.old).told (seen disk.new).told }
     ensures counts { Counted result (seen disk.old) (seen disk.new) }
 {

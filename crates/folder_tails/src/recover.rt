@@ -2,6 +2,7 @@
 
 ghost use Rattle.std.specs.Prelude.{ℕ, ◌≡◌, Bool, false, List, OnOk};
 ghost use Rattle.folder_tails.specs.Calls as calls;
+ghost use Rattle.folder_tails.specs.Causes.{FinishesFor, LeavesForeign};
 ghost use Rattle.folder_tails.specs.Serving.{scan_error as scan_error_lem};
 ghost use Rattle.folder_tails.specs.Sides.{AreSides, home_of};
 ghost use Rattle.folder_tails.specs.Tails.{line_of};
@@ -32,8 +33,10 @@ fn scan_error(why: DiskError) -> ScanError
 fn leave_foreign(disk: &mut dyn Disk, sides: &Sides, held: bool) -> Result<(), ScanError>
     requires sides { AreSides sides.now }
     requires held { held ≡ false }
-    ensures { (owner : List ℕ) → calls.FinishesPart (home_of sides.now) owner held held result
+    ensures part { (owner : List ℕ) → calls.FinishesPart (home_of sides.now) owner held held result
         (seen disk.old) (seen disk.new) }
+    ensures why { LeavesForeign (home_of sides.now) result (seen disk.old).told
+        (seen disk.new).told }
 {
     match has_tail(disk, sides) {
         Ok(true) => Err(ScanError::Unfinished),
@@ -70,8 +73,10 @@ fn finish_by_lock(
 ) -> Result<(), ScanError>
     requires sides { AreSides sides.now }
     requires line { line.now ≡ line_of owner.now }
-    ensures { calls.FinishesPart (home_of sides.now) owner.now held.old held.new result
+    ensures part { calls.FinishesPart (home_of sides.now) owner.now held.old held.new result
         (seen disk.old) (seen disk.new) }
+    ensures why { FinishesFor (home_of sides.now) owner.now held.old result (seen disk.old).told
+        (seen disk.new).told }
 {
     match has_lock(alloc, disk, sides, held, owner, line) {
         Ok(true) => finish_held(alloc, disk, sides, held),

@@ -2,6 +2,7 @@
 
 ghost use Rattle.std.specs.Prelude.{◌≡◌, ◌++◌, IfOk};
 ghost use Rattle.std.specs.String.{string_bytes};
+ghost use Rattle.disk_model.specs.Tree.{folder_of as folder_lem};
 ghost use Rattle.folder_tails.specs.Sides as spec;
 
 use mail_base::NoMemory;
@@ -27,11 +28,12 @@ fn name_beside(alloc: Global, path: &str, end: &str) -> Result<String, NoMemory>
 }
 
 // What stands before the last slash of a path.
-fn folder_of(path: &str) -> &str {
+fn folder_of(path: &str) -> &str
+    ensures { result.now ≡ folder_lem path.now }
+{
     match path.rsplit_once('/') {
         None => "",
-        Some(("", _)) => "/",
-        Some((folder, _)) => folder,
+        Some((folder, _)) => { if folder.is_empty() { "/" } else { folder } }
     }
 }
 

@@ -1,6 +1,8 @@
-use Rattle.std.proofs.Common.{refl, sym}
+use Rattle.std.proofs.Common.{inl, inr, refl, sym, ⊎_elim}
 use Rattle.folder_tails.specs.Sides.{home_of}
+use Rattle.folder_tails.proofs.Causes as C
 use Rattle.folder_tails.proofs.Leads as L
+use Rattle.folder_tails.proofs.Locking.{had_unfit}
 use Rattle.folder_tails.proofs.finish.finish_own.Goals as goal
 
 pub returns-in-Ok-clause-stays : goal.returns-in-Ok-clause-stays
@@ -38,3 +40,22 @@ returns-in-Err-clause-stays g c ours =
     L.only path ours (L.looked path ours c.read_tail_file.ensures.step.called refl tt
     (L.right path ours))
     (L.right path ours)
+
+pub returns-in-Ok-clause-why : goal.returns-in-Ok-clause-why
+returns-in-Ok-clause-why g c =
+    let path = home_of c.args.sides.now in
+    C.why_as c.finish_found.result (⊎_elim
+    (λ unfit. inr (had_unfit path c.as_slice.result.now _ c.in-Ok.read c.as_slice.ensures unfit.0
+    unfit.1 c.in-Ok.ensures.step.called))
+    (λ last. inl (C.last_later c.in-Ok.ensures.step.grows last)))
+    c.finish_found.ensures.why
+
+pub returns-in-Err-Missing-clause-why : goal.returns-in-Err-Missing-clause-why
+returns-in-Err-Missing-clause-why g c =
+    C.why_as c.clear_sides.result
+    (λ last. inl (C.last_later c.in-Err-Missing.ensures.step.grows last)) c.clear_sides.ensures.why
+
+pub returns-in-Err-clause-why : goal.returns-in-Err-clause-why
+returns-in-Err-clause-why g c =
+    λ of_tree. inl (C.read_around (home_of c.args.sides.now) (inr refl) c.in-Err.ensures.step.called
+    of_tree)

@@ -1,6 +1,8 @@
-use Rattle.std.proofs.Common.{refl}
+use Rattle.std.proofs.Common.{inr, refl}
 use Rattle.folder_tails.specs.Sides.{home_of}
+use Rattle.folder_tails.proofs.Causes.{stat_around}
 use Rattle.folder_tails.proofs.Leads as L
+use Rattle.folder_tails.proofs.Locking.{had_tail}
 use Rattle.folder_tails.proofs.Traces.{meets}
 use Rattle.folder_tails.proofs.finish.has_tail.Goals as goal
 
@@ -33,11 +35,27 @@ returns-in-Err-Missing-clause-looked g c = (_, c.in-Err-Missing.ensures.step.cal
 pub returns-in-Err-clause-looked : goal.returns-in-Err-clause-looked
 returns-in-Err-clause-looked g c = (_, c.in-Err.ensures.step.called)
 
-pub returns-in-Err-Missing-clause-missed : goal.returns-in-Err-Missing-clause-missed
-returns-in-Err-Missing-clause-missed g c is =
-    L.misses_tail (home_of c.args.sides.now) c.in-Err-Missing.field-0 c.in-Err-Missing.field-0-is
-    c.in-Err-Missing.ensures.step.called
+pub returns-in-Ok-clause-tells : goal.returns-in-Ok-clause-tells
+returns-in-Ok-clause-tells g c = record {
+  missed = λ is. absurd (cc);
+  met = λ is. meets (home_of c.args.sides.now) c.in-Ok.ensures.step.called;
+  had = λ is. had_tail (home_of c.args.sides.now) c.in-Ok.ensures.step.called;
+  why = tt;
+}
 
-pub returns-in-Ok-clause-met : goal.returns-in-Ok-clause-met
-returns-in-Ok-clause-met g c is =
-    meets (home_of c.args.sides.now) c.in-Ok.ensures.step.called
+pub returns-in-Err-Missing-clause-tells : goal.returns-in-Err-Missing-clause-tells
+returns-in-Err-Missing-clause-tells g c = record {
+  missed = λ is. L.misses_tail (home_of c.args.sides.now) c.in-Err-Missing.field-0
+      c.in-Err-Missing.field-0-is c.in-Err-Missing.ensures.step.called;
+  met = λ is. absurd (cc);
+  had = λ is. absurd (cc);
+  why = tt;
+}
+
+pub returns-in-Err-clause-tells : goal.returns-in-Err-clause-tells
+returns-in-Err-clause-tells g c = record {
+  missed = tt;
+  met = tt;
+  had = tt;
+  why = stat_around (home_of c.args.sides.now) (inr refl) c.in-Err.ensures.step.called;
+}

@@ -1,7 +1,11 @@
-use Rattle.std.proofs.Common.{refl, sym}
+use Rattle.std.proofs.Common.{ap, arith, false, inl, inr, length, nat_lt, not, refl, sym, ◌∙◌}
+use Rattle.std.proofs.Common.{◌≡◌, ◌+◌, ◌^◌}
+use Rattle.std.proofs.lemmas.Bool.Decides.{nat_tests}
+use Rattle.folder_tails.specs.Causes.{fits}
 use Rattle.folder_tails.specs.Recovery.{job_of}
 use Rattle.folder_tails.specs.Sides.{home_of}
 use Rattle.folder_tails.specs.Stages.{AnyFile, Decided, Finished, HasLock, Stands, Writing}
+use Rattle.folder_tails.proofs.Causes as C
 use Rattle.folder_tails.proofs.Jobs as J
 use Rattle.folder_tails.proofs.Leads as L
 use Rattle.folder_tails.proofs.finish.put_found.Goals as goal
@@ -56,3 +60,25 @@ pub returns-clause-stays : goal.returns-clause-stays
 returns-clause-stays g c ours =
     let path = home_of c.args.sides.now in
     L.only path ours (returns-clause-ok g c ours) (L.put path ours c.args.text.now)
+
+pub returns-in_default-clause-why : goal.returns-in_default-clause-why
+returns-in_default-clause-why g c =
+    λ of_tree. inl (ap (λ o. not (fits o)) (sym c.in_default.ensures), refl)
+
+pub returns-then-end-at-clause-why : goal.returns-then-end-at-clause-why
+returns-then-end-at-clause-why g c =
+    let past : nat_lt (c.in-Some.at + length c.in-Some.end.now) (2 ^ 64) ≡ false =
+    grind (arith, nat_tests) in
+    λ of_tree. inl (ap (λ o. not (fits o)) (sym c.in-Some.ensures) ∙ ap not past, refl)
+
+pub returns-in_err-sync_names-clause-why : goal.returns-in_err-sync_names-clause-why
+returns-in_err-sync_names-clause-why g c =
+    let path = home_of c.args.sides.now in
+    C.passed_on _ c.from_residual.result c.from_residual.ensures
+    (λ of_tree. inr (C.step_around path c.requires.dir c.in_err-sync_names.ensures.called of_tree))
+
+pub returns-in_err-put_tail-clause-why : goal.returns-in_err-put_tail-clause-why
+returns-in_err-put_tail-clause-why g c =
+    C.passed_on _ c.from_residual-in_err-put_tail.result c.from_residual-in_err-put_tail.ensures
+    (λ of_tree. inr (C.last_later c.in_ok-sync_names.ensures.grows
+    (c.in_err-put_tail.ensures.why of_tree)))

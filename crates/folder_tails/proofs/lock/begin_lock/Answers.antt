@@ -1,5 +1,6 @@
 use Rattle.std.proofs.Common.{false}
 use Rattle.folder_tails.specs.Sides.{home_of}
+use Rattle.folder_tails.proofs.Causes.{seen_before}
 use Rattle.folder_tails.proofs.Leads as L
 use Rattle.folder_tails.proofs.Serving as S
 use Rattle.folder_tails.proofs.Takes as T
@@ -29,7 +30,8 @@ returns-in-Err-clause-serves g c =
 pub returns-in-Err-clause-unfinished : goal.returns-in-Err-clause-unfinished
 returns-in-Err-clause-unfinished g c is =
     let path = home_of c.args.sides.now in
-    let left = c.in-Err.ensures.unfinished is in (
-      meets_before path _ _ _ left.0 (S.leads_grows (c.drop_lock.ensures.stays (λ line. false))),
+    let left = c.in-Err.ensures.unfinished is in
+    let grows = S.leads_grows (c.drop_lock.ensures.stays (λ line. false)) in (
+      (meets_before path _ _ _ left.0.0 grows, seen_before left.0.1 grows),
       alone_then path _ _ _ left.1 c.drop_lock.ensures.alone,
     )

@@ -24,21 +24,21 @@ pub returns-in-Ok-clause-stays : goal.returns-in-Ok-clause-stays
 returns-in-Ok-clause-stays g c ours never =
     let path = home_of c.args.sides.now in
     L.on path ours
-    (T.fresh_missed path ours (c.in-Ok-false.ensures.missed c.in-Ok-false.field-0-test))
+    (T.fresh_missed path ours (c.in-Ok-false.ensures.tells.missed c.in-Ok-false.field-0-test))
     (c.in-Ok.ensures.stays ours)
 
 pub returns-in-Ok-clause-ok : goal.returns-in-Ok-clause-ok
 returns-in-Ok-clause-ok g c ours never =
     let path = home_of c.args.sides.now in
     L.on path ours
-    (T.fresh_missed path ours (c.in-Ok-false.ensures.missed c.in-Ok-false.field-0-test))
+    (T.fresh_missed path ours (c.in-Ok-false.ensures.tells.missed c.in-Ok-false.field-0-test))
     (c.in-Ok.ensures.ok ours)
 
 pub returns-in-Err-put_line-clause-stays : goal.returns-in-Err-put_line-clause-stays
 returns-in-Err-put_line-clause-stays g c ours never =
     let path = home_of c.args.sides.now in
     L.on path ours
-    (T.fresh_missed path ours (c.in-Ok-false.ensures.missed c.in-Ok-false.field-0-test))
+    (T.fresh_missed path ours (c.in-Ok-false.ensures.tells.missed c.in-Ok-false.field-0-test))
     (c.in-Err-put_line.ensures.stays ours)
 
 pub returns-in-Ok-clause-serves : goal.returns-in-Ok-clause-serves
@@ -68,7 +68,10 @@ returns-in-Err-clause-not_locked g c =
 
 pub returns-in-Ok-true-clause-unfinished : goal.returns-in-Ok-true-clause-unfinished
 returns-in-Ok-true-clause-unfinished g c is = (
-  c.in-Ok-true.ensures.met c.in-Ok-true.field-0-test,
+  (
+    c.in-Ok-true.ensures.tells.met c.in-Ok-true.field-0-test,
+    c.in-Ok-true.ensures.tells.had c.in-Ok-true.field-0-test,
+  ),
   alone (home_of c.args.sides.now) c.in-Ok-true.ensures.looked.1 tt,
 )
 

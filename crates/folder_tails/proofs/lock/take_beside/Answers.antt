@@ -1,5 +1,7 @@
 use Rattle.std.proofs.Common.{inl, refl}
 use Rattle.folder_tails.specs.Sides.{home_of}
+use Rattle.folder_tails.specs.Causes.{MadeLock}
+use Rattle.folder_tails.proofs.Causes.{seen_ok}
 use Rattle.folder_tails.proofs.Leads as L
 use Rattle.folder_tails.proofs.Takes as T
 use Rattle.folder_tails.proofs.Traces.{alone}
@@ -17,6 +19,7 @@ returns-in-Ok g c =
     c.begin_lock.ensures.stays c.begin_lock.ensures.ok c.begin_lock.ensures.unfinished
     c.begin_lock.ensures.serves
     c.begin_lock.ensures.not_locked c.begin_lock.ensures.is_held
+    (seen_ok (MadeLock path) (λ tree judged. refl) c.in-Ok.ensures.called)
 
 pub returns-in-Err-Exists : goal.returns-in-Err-Exists
 returns-in-Err-Exists g c =

@@ -27,6 +27,7 @@ returns-in-Ok-false g c =
     c.has_lock.new.held c.in-Ok-false.field-0 _ _
     (c.in-Ok-false.ensures.held ∙ c.in-Ok-false.field-0-test) c.in-Ok-false.ensures.stays
     c.in-Ok-false.ensures.looks c.in-Ok-false.ensures.counts
+    (c.in-Ok-false.ensures.tells.not_ours c.in-Ok-false.field-0-test)
 
 pub returns-in-Err : goal.returns-in-Err
 returns-in-Err g c =

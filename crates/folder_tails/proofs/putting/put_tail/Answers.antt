@@ -4,6 +4,7 @@ use Rattle.folder_stops.specs.Rows.{IsDurable}
 use Rattle.folder_tails.specs.Sides.{home_of}
 use Rattle.folder_tails.specs.Stages.{AnyFile, Begins, Job, whole}
 use Rattle.folder_tails.proofs.Jobs as J
+use Rattle.folder_tails.proofs.Causes as C
 use Rattle.folder_tails.proofs.putting.put_tail.Goals as goal
 
 size_is : (job : Job) (at : ℕ) (end : List ℕ) → at ≡ length job.front → end ≡ job.end
@@ -77,3 +78,49 @@ pub returns-clause-stays : goal.returns-clause-stays
 returns-clause-stays g c job at end =
     let path = home_of c.args.sides.now in
     J.forget path job (returns-clause-ok g c job at end) (J.locked path job)
+
+pub returns-in_err-write_mail-clause-why : goal.returns-in_err-write_mail-clause-why
+returns-in_err-write_mail-clause-why g c =
+    let path = home_of c.args.sides.now in
+    C.passed_on _ c.from_residual.result c.from_residual.ensures
+    (λ of_tree.
+    C.step_around path refl c.in_err-write_mail.ensures.called of_tree)
+
+pub returns-in_err-cut_mail-clause-why : goal.returns-in_err-cut_mail-clause-why
+returns-in_err-cut_mail-clause-why g c =
+    let path = home_of c.args.sides.now in
+    C.passed_on _ c.from_residual-in_err-cut_mail.result c.from_residual-in_err-cut_mail.ensures
+    (λ of_tree.
+    C.last_later c.in_ok-write_mail.ensures.grows
+    (C.step_around path refl c.in_err-cut_mail.ensures.called of_tree))
+
+pub returns-in_err-sync_mail-clause-why : goal.returns-in_err-sync_mail-clause-why
+returns-in_err-sync_mail-clause-why g c =
+    let path = home_of c.args.sides.now in
+    C.passed_on _ c.from_residual-in_err-sync_mail.result c.from_residual-in_err-sync_mail.ensures
+    (λ of_tree.
+    C.last_later c.in_ok-write_mail.ensures.grows
+    (C.last_later c.in_ok-cut_mail.ensures.grows
+    (C.step_around path refl c.in_err-sync_mail.ensures.called of_tree)))
+
+pub returns-in_err-remove_tail-clause-why : goal.returns-in_err-remove_tail-clause-why
+returns-in_err-remove_tail-clause-why g c =
+    let path = home_of c.args.sides.now in
+    C.passed_on _ c.from_residual-in_err-remove_tail.result
+    c.from_residual-in_err-remove_tail.ensures
+    (λ of_tree.
+    C.last_later c.in_ok-write_mail.ensures.grows
+    (C.last_later c.in_ok-cut_mail.ensures.grows
+    (C.last_later c.in_ok-sync_mail.ensures.grows
+    (C.step_around path (inr (inl refl)) c.in_err-remove_tail.ensures.called of_tree))))
+
+pub returns-in_err-sync_names-clause-why : goal.returns-in_err-sync_names-clause-why
+returns-in_err-sync_names-clause-why g c =
+    let path = home_of c.args.sides.now in
+    C.passed_on _ c.from_residual-in_err-sync_names.result c.from_residual-in_err-sync_names.ensures
+    (λ of_tree.
+    C.last_later c.in_ok-write_mail.ensures.grows
+    (C.last_later c.in_ok-cut_mail.ensures.grows
+    (C.last_later c.in_ok-sync_mail.ensures.grows
+    (C.last_later c.in_ok-remove_tail.ensures.grows
+    (C.step_around path c.requires.sides.dir c.in_err-sync_names.ensures.called of_tree)))))

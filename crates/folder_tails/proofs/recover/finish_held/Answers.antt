@@ -10,4 +10,4 @@ returns-in-Ok g c =
 pub returns-in-Err : goal.returns-in-Err
 returns-in-Err g c =
     F.own_refused (home_of c.args.sides.now) c.finish_own.new.held _ c.scan_error.result _ _
-    c.scan_error.ensures c.in-Err.ensures.stays c.in-Err.ensures.counts
+    c.scan_error.ensures c.in-Err.ensures.stays c.in-Err.ensures.counts c.in-Err.ensures.why
