@@ -5,6 +5,8 @@ pub mod FirstLooking
 pub mod MetNames
 pub mod Sturdy
 pub mod Touching
+pub mod MboxTouching
+pub mod Recovering
 pub mod MhMessages
 pub mod MhCalls
 pub mod SliceLemmas

@@ -18,12 +18,12 @@ pub record IsUnwritten (result : Result (Unit {0}) SyncError) (old new : Seen) :
   pub refused : result ≡ Err NotFolder
   pub same : new ≡ old
 
--- a message was added to a folder of a kind, or not
-abbrev pub Appends : Kind → List ℕ → List Mail → Item → Result (Unit {0}) SyncError → Seen → Seen
-    → Type 0
-Appends Mbox path mails item result old new = AddsToMailbox path item result old new
-Appends Maildir path mails item result old new =
+-- a message was added to a folder of a kind for an owner of its lock, or not
+abbrev pub Appends : Kind → List ℕ → List ℕ → List Mail → Item → Result (Unit {0}) SyncError → Seen
+    → Seen → Type 0
+Appends Mbox path owner mails item result old new = AddsToMailbox path owner item result old new
+Appends Maildir path owner mails item result old new =
     AppendsAs maildir_additions path mails item result old new
-Appends Mh path mails item result old new =
+Appends Mh path owner mails item result old new =
     AppendsAs mh_additions path mails item result old new
-Appends Mmdf path mails item result old new = IsUnwritten result old new
+Appends Mmdf path owner mails item result old new = IsUnwritten result old new

@@ -22,4 +22,6 @@ pub mod MboxRegion
 pub mod MboxAppend
 pub mod Appended
 pub mod Recovered
+pub mod Making
+pub mod MboxMade
 pub mod Made

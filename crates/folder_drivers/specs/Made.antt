@@ -12,7 +12,6 @@ use Rattle.disk_model.specs.Seen.{Seen}
 use Rattle.disk_model.specs.State.{State, run_entries, tree_of}
 use Rattle.disk_model.specs.Tree.{TreeNode, folder_of, node_at}
 use Rattle.folder_core.specs.Directory.{is_folder_at}
-use Rattle.folder_core.specs.FirstLook.{Look, first_look}
 use Rattle.folder_core.specs.Kinds.{kind_at}
 use Rattle.folder_core.specs.Maildir.{directory, maildir_messages, maildir_reads}
 use Rattle.folder_core.specs.Message.{Message}
@@ -23,6 +22,8 @@ use Rattle.folder_changes.specs.declared.sync_error.SyncError.{SyncError}
 use Rattle.folder_changes.specs.declared.sync_error.SyncError.TheVariants.{Fault, NoMemory}
 use Rattle.folder_changes.specs.declared.sync_error.SyncError.TheVariants.{NotFolder}
 use Rattle.folder_drivers.specs.Appended.{IsUnwritten}
+use Rattle.folder_drivers.specs.Making.{MakeErrors, MetFirst}
+use Rattle.folder_drivers.specs.MboxMade.{MakesMailbox}
 use Rattle.folder_shapes.specs.Maildir.{maildir_files}
 use Rattle.folder_shapes.specs.Mh.{mh_files}
 use Rattle.folder_stops.specs.Along.{Grown}
@@ -41,15 +42,6 @@ fits_at is_begun path tree (Some node) = is_none node.bytes && is_begun (names_i
 -- a folder may be made at the path
 abbrev pub may_be_made : (List (List ℕ) → Bool) → List ℕ → List TreeNode → Bool
 may_be_made is_begun path tree = fits_at is_begun path tree (node_at tree path)
-
--- the look met such a tree, or one of which that is not so
-abbrev pub IsSoAt : (List TreeNode → Bool) → Bool → Option Look → Type 0
-IsSoAt is_so value None = ⊥
-IsSoAt is_so value (Some look) = is_so look.tree ≡ value
-
--- there was a first call of ours, and it met such a tree, or one of which that is not so
-abbrev pub MetFirst : (List TreeNode → Bool) → Bool → State → List Entry → Type 0
-MetFirst is_so value state entries = IsSoAt is_so value (first_look state entries)
 
 -- What making a folder is.
 
@@ -81,13 +73,6 @@ MadeAlone row path state entries = has_foreign entries ≡ false
 -- the folder's own path, and what is in it
 abbrev pub is_its : FileFolder → List ℕ → List ℕ → Bool
 is_its folder path other = bytes_eq other path || folder.shape.home other
-
--- how the making of a folder may be refused
-abbrev pub MakeErrors : SyncError → Type 0
-MakeErrors Fault = Unit {0}
-MakeErrors NoMemory = Unit {0}
-MakeErrors NotFolder = Unit {0}
-MakeErrors why = ⊥
 
 -- why it was refused: the first look met a place where none may be made, or a call of ours was
 -- refused for a state that is no doing of ours; the disk failed, or memory ran out
@@ -163,9 +148,9 @@ mh_makes = record {
 
 -- By kind.
 
--- a folder of a kind was made, or not; folders in one file are not written yet
+-- a folder of a kind was made, or not; those of MMDF are not written yet
 abbrev pub Makes : Kind → List ℕ → Result (Unit {0}) SyncError → Seen → Seen → Type 0
-Makes Mbox path result old new = IsUnwritten result old new
+Makes Mbox path result old new = MakesMailbox path result old new
 Makes Maildir path result old new = MakesAs maildir_makes path result old new
 Makes Mh path result old new = MakesAs mh_makes path result old new
 Makes Mmdf path result old new = IsUnwritten result old new

@@ -175,11 +175,11 @@ MaildirRefused known mails changes why m n past = ⊥
 -- syncs of Maildirs
 abbrev pub maildir_syncs : SyncRow
 maildir_syncs = record {
-  Works = λ purge known mails changes result old new.
+  Works = λ owner purge known mails changes result old new.
       WorksByName known.path mails changes result old new;
   Keeps = λ known mails changes old new.
       KeepsHolds (maildir_files known.path) (discarded mails changes) old new;
-  IsSynced = λ changes known new_known old new.
+  IsSynced = λ owner changes known new_known old new.
       new_known ≡ record known { listing = listing_synced Maildir changes known.listing };
   MayBe = λ known mails changes why. IsSyncError known.path mails (ids_of changes) why;
   Refused = MaildirRefused;

@@ -96,12 +96,12 @@ abbrev pub MboxAppendErrors : SyncError → Type 0
 MboxAppendErrors (IsChanged spot) = ⊥
 MboxAppendErrors why = Unit {0}
 
--- A message was added to a mailbox by some owner, or not: the file was not read, or it was. Our
--- calls changed the mailbox and the names beside it alone.
-pub record AddsToMailbox (path : List ℕ) (item : Item) (result : Result (Unit {0}) SyncError)
+-- A message was added to a mailbox for an owner of its lock, or not: the file was not read, or it
+-- was. Our calls changed the mailbox and the names beside it alone.
+pub record AddsToMailbox (path owner : List ℕ) (item : Item) (result : Result (Unit {0}) SyncError)
     (old new : Seen) : Type 0 where
-  pub adds : (owner : List ℕ) × (AddsNothing path owner result old.told new.told
-      ⊎ AddsBehind path owner item result old.told new.told)
+  pub adds : AddsNothing path owner result old.told new.told
+      ⊎ AddsBehind path owner item result old.told new.told
   pub here : Does (is_home path) (λ at. None) None old.told new.told
   pub may_be : IfErr result MboxAppendErrors
   pub serves : Serves result old new

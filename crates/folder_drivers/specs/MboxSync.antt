@@ -137,18 +137,18 @@ pub record WasKnown (path owner : List ℕ) (known new_known : KnownFolder) (cha
 
 -- What it is.
 
--- a sync was tried by some owner: the file was not read, or it was
-abbrev pub TriesMailbox : KnownFolder → List Changed → Result (Unit {0}) SyncError → Option Past
-    → Option Past → Type 0
-TriesMailbox known changes result old new =
-    (owner : List ℕ) × (Unread known.path owner known.held result old new
-    ⊎ WasRead known.path owner known.held known changes result old new)
+-- a sync was tried for an owner of the lock: the file was not read, or it was
+abbrev pub TriesMailbox : List ℕ → KnownFolder → List Changed → Result (Unit {0}) SyncError
+    → Option Past → Option Past → Type 0
+TriesMailbox owner known changes result old new =
+    Unread known.path owner known.held result old new
+    ⊎ WasRead known.path owner known.held known changes result old new
 
 -- a file that was read was changed, and what is known of it is what was written
-abbrev pub WritesMailbox : List Changed → KnownFolder → KnownFolder → Option Past → Option Past
-    → Type 0
-WritesMailbox changes known new_known old new =
-    (owner : List ℕ) × WasKnown known.path owner known new_known changes (Ok tt) old new
+abbrev pub WritesMailbox : List ℕ → List Changed → KnownFolder → KnownFolder → Option Past
+    → Option Past → Type 0
+WritesMailbox owner changes known new_known old new =
+    WasKnown known.path owner known new_known changes (Ok tt) old new
 
 -- how it may be refused: what is not as it is known is the file, or a part of it
 abbrev pub MboxErrors : KnownFolder → SyncError → Type 0
@@ -160,7 +160,8 @@ MboxErrors known why = Unit {0}
 -- was done.
 abbrev pub mbox_syncs : SyncRow
 mbox_syncs = record {
-  Works = λ purge known mails changes result old new. TriesMailbox known changes result old new;
+  Works = λ owner purge known mails changes result old new.
+      TriesMailbox owner known changes result old new;
   Keeps = λ known mails changes old new. Unit {0};
   IsSynced = WritesMailbox;
   MayBe = λ known mails changes why. MboxErrors known why;

@@ -180,10 +180,10 @@ MhErrors known mails changes why = ⊥
 -- syncs of MH folders
 abbrev pub mh_syncs : SyncRow
 mh_syncs = record {
-  Works = λ purge known mails changes result old new.
+  Works = λ owner purge known mails changes result old new.
       DidByNumber purge known.path mails changes result old new;
   Keeps = KeepsNumbers;
-  IsSynced = λ changes known new_known old new. new_known ≡ mh_synced changes known;
+  IsSynced = λ owner changes known new_known old new. new_known ≡ mh_synced changes known;
   MayBe = MhErrors;
   Refused = MhRefused;
   home = λ path. (mh_files path).shape.home;

@@ -82,24 +82,21 @@ pub record TakesLeft (path : List ℕ) (result : Result (Unit {0}) ScanError) (o
 
 -- Beside a mailbox in one file a new end may be left over, or what was to become one.
 
--- it was finished or taken away by some owner, or not
-abbrev pub FinishesFor : List ℕ → Bool → Bool → Result (Unit {0}) ScanError → Seen → Seen → Type 0
-FinishesFor path held new_held result old new =
-    (owner : List ℕ) × Finishes path owner held new_held result old new
-
--- what was left over in a folder of a kind was taken away, or not, and its lock is held then or not
-abbrev pub RecoversAs : Kind → List ℕ → Bool → Bool → Result (Unit {0}) ScanError → Seen → Seen
-    → Type 0
-RecoversAs Mbox path held new_held result old new = FinishesFor path held new_held result old new
-RecoversAs Maildir path held new_held result old new = IsIdle result old new
-RecoversAs Mh path held new_held result old new = TakesLeft path result old new
-RecoversAs Mmdf path held new_held result old new = IsIdle result old new
+-- what was left over in a folder of a kind was finished or taken away for an owner of its lock, or
+-- not, and its lock is held then or not
+abbrev pub RecoversAs : Kind → List ℕ → List ℕ → Bool → Bool → Result (Unit {0}) ScanError → Seen
+    → Seen → Type 0
+RecoversAs Mbox path owner held new_held result old new =
+    Finishes path owner held new_held result old new
+RecoversAs Maildir path owner held new_held result old new = IsIdle result old new
+RecoversAs Mh path owner held new_held result old new = TakesLeft path result old new
+RecoversAs Mmdf path owner held new_held result old new = IsIdle result old new
 
 -- What was left over was taken away, or not; what is known of the folder stays, but for whether its
 -- lock is held, and stays right.
-pub record Recovers (kind : Kind) (known new_known : KnownFolder)
+pub record Recovers (kind : Kind) (owner : List ℕ) (known new_known : KnownFolder)
     (result : Result (Unit {0}) ScanError) (old new : Seen) : Type 0 where
-  pub does : RecoversAs kind known.path known.held new_known.held result old new
+  pub does : RecoversAs kind known.path owner known.held new_known.held result old new
   pub known_is : new_known ≡ record known { held = new_known.held }
   pub right : (mails : List Mail) → Right kind mails known old.told
       → Right kind mails new_known new.told

@@ -12,13 +12,14 @@ use Rattle.folder_stops.specs.Does.{Does}
 
 -- what a sync of a kind of folders is
 pub record SyncRow : Type 1 where
-  -- what it did to the messages, mark by mark, where it was answered so
-  pub Works : Bool → KnownFolder → List Mail → List Changed → Result (Unit {0}) SyncError
-      → Option Past → Option Past → Type 0
+  -- what it did to the messages for an owner, mark by mark, where it was answered so
+  pub Works : List ℕ → Bool → KnownFolder → List Mail → List Changed
+      → Result (Unit {0}) SyncError → Option Past → Option Past → Type 0
   -- which messages each stop leaves, whatever it was answered
   pub Keeps : KnownFolder → List Mail → List Changed → Option Past → Option Past → Type 0
   -- what is known of the folder behind one that was answered Ok
-  pub IsSynced : List Changed → KnownFolder → KnownFolder → Option Past → Option Past → Type 0
+  pub IsSynced : List ℕ → List Changed → KnownFolder → KnownFolder → Option Past → Option Past
+      → Type 0
   -- how it may be refused
   pub MayBe : KnownFolder → List Mail → List Changed → SyncError → Type 0
   -- why it was refused so between two marks of a past, as far as that is told
@@ -31,13 +32,13 @@ pub record SyncRow : Type 1 where
 -- known is so; after a refusal a part of it was done or nothing, what is known is as before, but
 -- that its lock may be held now or no longer, and the refusal had its cause. Whatever the answer,
 -- each stop leaves the messages, and our calls changed the folder alone.
-pub record SyncsAs (row : SyncRow) (purge : Bool) (mails : List Mail) (changes : List Changed)
-    (known new_known : KnownFolder) (result : Result (Unit {0}) SyncError) (old new : Seen)
-    : Type 0 where
-  pub works : row.Works purge known mails changes result old.told new.told
+pub record SyncsAs (row : SyncRow) (owner : List ℕ) (purge : Bool) (mails : List Mail)
+    (changes : List Changed) (known new_known : KnownFolder) (result : Result (Unit {0}) SyncError)
+    (old new : Seen) : Type 0 where
+  pub works : row.Works owner purge known mails changes result old.told new.told
   pub keeps : row.Keeps known mails changes old.told new.told
   pub here : Does (row.home known.path) (row.making known.path) None old.told new.told
-  pub ok_known : OnOk result (row.IsSynced changes known new_known old.told new.told)
+  pub ok_known : OnOk result (row.IsSynced owner changes known new_known old.told new.told)
   pub err_known : OnErr result (new_known ≡ record known { held = new_known.held })
   pub may_be : IfErr result (row.MayBe known mails changes)
   pub cause : IfErr result (λ why.

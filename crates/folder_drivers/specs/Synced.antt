@@ -1,5 +1,5 @@
 -- What a sync of a folder did, whatever its kind.
-use Rattle.std.specs.Prelude.{◌≡◌, Bool, false, List, Option, None, Result, OnOk}
+use Rattle.std.specs.Prelude.{◌≡◌, ℕ, Bool, false, List, Option, None, Result, OnOk}
 use Rattle.mail_base.specs.declared.kind.Kind.{Kind}
 use Rattle.mail_base.specs.declared.kind.Kind.TheVariants.{Maildir, Mbox, Mh, Mmdf}
 use Rattle.disk_model.specs.Journal.{Past}
@@ -24,9 +24,9 @@ StaysAsIs result old new = OnOk result ⊥ × (new ≡ old)
 -- nothing.
 abbrev pub unwritten_syncs : SyncRow
 unwritten_syncs = record {
-  Works = λ purge known mails changes result old new. StaysAsIs result old new;
+  Works = λ owner purge known mails changes result old new. StaysAsIs result old new;
   Keeps = λ known mails changes old new. new ≡ old;
-  IsSynced = λ changes known new_known old new. ⊥;
+  IsSynced = λ owner changes known new_known old new. ⊥;
   MayBe = λ known mails changes why. why ≡ NotFolder;
   Refused = λ known mails changes why. Untold;
   home = λ path other. false;
@@ -40,9 +40,10 @@ sync_row Maildir = maildir_syncs
 sync_row Mh = mh_syncs
 sync_row Mmdf = unwritten_syncs
 
--- A sync of a folder, as that of its kind; what is known of it is right then.
-pub record Syncs (kind : Kind) (purge : Bool) (mails : List Mail) (changes : List Changed)
-    (known new_known : KnownFolder) (result : Result (Unit {0}) SyncError) (old new : Seen)
-    : Type 0 where
-  pub syncs : SyncsAs (sync_row kind) purge mails changes known new_known result old new
+-- A sync of a folder for an owner of its lock, as that of its kind; what is known of it is right
+-- then.
+pub record Syncs (kind : Kind) (owner : List ℕ) (purge : Bool) (mails : List Mail)
+    (changes : List Changed) (known new_known : KnownFolder) (result : Result (Unit {0}) SyncError)
+    (old new : Seen) : Type 0 where
+  pub syncs : SyncsAs (sync_row kind) owner purge mails changes known new_known result old new
   pub right : Right kind mails new_known new.told

@@ -64,8 +64,9 @@ pub trait Driver: Drop {
             (seen (dev.old.disk.vtable, dev.old.disk.value)).told }
         requires listed { AreListed known.old.listing (plain_changes changes.now.items) }
         requires once { AreOnce (plain_changes changes.now.items) }
-        ensures { Syncs (sort self.now) purge_files (map plain_letter archive.now.items)
-            (plain_changes changes.now.items) known.old known.new result
+        ensures { Syncs (sort self.now) owner.now purge_files
+            (map plain_letter archive.now.items) (plain_changes changes.now.items)
+            known.old known.new result
             (seen (dev.old.disk.vtable, dev.old.disk.value))
             (seen (dev.new.disk.vtable, dev.new.disk.value)) };
 
@@ -78,7 +79,7 @@ pub trait Driver: Drop {
         owner: &[u8],
     ) -> Result<(), ScanError>
         requires { known.old.kind ≡ sort self.now }
-        ensures { Recovers (sort self.now) known.old known.new result
+        ensures { Recovers (sort self.now) owner.now known.old known.new result
             (seen (dev.old.disk.vtable, dev.old.disk.value))
             (seen (dev.new.disk.vtable, dev.new.disk.value)) };
 
@@ -93,8 +94,8 @@ pub trait Driver: Drop {
         archive: &Archive,
         item: &Item,
     ) -> Result<(), SyncError>
-        ensures { Appends (sort self.now) path.now (map plain_letter archive.now.items) item.now
-            result (seen (dev.old.disk.vtable, dev.old.disk.value))
+        ensures { Appends (sort self.now) path.now owner.now (map plain_letter archive.now.items)
+            item.now result (seen (dev.old.disk.vtable, dev.old.disk.value))
             (seen (dev.new.disk.vtable, dev.new.disk.value)) };
 
     /// Makes an empty folder at a path, or what is missing of one that was begun. A folder that

@@ -114,7 +114,7 @@ impl Drivers {
             (seen (dev.old.disk.vtable, dev.old.disk.value)).told }
         requires listed { AreListed known.old.listing (plain_changes changes.now.items) }
         requires once { AreOnce (plain_changes changes.now.items) }
-        ensures { Syncs kind purge_files (map plain_letter archive.now.items)
+        ensures { Syncs kind owner.now purge_files (map plain_letter archive.now.items)
             (plain_changes changes.now.items) known.old known.new result
             (seen (dev.old.disk.vtable, dev.old.disk.value))
             (seen (dev.new.disk.vtable, dev.new.disk.value)) }
@@ -145,7 +145,7 @@ impl Drivers {
     ) -> Result<(), ScanError>
         requires has { Any (λ d. sort d ≡ kind) self.now.list.items }
         requires kind { known.old.kind ≡ kind }
-        ensures { Recovers kind known.old known.new result
+        ensures { Recovers kind owner.now known.old known.new result
             (seen (dev.old.disk.vtable, dev.old.disk.value))
             (seen (dev.new.disk.vtable, dev.new.disk.value)) }
     {
@@ -167,8 +167,8 @@ impl Drivers {
         item: &Item,
     ) -> Result<(), SyncError>
         requires has { Any (λ d. sort d ≡ kind) self.now.list.items }
-        ensures { Appends kind path.now (map plain_letter archive.now.items) item.now result
-            (seen (dev.old.disk.vtable, dev.old.disk.value))
+        ensures { Appends kind path.now owner.now (map plain_letter archive.now.items) item.now
+            result (seen (dev.old.disk.vtable, dev.old.disk.value))
             (seen (dev.new.disk.vtable, dev.new.disk.value)) }
     {
         let Some(driver) = self.get(kind) else {
@@ -236,7 +236,7 @@ fn sync_at(
         (seen (dev.old.disk.vtable, dev.old.disk.value)).told }
     requires listed { AreListed known.old.listing (plain_changes changes.now.items) }
     requires once { AreOnce (plain_changes changes.now.items) }
-    ensures { Syncs (sort driver.now) purge_files (map plain_letter archive.now.items)
+    ensures { Syncs (sort driver.now) owner.now purge_files (map plain_letter archive.now.items)
         (plain_changes changes.now.items) known.old known.new result
         (seen (dev.old.disk.vtable, dev.old.disk.value))
         (seen (dev.new.disk.vtable, dev.new.disk.value)) }
@@ -253,7 +253,7 @@ fn recover_at(
     owner: &[u8],
 ) -> Result<(), ScanError>
     requires { known.old.kind ≡ sort driver.now }
-    ensures { Recovers (sort driver.now) known.old known.new result
+    ensures { Recovers (sort driver.now) owner.now known.old known.new result
         (seen (dev.old.disk.vtable, dev.old.disk.value))
         (seen (dev.new.disk.vtable, dev.new.disk.value)) }
 {
@@ -270,8 +270,8 @@ fn append_at(
     archive: &Archive,
     item: &Item,
 ) -> Result<(), SyncError>
-    ensures { Appends (sort driver.now) path.now (map plain_letter archive.now.items) item.now
-        result (seen (dev.old.disk.vtable, dev.old.disk.value))
+    ensures { Appends (sort driver.now) path.now owner.now (map plain_letter archive.now.items)
+        item.now result (seen (dev.old.disk.vtable, dev.old.disk.value))
         (seen (dev.new.disk.vtable, dev.new.disk.value)) }
 {
     driver.append(alloc, dev, path, owner, archive, item)

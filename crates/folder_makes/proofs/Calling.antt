@@ -127,6 +127,10 @@ module _ (D F : List ℕ → Type 0) where
   IsQuiet (Create path) = IsFresh path
   IsQuiet call = ⊥
 
+  read_leaves : (path : List ℕ) (limit : ℕ) (q : List ℕ) → Leaves (ReadAll path limit) q
+  read_leaves path limit q Done state = refl
+  read_leaves path limit q (Refused why wrote) state = refl
+
   list_leaves : (dir q : List ℕ) → Leaves (ListDir dir) q
   list_leaves dir q Done state = refl
   list_leaves dir q (Refused why wrote) state = refl
@@ -136,7 +140,8 @@ module _ (D F : List ℕ → Type 0) where
   keeps_folder q apart (ListDir dir) is = folder_left (ListDir dir) q (list_leaves dir q)
   keeps_folder q apart (StatPath path) is = absurd is
   keeps_folder q apart (ReadFront path size) is = absurd is
-  keeps_folder q apart (ReadAll path limit) is = absurd is
+  keeps_folder q apart (ReadAll path limit) is =
+      folder_left (ReadAll path limit) q (read_leaves path limit q)
   keeps_folder q apart (Create path) is =
       folder_left (Create path) q (created_leaves path q (apart path is))
   keeps_folder q apart (WriteAt path at piece) is = absurd is
@@ -151,7 +156,7 @@ module _ (D F : List ℕ → Type 0) where
   leaves_path q fresh (ListDir dir) is = list_leaves dir q
   leaves_path q fresh (StatPath path) is = absurd is
   leaves_path q fresh (ReadFront path size) is = absurd is
-  leaves_path q fresh (ReadAll path limit) is = absurd is
+  leaves_path q fresh (ReadAll path limit) is = read_leaves path limit q
   leaves_path q fresh (Create path) is = created_leaves path q (fresh.files path is)
   leaves_path q fresh (WriteAt path at piece) is = absurd is
   leaves_path q fresh (Cut path size) is = absurd is

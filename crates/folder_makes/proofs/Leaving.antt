@@ -18,8 +18,8 @@ use Rattle.folder_stops.specs.Does.{AllOwn}
 use Rattle.std.proofs.lemmas.Bool.{and_from}
 use Rattle.std.specs.Prelude.{OnOk, is_some, option_and_then}
 use Rattle.folder_stops.specs.Along.{Grown}
-use Rattle.folder_stops.proofs.Along.{grown_both, grown_map, grown_then, judged_grown}
-use Rattle.folder_makes.specs.Parts.{IsMaking, Leaves, LeavesMaildir, MakesBy, Nowhere}
+use Rattle.folder_stops.proofs.Along.{done_grown, grown_both, grown_map, grown_then, judged_grown}
+use Rattle.folder_makes.specs.Parts.{IsMaking, Leaves, LeavesMaildir, MakesBy, NamesKept, Nowhere}
 use Rattle.folder_makes.proofs.Calling.{by_then, unmade}
 
 none_by : (bytes : Option (List ℕ))
@@ -50,6 +50,15 @@ kept_leaves dir {a} {b} took = record {
       ap (λ (l : List Entry). is_folder_at (tree_of (run_entries l s)) dir) is.1
       ∙ ap (λ (t : State). is_folder_at (tree_of t) dir) (run_last is.0 (Own (SyncDir dir) Done) s)
       ∙ by_node (node_at (tree_of (run_entries (map Others is.0) s)) dir) is.2);
+}
+
+-- and all names are on the disk then
+pub names_kept : (dir : List ℕ) {a b : Option Past}
+    → Called (Ok tt) (SyncDir dir) (done_by (SyncDir dir)) a b → NamesKept a b
+names_kept dir {a} {b} took = record {
+  grown = grown_map a b _ _ (done_grown tt (SyncDir dir) (done_by (SyncDir dir)) a b took.goes)
+      (λ s es is. ap (λ (l : List Entry). (run_entries l s).earlier) is.1
+      ∙ ap (λ (t : State). t.earlier) (run_last is.0 (Own (SyncDir dir) Done) s));
 }
 
 -- Where nobody else acts.

@@ -8,3 +8,9 @@ pub mod Placing
 pub mod Messages
 pub mod Whole
 pub mod MhMade
+pub mod MboxRead
+pub mod MboxMade
+pub mod MboxParts
+pub mod MboxStops
+pub mod MboxBegun
+pub mod MboxKept

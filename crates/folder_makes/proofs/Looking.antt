@@ -26,7 +26,8 @@ use Rattle.folder_core.specs.FirstLook.{Look, first_look}
 use Rattle.folder_core.proofs.LookedLemmas.{list_missing, list_tells}
 use Rattle.folder_stops.specs.Along.{Grown}
 use Rattle.folder_stops.proofs.Along.{grown_map, grown_then, judged_grown}
-use Rattle.folder_drivers.specs.Made.{IsSoAt, MetFirst, fits_at, may_be_made}
+use Rattle.folder_drivers.specs.Made.{fits_at, may_be_made}
+use Rattle.folder_drivers.specs.Making.{IsSoAt, MetFirst}
 use Rattle.folder_drivers.specs.MetNames.{plain_names}
 use Rattle.folder_makes.specs.Parts.{AreNames, FoundAround, LookedAt, MakesBy, MetNames}
 use Rattle.folder_makes.proofs.Leaving.{run_last}
@@ -99,7 +100,7 @@ tree_folder s q =
     ap is_folder_node (node_at-tree_of s q) ∙ node_folder s.files q (name_at s.names q)
 
 -- a folder that stands behind actions of others stood before
-folder_before : (actions : List Action) (s : State) (q : List ℕ)
+pub folder_before : (actions : List Action) (s : State) (q : List ℕ)
     → is_folder_at (tree_of (run_entries (map Others actions) s)) q ≡ true
     → is_folder_at (tree_of s) q ≡ true
 folder_before [] s q is = is
@@ -117,15 +118,15 @@ folder_before (action ∷ actions) s q is =
 -- What a look meets.
 
 -- others act, and then comes a call of ours
-first_last : (actions : List Action) (call : Call) (answer : Answer) (s : State) (es : List Entry)
-    → first_look s (map Others actions ++ Own call answer ∷ es)
+pub first_last : (actions : List Action) (call : Call) (answer : Answer) (s : State)
+    (es : List Entry) → first_look s (map Others actions ++ Own call answer ∷ es)
     ≡ Some (record { tree = tree_of (run_entries (map Others actions) s); answer = answer })
 first_last [] call answer s es = refl
 first_last (action ∷ actions) call answer s es =
     first_last actions call answer (after_entry s (Others action)) es
 
 -- the first look stays the first
-look_more : (Tells : List TreeNode → Type 0) (s : State) (xs ys : List Entry)
+pub look_more : (Tells : List TreeNode → Type 0) (s : State) (xs ys : List Entry)
     → LookedAt Tells (first_look s xs) → LookedAt Tells (first_look s (xs ++ ys))
 look_more Tells s [] ys looked = absurd looked
 look_more Tells s (Own call answer ∷ xs) ys looked = looked
@@ -147,7 +148,7 @@ names_met path names {a} {b} took = record {
 
 -- A directory that is made.
 
-below_told : (node at : Option TreeNode)
+pub below_told : (node at : Option TreeNode)
     → ◌≡◌ {A = Result (Unit {0}) DiskError} (Ok tt)
     (answer_by (first_refusal (below_refusal node) (free_refusal at)) tt)
     → is_folder_node node ≡ true
@@ -247,7 +248,7 @@ fits is_begun path names tree start (inl is) = by (node_at tree path) is.0
 fits is_begun path names tree start (inr is) =
     ap (fits_at is_begun path tree) is.0 ∙ is.1 ∙ sym start ∙ ap is_begun (sym is.2)
 
-first_so : (is_so : List TreeNode → Bool) (value : Bool) (Tells : List TreeNode → Type 0)
+pub first_so : (is_so : List TreeNode → Bool) (value : Bool) (Tells : List TreeNode → Type 0)
     (look : Option Look) → ((tree : List TreeNode) → Tells tree → is_so tree ≡ value)
     → LookedAt Tells look → IsSoAt is_so value look
 first_so is_so value Tells None turns looked = absurd looked

@@ -23,9 +23,9 @@ use Rattle.folder_stops.specs.Others.{MayDo, MayDoTo}
 use Rattle.folder_stops.specs.Syncs.{KeepsHolds}
 use Rattle.folder_stops.proofs.Along.{grown_map}
 use Rattle.folder_stops.proofs.LawsOfFolders.{sync_keeps}
-use Rattle.folder_drivers.specs.Made.{MadeAlone, MakeErrors, MakeRefused, MakeRow, MakesAs}
-use Rattle.folder_drivers.specs.Made.{MetFirst}
+use Rattle.folder_drivers.specs.Made.{MadeAlone, MakeRefused, MakeRow, MakesAs}
 use Rattle.folder_drivers.specs.Made.{is_its, may_be_made}
+use Rattle.folder_drivers.specs.Making.{MakeErrors, MetFirst}
 use Rattle.folder_makes.specs.Parts.{IsMaking, IsPart, MakesBy}
 use Rattle.folder_makes.proofs.Calling.{by_grows, own_as}
 use Rattle.folder_drivers.specs.Refusing.{IsAny, RefusedFor}
@@ -54,7 +54,7 @@ module _ (folder : FileFolder) (path : List ℕ) (D F : List ℕ → Type 0)
   within (ListDir dir) is = tt
   within (StatPath at) is = absurd is
   within (ReadFront at size) is = absurd is
-  within (ReadAll at limit) is = absurd is
+  within (ReadAll at limit) is = tt
   within (Create at) is = apart.file_home at is
   within (WriteAt at from piece) is = absurd is
   within (Cut at size) is = absurd is

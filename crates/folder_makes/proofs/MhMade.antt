@@ -153,7 +153,7 @@ no_sequences : (found : Option TreeNode)
 no_sequences None is = refl
 no_sequences (Some node) is = absurd (cc)
 
-free_told : (below found : Option TreeNode)
+pub free_told : (below found : Option TreeNode)
     → first_refusal (below_refusal below) (free_refusal found) ≡ None → free_refusal found ≡ None
 free_told None found is = absurd (cc)
 free_told (Some node) found is = by (is_none node.bytes) is
@@ -221,7 +221,8 @@ mh_call path (Create p) Done s sturdy lawful is =
 mh_call path (Create p) (Refused why wrote) s sturdy lawful is = refl
 mh_call path (StatPath at) answer s sturdy lawful is = absurd is
 mh_call path (ReadFront at size) answer s sturdy lawful is = absurd is
-mh_call path (ReadAll at limit) answer s sturdy lawful is = absurd is
+mh_call path (ReadAll at limit) Done s sturdy lawful is = refl
+mh_call path (ReadAll at limit) (Refused why wrote) s sturdy lawful is = refl
 mh_call path (WriteAt at from piece) answer s sturdy lawful is = absurd is
 mh_call path (Cut at size) answer s sturdy lawful is = absurd is
 mh_call path (Sync at) answer s sturdy lawful is = absurd is
@@ -274,7 +275,7 @@ mh_told empty path tree folder there no_cur = by (node_at tree path) folder
 
 -- Parts.
 
-kept_tree : (es : List Entry) (s : State)
+pub kept_tree : (es : List Entry) (s : State)
     → AllOwn (λ call answer. IsMaking Nowhere Nowhere call) es → has_foreign es ≡ false
     → tree_of (run_entries es s) ≡ tree_of s
 kept_tree [] s all none = refl
@@ -291,7 +292,8 @@ kept_tree (Own call answer ∷ es) s all none =
     by (Create p) answer is = absurd is
     by (StatPath at) answer is = absurd is
     by (ReadFront at size) answer is = absurd is
-    by (ReadAll at limit) answer is = absurd is
+    by (ReadAll at limit) Done is = refl
+    by (ReadAll at limit) (Refused why wrote) is = refl
     by (WriteAt at from piece) answer is = absurd is
     by (Cut at size) answer is = absurd is
     by (Sync at) answer is = absurd is

@@ -14,7 +14,7 @@ use Rattle.folder_changes.specs.Refused.{IsBetween, refused_by}
 use Rattle.folder_changes.specs.declared.sync_error.SyncError.{SyncError}
 use Rattle.folder_changes.specs.declared.sync_error.SyncError.TheVariants.{Fault, NoMemory}
 use Rattle.folder_changes.proofs.TraceLemmas.{asked_by}
-use Rattle.folder_drivers.specs.Made.{MakeErrors}
+use Rattle.folder_drivers.specs.Making.{MakeErrors}
 use Rattle.folder_drivers.proofs.Refusing.{blamed_now}
 use Rattle.folder_makes.specs.Parts.{IsAt, IsKeep, IsMaking, IsPart, NeedsKept, Nowhere}
 use Rattle.folder_makes.proofs.Calling.{IsFresh, IsQuiet, by_as, by_call, by_grows, by_none}

@@ -1,32 +1,37 @@
 -- Parts of the making of a folder: by which calls they go on, and why they are refused.
 use Rattle.std.specs.Prelude.{◌≡◌, ◌≤◌, ◌⊎◌, ℕ, true, false, List, [], ◌∷◌, Option, Some, None}
-use Rattle.std.specs.Prelude.{Result, IfErr, IsErrOf, codes}
+use Rattle.std.specs.Prelude.{OnOk, Result, IfErr, IsErrOf, codes}
 use Rattle.mail_base.specs.Faults.{Rose}
-use Rattle.disk_model.specs.Journal.{Call, Create, ListDir, MakeDir, Past, SyncDir}
+use Rattle.disk_model.specs.Journal.{Call, Create, Entry, ListDir, MakeDir, Past, ReadAll, SyncDir}
 use Rattle.disk_model.specs.Names.{names_in}
 use Rattle.disk_model.specs.Journal.{has_foreign}
 use Rattle.disk_model.specs.Seen.{Seen}
-use Rattle.disk_model.specs.State.{run_entries, tree_of}
+use Rattle.disk_model.specs.State.{State, is_file, name_at, run_entries, tree_of}
 use Rattle.disk_model.specs.Tree.{TreeNode, folder_of, node_at}
-use Rattle.folder_core.specs.Directory.{is_folder_at, path_in}
+use Rattle.folder_core.specs.Directory.{file_at, is_folder_at, path_in}
 use Rattle.folder_core.specs.FirstLook.{Look, first_look}
 use Rattle.folder_core.specs.Maildir.{is_maildir}
 use Rattle.folder_core.specs.Mh.{sequences_path}
 use Rattle.folder_changes.specs.Refused.{IsBetween}
+use Rattle.folder_changes.specs.Serving.{Serves}
 use Rattle.folder_changes.specs.declared.sync_error.SyncError.{SyncError}
 use Rattle.folder_changes.specs.declared.sync_error.SyncError.TheVariants.{Fault}
-use Rattle.folder_drivers.specs.Made.{MakeErrors}
+use Rattle.folder_drivers.specs.Making.{MakeErrors, MetFirst}
+use Rattle.folder_drivers.specs.MboxMade.{MadeMailboxAlone, MailboxRefused, MayDoThere}
+use Rattle.folder_drivers.specs.MboxMade.{may_be_mailbox}
 use Rattle.folder_drivers.specs.MaildirAppend.{is_there}
-use Rattle.folder_stops.specs.Along.{Grown}
+use Rattle.folder_stops.specs.Along.{Allows, Grown}
 use Rattle.folder_stops.specs.Does.{AllOwn}
+use Rattle.folder_tails.specs.Rows.{IsSound}
 use Rattle.folder_drivers.specs.Refusing.{RefusedFor}
 
 -- Calls.
 
--- a call that looks into a directory, makes one of these directories or files, or puts names on the
--- disk
+-- a call that looks into a directory or a file, makes one of these directories or files, or puts
+-- names on the disk
 abbrev pub IsMaking : (List ℕ → Type 0) → (List ℕ → Type 0) → Call → Type 0
 IsMaking Dirs Files (ListDir dir) = Unit {0}
+IsMaking Dirs Files (ReadAll path limit) = Unit {0}
 IsMaking Dirs Files (MakeDir path) = Dirs path
 IsMaking Dirs Files (Create path) = Files path
 IsMaking Dirs Files (SyncDir dir) = Unit {0}
@@ -133,3 +138,38 @@ pub record FoundAround (path : List ℕ) (old new : Option Past) : Type 0 where
 pub record SequencesKept (path : List ℕ) (old new : Option Past) : Type 0 where
   pub grown : Grown old new (λ state entries. has_foreign entries ≡ false
       → is_there (sequences_path path) (tree_of (run_entries entries state)) ≡ true)
+
+-- Where nobody else acts an empty file stands at the path.
+pub record LeavesEmpty (path : List ℕ) (old new : Option Past) : Type 0 where
+  pub grown : Grown old new (λ state entries. has_foreign entries ≡ false
+      → file_at (tree_of (run_entries entries state)) path ≡ Some [])
+
+-- All names are on the disk in the end.
+pub record NamesKept (old new : Option Past) : Type 0 where
+  pub grown : Grown old new (λ state entries. (run_entries entries state).earlier ≡ [])
+
+-- a file stands at the path, and all names are on the disk
+abbrev pub IsKeptAt : List ℕ → State → Type 0
+IsKeptAt path state = (is_file (name_at state.names path) ≡ true) × (state.earlier ≡ [])
+
+-- Where others do what they may, a file stands at the path in the end, and all names are on the
+-- disk.
+pub record LeavesKept (path : List ℕ) (old new : Option Past) : Type 0 where
+  pub grown : Grown old new (λ state entries. IsSound state
+      → Allows (MayDoThere path) entries state → IsKeptAt path (run_entries entries state))
+
+-- the same where no file stood there
+abbrev pub EndsKept : List ℕ → State → List Entry → Type 0
+EndsKept path state entries = is_file (name_at state.names path) ≡ false → IsSound state
+    → Allows (MayDoThere path) entries state → IsKeptAt path (run_entries entries state)
+
+-- A mailbox in one file was made, or not: by which calls, and why not.
+pub record TriesMailbox (path : List ℕ) (result : Result (Unit {0}) SyncError) (old new : Seen)
+    : Type 0 where
+  pub calls : MakesBy Nowhere (IsAt path) old.told new.told
+  pub kept : OnOk result (Grown old.told new.told (EndsKept path))
+  pub made : OnOk result (Grown old.told new.told (MadeMailboxAlone path))
+  pub looked : OnOk result (Grown old.told new.told (MetFirst (may_be_mailbox path) true))
+  pub may_be : IfErr result MakeErrors
+  pub cause : IfErr result (λ why. MailboxRefused path why old.told new.told)
+  pub serves : Serves result old new

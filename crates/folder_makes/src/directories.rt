@@ -4,7 +4,7 @@ ghost use Rattle.std.specs.Prelude.{◌≡◌, ◌∷◌, [], OnOk};
 ghost use Rattle.disk_model.specs.Journal.{MakeDir, SyncDir};
 ghost use Rattle.folder_core.specs.Directory.{path_in as path_in_lem};
 ghost use Rattle.folder_makes.specs.Parts.{IsAt, IsIn, IsKeep, IsPart, Leaves, LeavesMaildir};
-ghost use Rattle.folder_makes.specs.Parts.{Nowhere};
+ghost use Rattle.folder_makes.specs.Parts.{NamesKept, Nowhere};
 ghost use Rattle.folder_makes.specs.Parts.{maildir_names, NeedsIn, NeedsKept};
 ghost use Rattle.folder_drivers.specs.Refusing.{IsMake};
 
@@ -52,6 +52,7 @@ pub fn keep(alloc: Global, disk: &mut dyn Disk, dir: &str) -> Result<(), SyncErr
     ensures part { IsPart Nowhere Nowhere (IsKeep dir.now) result
         (seen disk.old) (seen disk.new) }
     ensures there { OnOk result (Leaves dir.now (seen disk.old).told (seen disk.new).told) }
+    ensures kept { OnOk result (NamesKept (seen disk.old).told (seen disk.new).told) }
 {
     match disk.sync_dir(alloc, dir) {
         Ok(()) => Ok(()),

@@ -4,7 +4,9 @@
 mod beginning;
 mod directories;
 mod maildir;
+mod mbox;
 mod mh;
 
 pub use maildir::make_maildir;
+pub use mbox::make_mbox;
 pub use mh::make_mh;

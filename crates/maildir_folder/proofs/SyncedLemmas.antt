@@ -145,9 +145,10 @@ pub syncs_not : (mails : List Mail) (changes : List Changed) (known new_known : 
     → IsSyncError known.path mails (ids_of changes) why
     → IsBetween (MaildirRefused known mails changes why) old.told new.told
     → Serves {A = Unit {0}} (Err why) old new
-    → (purge : Bool) → Syncs Maildir purge mails changes known new_known (Err why) old new
+    → (owner : List ℕ) → (purge : Bool)
+    → Syncs Maildir owner purge mails changes known new_known (Err why) old new
 syncs_not mails changes known new_known why old new same right does holds here names cause serves
-    purge =
+    owner purge =
     record {
       syncs = record {
         works = does;
@@ -172,9 +173,10 @@ pub syncs_done : (mails : List Mail) (changes : List Changed) (known new_known :
     → WorksByName known.path mails changes (Ok tt) old.told new.told
     → KeepsHolds (maildir_files known.path) (discarded mails changes) old.told new.told
     → IsHere known.path old new → Serves {A = Unit {0}} (Ok tt) old new
-    → (purge : Bool) → Syncs Maildir purge mails changes known new_known (Ok tt) old new
+    → (owner : List ℕ) → (purge : Bool)
+    → Syncs Maildir owner purge mails changes known new_known (Ok tt) old new
 syncs_done mails changes known new_known listing bytes stamps old new is no_bytes no_stamps put
-    right does holds here serves purge = record {
+    right does holds here serves owner purge = record {
       syncs = record {
         works = does;
         keeps = holds;
@@ -294,7 +296,8 @@ cause_letters slice letters changes known why old new is cause =
 -- a sync for which memory ran out before its first call
 pub syncs_none : (mails : List Mail) (changes : List Changed) (known : KnownFolder) (seen : Seen)
     → Right Maildir mails known seen.told
-    → (purge : Bool) → Syncs Maildir purge mails changes known known (Err NoMemory) seen seen
+    → (owner : List ℕ) → (purge : Bool)
+    → Syncs Maildir owner purge mails changes known known (Err NoMemory) seen seen
 syncs_none mails changes known seen right =
     syncs_not mails changes known known NoMemory seen seen refl right
     (works_none known.path mails changes NoMemory seen.told seen.told

@@ -62,12 +62,20 @@ impl Driver for MaildirDriver {
         alloc: Global,
         dev: &mut Device,
         known: &mut Known,
-        _owner: &[u8],
+        owner: &[u8],
         purge_files: bool,
         archive: &Archive,
         changes: &Changes,
     ) -> Result<(), SyncError> {
-        sync_changes(alloc, &mut *dev.disk, known, archive, changes, purge_files)
+        sync_changes(
+            alloc,
+            &mut *dev.disk,
+            known,
+            owner,
+            purge_files,
+            archive,
+            changes,
+        )
     }
 
     /// Does nothing: neither a sync nor an append leaves something over.
@@ -104,15 +112,16 @@ fn sync_changes(
     alloc: Global,
     disk: &mut dyn Disk,
     known: &mut Known,
+    _owner: &[u8],
+    _purge_files: bool,
     archive: &Archive,
     changes: &Changes,
-    _purge_files: bool,
 ) -> Result<(), SyncError>
     requires right { Right Maildir (map plain_letter archive.now.items) known.old
         (seen disk.old).told }
     requires listed { AreListed known.old.listing (plain_changes changes.now.items) }
     requires once { AreOnce (plain_changes changes.now.items) }
-    ensures { Syncs Maildir _purge_files (map plain_letter archive.now.items)
+    ensures { Syncs Maildir _owner.now _purge_files (map plain_letter archive.now.items)
         (plain_changes changes.now.items) known.old known.new result (seen disk.old)
         (seen disk.new) }
 {

@@ -1,6 +1,6 @@
 //! Syncs: all files are looked for first, then each changed one is renamed or removed.
 
-ghost use Rattle.std.specs.Prelude.{◌≡◌, ◌<◌, Bool, IfErr, IfOk, length, map};
+ghost use Rattle.std.specs.Prelude.{◌≡◌, ◌<◌, ℕ, Bool, List, IfErr, IfOk, length, map};
 ghost use Rattle.mail_base.specs.declared.kind.Kind.TheVariants.{Maildir};
 ghost use Rattle.folder_core.specs.Right.{Right};
 ghost use Rattle.folder_letters.specs.Letters.{plain_letter};
@@ -149,8 +149,9 @@ pub fn sync_folder(
         (seen disk.old).told }
     requires listed { AreListed known.old.listing (plain_changes changes.now) }
     requires once { AreOnce (plain_changes changes.now) }
-    ensures { (purge : Bool) → Syncs Maildir purge (map plain_letter archive.now.items)
-        (plain_changes changes.now) known.old known.new result (seen disk.old) (seen disk.new) }
+    ensures { (owner : List ℕ) → (purge : Bool) → Syncs Maildir owner purge
+        (map plain_letter archive.now.items) (plain_changes changes.now) known.old known.new result
+        (seen disk.old) (seen disk.new) }
 {
     let listing = known.listing().as_slice();
     let synced = match listing_synced(alloc, Kind::Maildir, archive.len(), changes, listing) {

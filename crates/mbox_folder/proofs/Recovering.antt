@@ -14,16 +14,13 @@ pub recovers : (owner path : List ℕ) (known new_known : KnownFolder) (was held
     (result : Result (Unit {0}) ScanError) (old new : Seen) → path ≡ known.path
     → was ≡ known.held → new_known ≡ record known { held = held }
     → Finishes path owner was held result old new
-    → Recovers Mbox known new_known result old new
+    → Recovers Mbox owner known new_known result old new
 recovers owner path known new_known was held result old new here kept is finishes =
     let now : held ≡ new_known.held = sym (ap (λ (k : KnownFolder). k.held) is) in
     record {
-      does = (
-        owner,
-        subst (λ (h : Bool). Finishes known.path owner known.held h result old new) now
-            (subst (λ (h : Bool). Finishes known.path owner h held result old new) kept
-            (subst (λ (p : List ℕ). Finishes p owner was held result old new) here finishes)),
-      );
+      does = subst (λ (h : Bool). Finishes known.path owner known.held h result old new) now
+          (subst (λ (h : Bool). Finishes known.path owner h held result old new) kept
+          (subst (λ (p : List ℕ). Finishes p owner was held result old new) here finishes));
       known_is = is ∙ (λ i. record known { held = now i });
       right = λ mails right. subst (λ (k : KnownFolder). Right Mbox mails k new.told) (sym is)
           (right_held mails known held old.told new.told finishes.serves.grows right);

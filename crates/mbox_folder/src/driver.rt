@@ -22,6 +22,7 @@ use folder_changes::{Item, SyncError};
 use folder_core::{Archive, Found, Known, Listing, ScanError, put_listing};
 use folder_drivers::Driver;
 use folder_letters::Changes;
+use folder_makes::make_mbox;
 use folder_tails::finish_tail_on;
 use mail_base::{Ids, Kind, NoMemory, Stamps};
 use mbox_writes::{append_mailbox, sync_mailbox};
@@ -102,9 +103,8 @@ impl Driver for MboxDriver {
         append_mailbox(alloc, &mut *dev.disk, path, owner, item)
     }
 
-    /// Refused: mailboxes in one file are not made yet.
-    fn make(&self, _alloc: Global, _dev: &mut Device, _path: &str) -> Result<(), SyncError> {
-        Err(SyncError::NotFolder)
+    fn make(&self, alloc: Global, dev: &mut Device, path: &str) -> Result<(), SyncError> {
+        make_mbox(alloc, &mut *dev.disk, path)
     }
 }
 
@@ -121,7 +121,7 @@ fn sync_changes(
     requires right { Right Mbox (map plain_letter archive.now.items) known.old
         (seen disk.old).told }
     requires listed { AreListed known.old.listing (plain_changes changes.now.items) }
-    ensures { Syncs Mbox _purge_files (map plain_letter archive.now.items)
+    ensures { Syncs Mbox owner.now _purge_files (map plain_letter archive.now.items)
         (plain_changes changes.now.items) known.old known.new result (seen disk.old)
         (seen disk.new) }
 {
@@ -135,7 +135,7 @@ fn recover_file(
     known: &mut Known,
     owner: &[u8],
 ) -> Result<(), ScanError>
-    ensures { Recovers Mbox known.old known.new result (seen disk.old) (seen disk.new) }
+    ensures { Recovers Mbox owner.now known.old known.new result (seen disk.old) (seen disk.new) }
 {
     let mut held = known.held();
     let result = finish_tail_on(alloc, disk, known.path(), &mut held, owner);

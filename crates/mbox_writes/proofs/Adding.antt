@@ -21,10 +21,11 @@ use Rattle.folder_stops.specs.Does.{Does}
 use Rattle.folder_tails.specs.Recovery.{Entered, SafeLeads}
 use Rattle.folder_tails.specs.Rows.{IsSafe}
 use Rattle.folder_tails.proofs.Leading.{weaken}
+use Rattle.folder_drivers.proofs.MboxTouching.{does_then, leads_does}
 use Rattle.mbox_writes.specs.Calls.{Added, AddedLocked, Adds, IsAddition, LockedAdds}
 use Rattle.mbox_writes.specs.Calls.{NoAdditionFor, NotAddedHere, NotPutFor, Puts, as_folder}
 use Rattle.mbox_writes.proofs.Stages.{reads_on}
-use Rattle.mbox_writes.proofs.Touching.{does_then, leads_does, least_passes, least_test}
+use Rattle.mbox_writes.proofs.LeastTest.{least_passes, least_test}
 use Rattle.mbox_writes.proofs.Unread.{unread_locked}
 
 -- Why nothing was added.
@@ -179,26 +180,23 @@ module _ (path owner : List ℕ) (item : Item) where
       (leads_does path 0 read.behind b (read.went.keeps (least_test owner) passes)))
 
   pub adds_done : (old new : Seen) → Adds path owner item (Ok tt) old.told new.told
-      → Serves {A = Unit {0}} (Ok tt) old new → AddsToMailbox path item (Ok tt) old new
+      → Serves {A = Unit {0}} (Ok tt) old new → AddsToMailbox path owner item (Ok tt) old new
   adds_done old new (inl unread) serves = absurd unread.not_done
   adds_done old new (inr added) serves = let read = added.read in record {
-    adds = (
-      owner,
-      inr (record {
-        bytes = read.bytes;
-        before = added.before;
-        behind = read.behind;
-        locks = added.locks;
-        reads = read.reads;
-        held_so = λ ours. reads_on path ours read.bytes read.reads;
-        keeps = read.went.keeps;
-        puts = read.went.puts;
-        mailbox = read.went.mailbox;
-        few = read.went.few;
-        small = read.went.small;
-        why = tt;
-      }),
-    );
+    adds = inr (record {
+      bytes = read.bytes;
+      before = added.before;
+      behind = read.behind;
+      locks = added.locks;
+      reads = read.reads;
+      held_so = λ ours. reads_on path ours read.bytes read.reads;
+      keeps = read.went.keeps;
+      puts = read.went.puts;
+      mailbox = read.went.mailbox;
+      few = read.went.few;
+      small = read.went.small;
+      why = tt;
+    });
     here = read_does (Ok tt) old.told new.told added;
     may_be = tt;
     serves = serves;
@@ -217,39 +215,33 @@ module _ (path owner : List ℕ) (item : Item) where
   adds_refused : (why : SyncError) (old new : Seen)
       → Adds path owner item (Err why) old.told new.told
       → Serves {A = Unit {0}} (Err why) old new
-      → AddsToMailbox path item (Err (as_folder why)) old new
+      → AddsToMailbox path owner item (Err (as_folder why)) old new
   adds_refused why old new (inl unread) serves = record {
-    adds = (
-      owner,
-      inl (record {
-        not_done = tt;
-        keeps = unread.keeps;
-        why = not_read_for path why old.told new.told unread.why;
-      }),
-    );
+    adds = inl (record {
+      not_done = tt;
+      keeps = unread.keeps;
+      why = not_read_for path why old.told new.told unread.why;
+    });
     here = leads_does path 0 old.told new.told
         (unread.keeps (least_test owner) (least_passes owner));
     may_be = as_errors why;
     serves = serves_folder why old new serves;
   }
   adds_refused why old new (inr added) serves = let read = added.read in record {
-    adds = (
-      owner,
-      inr (record {
-        bytes = read.bytes;
-        before = added.before;
-        behind = read.behind;
-        locks = added.locks;
-        reads = read.reads;
-        held_so = λ ours. reads_on path ours read.bytes read.reads;
-        keeps = read.went.keeps;
-        puts = tt;
-        mailbox = tt;
-        few = tt;
-        small = tt;
-        why = not_added_for item read.bytes why read.went.why;
-      }),
-    );
+    adds = inr (record {
+      bytes = read.bytes;
+      before = added.before;
+      behind = read.behind;
+      locks = added.locks;
+      reads = read.reads;
+      held_so = λ ours. reads_on path ours read.bytes read.reads;
+      keeps = read.went.keeps;
+      puts = tt;
+      mailbox = tt;
+      few = tt;
+      small = tt;
+      why = not_added_for item read.bytes why read.went.why;
+    });
     here = read_does (Err why) old.told new.told added;
     may_be = as_errors why;
     serves = serves_folder why old new serves;
@@ -257,7 +249,7 @@ module _ (path owner : List ℕ) (item : Item) where
 
   pub adds_not : (why told : SyncError) (old new : Seen) → told ≡ as_folder why
       → Adds path owner item (Err why) old.told new.told
-      → Serves {A = Unit {0}} (Err why) old new → AddsToMailbox path item (Err told) old new
+      → Serves {A = Unit {0}} (Err why) old new → AddsToMailbox path owner item (Err told) old new
   adds_not why told old new is adds serves =
-      subst (λ (e : SyncError). AddsToMailbox path item (Err e) old new) (sym is)
+      subst (λ (e : SyncError). AddsToMailbox path owner item (Err e) old new) (sym is)
       (adds_refused why old new adds serves)

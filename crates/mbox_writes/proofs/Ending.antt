@@ -28,6 +28,7 @@ use Rattle.folder_changes.proofs.ServingLemmas.{untold}
 use Rattle.folder_changes.proofs.ApartLemmas.{right_below}
 use Rattle.folder_stops.specs.Does.{Does}
 use Rattle.index_items.specs.Changes.{AreBelow, Changed, plain_changes}
+use Rattle.folder_drivers.proofs.MboxTouching.{does_then, leads_does}
 use Rattle.mbox_writes.proofs.LawLemmas.{known_stays}
 use Rattle.mbox_writes.specs.Calls.{Changes}
 use Rattle.folder_drivers.specs.MboxSync.{MboxErrors, UnchangedFor, Unread, UnreadFor, WasRead}
@@ -35,7 +36,7 @@ use Rattle.folder_drivers.specs.MboxSync.{changed_file, is_home, known_synced}
 use Rattle.folder_drivers.specs.Synced.{Syncs}
 use Rattle.mbox_writes.specs.declared.plan.Plan.{Plan}
 use Rattle.mbox_writes.proofs.Causes.{serves_err, serves_ok}
-use Rattle.mbox_writes.proofs.Touching.{does_then, leads_does, least_passes, least_test}
+use Rattle.mbox_writes.proofs.LeastTest.{least_passes, least_test}
 
 -- the ids of the changes are below the number of letters
 pub letters_below : (letters : List Letter) (bound : ℕ) (known : KnownFolder)
@@ -133,7 +134,7 @@ module _ (owner : List ℕ) (purge : Bool) (mails : List Mail) (changes : List C
         held = false;
       }
       → Serves (Ok plan) old new → Right Mbox mails known old.told
-      → Syncs Mbox purge mails changes known new_known (Ok tt) old new
+      → Syncs Mbox owner purge mails changes known new_known (Ok tt) old new
   synced_so held plan (inl unread) is serves right = absurd unread.not_done
   synced_so held plan (inr planned) is serves right =
       let read = planned.read in
@@ -160,10 +161,10 @@ module _ (owner : List ℕ) (purge : Bool) (mails : List Mail) (changes : List C
       } in
       record {
         syncs = record {
-          works = (owner, inr went);
+          works = inr went;
           keeps = tt;
           here = read_does path owner known changes known.held (Ok plan) old.told new.told read;
-          ok_known = (owner, record { read = went; known_so = same });
+          ok_known = record { read = went; known_so = same };
           err_known = tt;
           may_be = tt;
           cause = tt;
@@ -184,7 +185,7 @@ module _ (owner : List ℕ) (purge : Bool) (mails : List Mail) (changes : List C
         held = false;
       }
       → Serves (Ok plan) old new → Right Mbox mails known old.told
-      → Syncs Mbox purge mails changes known new_known (Ok tt) old new
+      → Syncs Mbox owner purge mails changes known new_known (Ok tt) old new
   synced was held plan same went is serves right = synced_so held plan
       (subst (λ (h : Bool). Changes owner known changes h held (Ok plan) old.told new.told) same
       went) is serves right
@@ -199,10 +200,10 @@ module _ (owner : List ℕ) (purge : Bool) (mails : List Mail) (changes : List C
       → Unread path owner known.held {A = Unit {0}} (Err why) old.told new.told
       ⊎ WasRead path owner known.held known changes {A = Unit {0}} (Err why) old.told new.told
       → MboxErrors known why → Serves {A = Plan} (Err why) old new → Right Mbox mails known old.told
-      → Syncs Mbox purge mails changes known new_known (Err why) old new
+      → Syncs Mbox owner purge mails changes known new_known (Err why) old new
   unsynced held why is here went errors serves right = record {
     syncs = record {
-      works = (owner, went);
+      works = went;
       keeps = tt;
       here = here;
       ok_known = tt;
@@ -219,7 +220,7 @@ module _ (owner : List ℕ) (purge : Bool) (mails : List Mail) (changes : List C
       → Changes owner known changes known.held held (Err why) old.told new.told
       → new_known ≡ record known { held = held } → Serves {A = Plan} (Err why) old new
       → Right Mbox mails known old.told
-      → Syncs Mbox purge mails changes known new_known (Err why) old new
+      → Syncs Mbox owner purge mails changes known new_known (Err why) old new
   refused_so held why (inl unread) is serves right =
       unsynced held why is
       (unread_does path owner known changes known.held (Err why) old.told new.told unread)
@@ -248,7 +249,7 @@ module _ (owner : List ℕ) (purge : Bool) (mails : List Mail) (changes : List C
       → Changes owner known changes was held (Err why) old.told new.told
       → new_known ≡ record known { held = held } → Serves {A = Plan} (Err why) old new
       → Right Mbox mails known old.told
-      → Syncs Mbox purge mails changes known new_known (Err why) old new
+      → Syncs Mbox owner purge mails changes known new_known (Err why) old new
   refused was held why same went is serves right = refused_so held why
       (subst (λ (h : Bool). Changes owner known changes h held (Err why) old.told new.told) same
       went) is serves right

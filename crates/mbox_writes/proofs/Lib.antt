@@ -3,7 +3,7 @@ pub mod LawLemmas
 mod Stages
 mod Traces
 mod Causes
-mod Touching
+mod LeastTest
 mod Putting
 mod Dropping
 mod Unread

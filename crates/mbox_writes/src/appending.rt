@@ -143,7 +143,7 @@ pub fn append_mailbox(
     owner: &[u8],
     item: &Item,
 ) -> Result<(), SyncError>
-    ensures { AddsToMailbox path.now item.now result (seen disk.old) (seen disk.new) }
+    ensures { AddsToMailbox path.now owner.now item.now result (seen disk.old) (seen disk.new) }
 {
     match append_file(alloc, disk, path, owner, item) {
         Ok(()) => Ok(()),

@@ -139,9 +139,8 @@ pub fn sync_mailbox(
     requires right { IsRightKnown Mbox (map plain_letter archive.now.items) known.old
         (seen disk.old).told }
     requires listed { AreListed known.old.listing (plain_changes changes.now) }
-    ensures { (purge : Bool) → Syncs Mbox purge (map plain_letter archive.now.items)
-        (plain_changes changes.now) known.old known.new result
-        (seen disk.old)
+    ensures { (purge : Bool) → Syncs Mbox owner.now purge (map plain_letter archive.now.items)
+        (plain_changes changes.now) known.old known.new result (seen disk.old)
         (seen disk.new) }
 {
     let mut held = known.held();

@@ -10,8 +10,8 @@ use Rattle.mh_syncs.proofs.Stamping.{still_right}
 -- the folder at a path is the one that is known
 pub recovers_at : {result : Result (Unit {0}) ScanError} {old new : Seen} (known : KnownFolder)
     (path : List ℕ) → path ≡ known.path → TakesLeft path result old new
-    → Recovers Mh known known result old new
-recovers_at {result} {old} {new} known path is takes = record {
+    → (owner : List ℕ) → Recovers Mh owner known known result old new
+recovers_at {result} {old} {new} known path is takes owner = record {
   does = subst (λ (p : List ℕ). TakesLeft p result old new) is takes;
   known_is = refl;
   right = λ mails right. still_right mails known old.told new.told takes.grows right;

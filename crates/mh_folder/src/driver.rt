@@ -61,12 +61,20 @@ impl Driver for MhDriver {
         alloc: Global,
         dev: &mut Device,
         known: &mut Known,
-        _owner: &[u8],
+        owner: &[u8],
         purge_files: bool,
         archive: &Archive,
         changes: &Changes,
     ) -> Result<(), SyncError> {
-        sync_changes(alloc, &mut *dev.disk, known, purge_files, archive, changes)
+        sync_changes(
+            alloc,
+            &mut *dev.disk,
+            known,
+            owner,
+            purge_files,
+            archive,
+            changes,
+        )
     }
 
     /// Takes away what a call that was stopped left over: sequences and a message that were not put
@@ -76,9 +84,9 @@ impl Driver for MhDriver {
         alloc: Global,
         dev: &mut Device,
         known: &mut Known,
-        _owner: &[u8],
+        owner: &[u8],
     ) -> Result<(), ScanError> {
-        recover_known(alloc, &mut *dev.disk, known)
+        recover_known(alloc, &mut *dev.disk, known, owner)
     }
 
     fn append(
@@ -103,6 +111,7 @@ fn sync_changes(
     alloc: Global,
     disk: &mut dyn Disk,
     known: &mut Known,
+    _owner: &[u8],
     purge_files: bool,
     archive: &Archive,
     changes: &Changes,
@@ -110,7 +119,7 @@ fn sync_changes(
     requires right { Right Mh (map plain_letter archive.now.items) known.old (seen disk.old).told }
     requires listed { AreListed known.old.listing (plain_changes changes.now.items) }
     requires once { AreOnce (plain_changes changes.now.items) }
-    ensures { Syncs Mh purge_files (map plain_letter archive.now.items)
+    ensures { Syncs Mh _owner.now purge_files (map plain_letter archive.now.items)
         (plain_changes changes.now.items) known.old known.new result (seen disk.old)
         (seen disk.new) }
 {
@@ -118,8 +127,13 @@ fn sync_changes(
 }
 
 // Takes away what was left over in a known MH folder, as the driver's `recover`.
-fn recover_known(alloc: Global, disk: &mut dyn Disk, known: &mut Known) -> Result<(), ScanError>
-    ensures { Recovers Mh known.old known.new result (seen disk.old) (seen disk.new) }
+fn recover_known(
+    alloc: Global,
+    disk: &mut dyn Disk,
+    known: &mut Known,
+    _owner: &[u8],
+) -> Result<(), ScanError>
+    ensures { Recovers Mh _owner.now known.old known.new result (seen disk.old) (seen disk.new) }
 {
     recover(alloc, disk, known.path())
 }

@@ -70,8 +70,8 @@ module _ (purge : Bool) (changes : List Changed) (known new_known : KnownFolder)
       → MhErrors known mails changes why
       → IsBetween (MhRefused known mails changes why) old.told new.told
       → Serves {A = Unit {0}} (Err why) old new
-      → Syncs Mh purge mails changes known new_known (Err why) old new
-  syncs_not mails why same right works keeps here names cause serves = record {
+      → (owner : List ℕ) → Syncs Mh owner purge mails changes known new_known (Err why) old new
+  syncs_not mails why same right works keeps here names cause serves owner = record {
     syncs = record {
       works = works;
       keeps = keeps;
@@ -96,21 +96,22 @@ module _ (purge : Bool) (changes : List Changed) (known new_known : KnownFolder)
       → KeepsNumbers known mails changes old.told new.told
       → Does (mh_shape known.path).home (number_in known.path) None old.told new.told
       → Serves {A = Unit {0}} (Ok tt) old new
-      → Syncs Mh purge mails changes known new_known (Ok tt) old new
-  syncs_done mails listing bytes stamps is none left put right works keeps here serves = record {
-    syncs = record {
-      works = works;
-      keeps = keeps;
-      here = here;
-      ok_known = whole;
-      err_known = tt;
-      may_be = tt;
-      cause = tt;
-      serves = serves;
-    };
-    right = subst (λ (k : KnownFolder). Right Mh mails k new.told) (sym whole)
-        (synced_right changes mails known old.told new.told serves.grows right);
-  }
+      → (owner : List ℕ) → Syncs Mh owner purge mails changes known new_known (Ok tt) old new
+  syncs_done mails listing bytes stamps is none left put right works keeps here serves owner =
+      record {
+        syncs = record {
+          works = works;
+          keeps = keeps;
+          here = here;
+          ok_known = whole;
+          err_known = tt;
+          may_be = tt;
+          cause = tt;
+          serves = serves;
+        };
+        right = subst (λ (k : KnownFolder). Right Mh mails k new.told) (sym whole)
+            (synced_right changes mails known old.told new.told serves.grows right);
+      }
     where
       whole : new_known ≡ mh_synced changes known
       whole = put ∙ (λ i. record known {
@@ -125,7 +126,7 @@ no_fault e = cc
 -- a sync for which memory ran out before its first call
 pub syncs_none : (purge : Bool) (mails : List Mail) (changes : List Changed) (known : KnownFolder)
     (seen : Seen) → Right Mh mails known seen.told
-    → Syncs Mh purge mails changes known known (Err NoMemory) seen seen
+    → (owner : List ℕ) → Syncs Mh owner purge mails changes known known (Err NoMemory) seen seen
 syncs_none purge mails changes known seen right =
     let stands = not_prepared purge known mails changes NoMemory seen.told seen.told
     (leaves_first known.path seen.told) in

@@ -1,7 +1,7 @@
 //! Syncs: the files of messages that change are looked at, then all flags change at once, and then
 //! discarded messages go.
 
-ghost use Rattle.std.specs.Prelude.{◌≡◌, IfErr, IfOk, None, length, map};
+ghost use Rattle.std.specs.Prelude.{◌≡◌, ℕ, List, IfErr, IfOk, None, length, map};
 ghost use Rattle.disk_model.specs.Judge.{GoesOn};
 ghost use Rattle.mail_base.specs.declared.kind.Kind.TheVariants.{Mh};
 ghost use Rattle.folder_letters.specs.Letters.{plain_letter};
@@ -147,7 +147,7 @@ pub fn sync_folder(
         (seen disk.old).told }
     requires listed { AreListed known.old.listing (plain_changes changes.now) }
     requires once { AreOnce (plain_changes changes.now) }
-    ensures { Syncs Mh purge_files (map plain_letter archive.now.items)
+    ensures { (owner : List ℕ) → Syncs Mh owner purge_files (map plain_letter archive.now.items)
         (plain_changes changes.now) known.old known.new result (seen disk.old) (seen disk.new) }
 {
     let (listing, stamps) = match known_synced(alloc, known, archive.len(), changes) {

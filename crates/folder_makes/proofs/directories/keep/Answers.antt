@@ -1,5 +1,5 @@
 use Rattle.folder_makes.specs.Parts.{IsKeep, Nowhere}
-use Rattle.folder_makes.proofs.Leaving.{kept_leaves}
+use Rattle.folder_makes.proofs.Leaving.{kept_leaves, names_kept}
 use Rattle.folder_makes.proofs.Parting.{part_met, part_refused}
 use Rattle.std.proofs.Common.{Ok, refl}
 use Rattle.folder_makes.proofs.directories.keep.Goals as goal
@@ -10,6 +10,9 @@ returns-in-Ok-clause-part g c =
 
 pub returns-in-Ok-clause-there : goal.returns-in-Ok-clause-there
 returns-in-Ok-clause-there g c = kept_leaves c.args.dir.now c.in-Ok.ensures.called
+
+pub returns-in-Ok-clause-kept : goal.returns-in-Ok-clause-kept
+returns-in-Ok-clause-kept g c = names_kept c.args.dir.now c.in-Ok.ensures.called
 
 pub returns-in-Err-clause-part : goal.returns-in-Err-clause-part
 returns-in-Err-clause-part g c =

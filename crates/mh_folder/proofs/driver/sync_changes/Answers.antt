@@ -5,4 +5,4 @@ use Rattle.mh_folder.proofs.driver.sync_changes.Goals as goal
 pub returns : goal.returns
 returns g c =
     syncs_slice Mh c.as_slice.result.now c.args.changes.now.items c.as_slice.ensures
-    c.sync_folder.ensures
+    (c.sync_folder.ensures c.args._owner.now)

@@ -1,9 +1,10 @@
--- The calls of ours in a sync change the mailbox and the names beside it alone.
-use Rattle.std.proofs.Common.{Bool, List, Option, None, ap, false, inl, inr, refl, sym, true}
+-- Calls of ours by which a mailbox in one file is written or recovered change it and the names
+-- beside it alone.
+use Rattle.std.proofs.Common.{Bool, List, Option, None, ap, inl, inr, refl, sym, true}
 use Rattle.std.proofs.Common.{ℕ, [], ◌∷◌, ◌∙◌, ◌≡◌, ◌⊎◌}
 use Rattle.std.specs.Prelude.{◌||◌}
 use Rattle.std.specs.Str.{bytes_eq}
-use Rattle.std.proofs.lemmas.Bool.{or_from, or_left, or_right}
+use Rattle.std.proofs.lemmas.Bool.{or_left, or_right}
 use Rattle.disk_model.specs.Journal.{Answer, Call, Create, Cut, Done, Entry, ListDir, MakeDir}
 use Rattle.disk_model.specs.Journal.{Others}
 use Rattle.disk_model.specs.Journal.{Own, Past, ReadAll, ReadFront, Refused, Remove, Rename}
@@ -16,9 +17,6 @@ use Rattle.folder_stops.proofs.Does.{own_append}
 use Rattle.folder_stops.proofs.Words.{same}
 use Rattle.folder_tails.specs.Sides.{IsSide, lock_of, tail_of}
 use Rattle.folder_tails.specs.Stages.{IsAllowed, Leads}
-use Rattle.folder_tails.specs.Tails.{is_owners, line_of}
-use Rattle.folder_tails.proofs.Locks.{empty_line}
-use Rattle.folder_drivers.specs.MboxLocked.{Passes}
 use Rattle.folder_drivers.specs.MboxSync.{is_home}
 
 module _ (path : List ℕ) (from : ℕ) where
@@ -99,22 +97,4 @@ pub does_then : (path : List ℕ) (a b c : Option Past) → Does (is_home path) 
 does_then path a b c first next = record {
   grown = grown_then a b c _ _ _ first.grown next.grown
       (λ s xs ys p q. own_append (IsOurs (is_home path) (λ at. None) None) xs ys p q);
-}
-
--- the test that passes no more than it must
-abbrev pub least_test : List ℕ → List ℕ → Bool
-least_test owner line = is_owners owner line || bytes_eq line (line_of owner)
-
-no_line : (owner : List ℕ) → bytes_eq [] (line_of owner) ≡ false
-no_line [] = refl
-no_line (byte ∷ owner) = refl
-
-pub least_passes : (owner : List ℕ) → Passes owner (least_test owner)
-least_passes owner = record {
-  knows = record {
-    passes = λ line is. or_left (is_owners owner line) _ is;
-    empty = or_from (is_owners owner []) (bytes_eq [] (line_of owner)) (empty_line owner)
-        (no_line owner);
-  };
-  line = or_right (is_owners owner (line_of owner)) _ (same (line_of owner));
 }
