@@ -23,9 +23,9 @@ pub struct Rule {
     pub kind: Kind,
 }
 
-/// Whether folders of the kind are written; mailboxes in one file are not yet.
+/// Whether folders of the kind are written; those of the MMDF form are not yet.
 pub fn is_written(kind: Kind) -> bool
     ensures { result ≡ spec.is_written kind }
 {
-    matches!(kind, Kind::Maildir | Kind::Mh)
+    matches!(kind, Kind::Mbox | Kind::Maildir | Kind::Mh)
 }

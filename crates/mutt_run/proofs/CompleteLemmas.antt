@@ -4,7 +4,7 @@ use Rattle.std.proofs.Common.{None, Result, Ok, Err, refl, sym, subst, length}
 use Rattle.mail_base.specs.Faults.{Rose}
 use Rattle.mail_base.specs.declared.kind.Kind.{Kind}
 use Rattle.disk_model.specs.Journal.{Past}
-use Rattle.folder_core.specs.Kinds.{IsKindSeen}
+use Rattle.folder_core.specs.Kinds.{KindSeen}
 use Rattle.folder_core.specs.declared.error.ScanError.{ScanError}
 use Rattle.folder_core.specs.declared.error.ScanError.TheVariants.{Missing, NotMailbox, TooMany}
 use Rattle.folder_core.specs.declared.error.ScanError.TheVariants.{TooLarge, Unfinished}
@@ -36,16 +36,15 @@ use Rattle.mutt_run.specs.declared.status.Status.TheVariants.{Empty, TooManyKeys
 use Rattle.mutt_run.proofs.EndLemmas.{IsToldAs, rose_after, rose_sooner}
 
 -- A folder that can be read is not refused.
-module _ (Has : Kind → Type 0) (empty : Kind) (path : List ℕ) (before after : ℕ) (past : Past)
-    (readable : IsReadable Has empty path before after past) where
+module _ (Has : Kind → Type 0) (empty : Kind) (owner path : List ℕ) (old new : Past)
+    (readable : IsReadable Has empty owner path old new) where
   refused_neither : (why : ScanError) → IsStated (Folder why)
-      → IsKindSeen (Err why) empty path before after past
-      ⊎ WasNotListed Has empty path why before after past → ⊥
+      → KindSeen (Err why) empty path old new ⊎ WasNotListed Has empty owner path why old new → ⊥
   refused_neither why stated (inl was) = readable.there why stated was
   refused_neither why stated (inr was) = readable.listed why stated was
 
   not_refused : (why : OpenFault) (faults faults' : ℕ) → IsStated why
-      → WasRefused Has empty path why before after past → IsCause Has why faults faults' → ⊥
+      → WasRefused Has empty owner path why old new → IsCause Has why faults faults' → ⊥
   not_refused Taken faults faults' stated was cause = stated
   not_refused (NoDriver kind) faults faults' stated was cause = cause (readable.driver kind was)
   not_refused (Folder Fault) faults faults' stated was cause = stated
@@ -71,9 +70,9 @@ module _ (Has : Kind → Type 0) (given : Given) (path : List ℕ) (why : OpenFa
       → AreFiles files → WereReadable Has given s (files ++ last) (Some past)
       → AllHappened Has given s (files ++ last) past → AllCounted Has counts (files ++ last) → ⊥
   none_refused s counts past [] are readable happened counted =
-      not_refused Has (kind_in s) path (length (past_at past marks.mark_before).journal)
-      (length (past_at past marks.mark_after).journal) (past_at past marks.mark_after) readable.0
-      why marks.faults_before marks.faults_after stated happened.0 counted.0.cause
+      not_refused Has (kind_in s) s.owner path (past_at past marks.mark_before)
+      (past_at past marks.mark_after) readable.0 why marks.faults_before marks.faults_after stated
+      happened.0 counted.0.cause
   none_refused s counts past (FileRead file text at ∷ files) are readable happened counted =
       none_refused (after given s (FileRead file text at)) (counts_after counts (Some at)) past
       files are.1 readable happened.2 counted.1

@@ -9,7 +9,8 @@ use Rattle.keymap.specs.Reader.{PlainReader, most_bytes, Begins, Gives as GivesK
 use Rattle.keymap.specs.Stream.{first_key, is_open, keys_of}
 use Rattle.keymap.specs.declared.key.Key.{Key}
 use Rattle.keymap.specs.declared.key_reader.KeyFault.{KeyFault}
-use Rattle.session_events.specs.Events.{AreFiles, AreWorks, Happening, FileRead, FileRefused, KeyPressed}
+use Rattle.session_events.specs.Events.{AreFiles, AreWorks, Happening, FileRead, FileRefused}
+use Rattle.session_events.specs.Events.{KeyPressed}
 use Rattle.session_events.specs.Events.{FolderOpened, FolderRefused, FolderChecked, CheckRefused}
 use Rattle.session_state.specs.declared.stage.Stage.{Stage}
 use Rattle.session_state.specs.declared.stage.Stage.TheVariants.{Idle, Over}

@@ -46,6 +46,7 @@ setup_with o path rc = record {
   kind = o.kind;
   read_only = o.read_only;
   window = record { rows = o.rows; cols = o.cols; offset = o.offset };
+  owner = o.owner.items;
 }
 
 -- an offset of less than a day has room in 32 bits

@@ -20,6 +20,7 @@ setup_of o = record {
   kind = o.kind;
   read_only = o.read_only;
   window = record { rows = o.rows; cols = o.cols; offset = o.offset };
+  owner = o.owner;
 }
 
 -- the state of a run that starts at a moment, in which nothing has happened

@@ -3,7 +3,7 @@ use Rattle.std.specs.Prelude.{ℕ, ℤ, List, [], ◌∷◌, length, Option, Som
 use Rattle.mail_base.specs.declared.kind.Kind.{Kind}
 use Rattle.disk_model.specs.Journal.{Past}
 use Rattle.folder_core.specs.declared.error.ScanError.{ScanError}
-use Rattle.folder_core.specs.Kinds.{IsKindSeen, WasKind}
+use Rattle.folder_core.specs.Kinds.{KindSeen}
 use Rattle.mutt_words.specs.Options.{PlainOptions}
 use Rattle.session.specs.Beginning.{IsStated}
 use Rattle.session_events.specs.Events.{Happening}
@@ -21,27 +21,27 @@ use Rattle.mutt_run.specs.declared.status.Status.TheVariants.{KeysFault, OutFaul
 use Rattle.mutt_run.specs.declared.status.Status.TheVariants.{TooManyKeys}
 
 -- From one mark to another no cause was seen for which an opening is refused: a folder stands at
--- the path, of a kind that has a driver, and nothing keeps a scan from listing it.
-pub record IsReadable (Has : Kind → Type 0) (empty : Kind) (path : List ℕ) (before after : ℕ)
-    (past : Past) : Type 0 where
+-- the path, of a kind that has a driver, and nothing keeps a visit from recovering and listing it.
+pub record IsReadable (Has : Kind → Type 0) (empty : Kind) (owner path : List ℕ) (old new : Past)
+    : Type 0 where
   pub there : (why : ScanError) → IsStated (Folder why)
-      → IsKindSeen (Err why) empty path before after past → ⊥
-  pub driver : (kind : Kind) → WasKind (Ok kind) empty path before after past → Has kind
+      → KindSeen (Err why) empty path old new → ⊥
+  pub driver : (kind : Kind) → KindSeen (Ok kind) empty path old new → Has kind
   pub listed : (why : ScanError) → IsStated (Folder why)
-      → WasNotListed Has empty path why before after past → ⊥
+      → WasNotListed Has empty owner path why old new → ⊥
 
 -- while the folder was looked for, where the disk tells its past
-abbrev pub WasReadable : (Kind → Type 0) → Kind → List ℕ → Marks → Option Past → Type 0
-WasReadable Has empty path marks None = ⊥
-WasReadable Has empty path marks (Some past) =
-    IsReadable Has empty path (length (past_at past marks.mark_before).journal)
-    (length (past_at past marks.mark_after).journal) (past_at past marks.mark_after)
+abbrev pub WasReadable : (Kind → Type 0) → Kind → List ℕ → List ℕ → Marks → Option Past → Type 0
+WasReadable Has empty owner path marks None = ⊥
+WasReadable Has empty owner path marks (Some past) =
+    IsReadable Has empty owner path (past_at past marks.mark_before)
+    (past_at past marks.mark_after)
 
 -- each folder that was looked for could be read
 abbrev pub WereReadable : (Kind → Type 0) → Given → State → List Happening → Option Past → Type 0
 WereReadable Has given s [] told = Unit {0}
 WereReadable Has given s (FolderRefused path why marks ∷ events) told =
-    WasReadable Has (kind_in s) path marks told
+    WasReadable Has (kind_in s) s.owner path marks told
     × WereReadable Has given (after given s (FolderRefused path why marks)) events told
 WereReadable Has given s (event ∷ events) told =
     WereReadable Has given (after given s event) events told

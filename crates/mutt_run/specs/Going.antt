@@ -16,7 +16,8 @@ use Rattle.session.specs.Steps.{AreChecks, Stands, Waits}
 use Rattle.session_events.specs.declared.setup.Next.{Next}
 use Rattle.session_events.specs.declared.setup.Next.TheVariants.{Go, Quit}
 use Rattle.session_state.specs.declared.stage.Stage.{Stage}
-use Rattle.session_state.specs.declared.stage.Stage.TheVariants.{Checking, Idle, Over, Reading, Syncing}
+use Rattle.session_state.specs.declared.stage.Stage.TheVariants.{Checking, Idle, Over, Reading}
+use Rattle.session_state.specs.declared.stage.Stage.TheVariants.{Syncing}
 use Rattle.mutt_run.specs.Printed.{PrintsBut}
 use Rattle.mutt_run.specs.Screens.{printed_lines, screen_text}
 use Rattle.mutt_run.specs.Taken.{Gives, TakesKeys, pressed_keys, pressed_moments}

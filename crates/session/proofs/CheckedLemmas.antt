@@ -81,6 +81,10 @@ taken_shown : (stage : Stage) (s : State) → IsIndexShown s.turn.core
 taken_shown Idle s is = is
 taken_shown _ s is = is
 
+taken_owner : (stage : Stage) (s : State) → (taken_at stage s).owner ≡ s.owner
+taken_owner Idle s = refl
+taken_owner _ s = refl
+
 pub taken_index : (old mid : Session) (moment : ℤ) (notes : Held (Held ℕ))
     → plain_session mid notes ≡ taken (plain_session old notes)
     → is_due old.folder.refused old.folder.checked (plain_core old.core) moment ≡ true
@@ -88,7 +92,8 @@ pub taken_index : (old mid : Session) (moment : ℤ) (notes : Held (Held ℕ))
 taken_index old mid moment notes is due =
     let s : State = plain_session old notes in
     subst (λ (t : State). IsIndexShown t.turn.core) (sym is)
-    (taken_shown s.turn.stage s (due_index old.folder.refused old.folder.checked (plain_core old.core) moment due))
+    (taken_shown s.turn.stage s
+    (due_index old.folder.refused old.folder.checked (plain_core old.core) moment due))
 
 -- the kind of the folder has a driver still
 pub has_on : {X : Type 0} {Is : X → Type 0} (Has : Kind → Type 0) (old mid : Session)
@@ -135,7 +140,8 @@ module _ {X : Type 0} {Is : X → Type 0} (Has : Kind → Type 0) (moment : ℤ)
   abbrev s : State
   s = state_in old was
 
-  wish_is : (due : Bool) → is_due old.folder.refused old.folder.checked (plain_core old.core) moment ≡ due
+  wish_is : (due : Bool) → is_due old.folder.refused old.folder.checked (plain_core old.core) moment
+      ≡ due
       → wish s moment ≡ (if due then Check moment else Press moment)
   wish_is due is = ap (λ (stage : Stage). wish_at stage s moment) idle
       ∙ ap (λ (b : Bool). if b then Check moment else Press moment) is
@@ -173,7 +179,8 @@ module _ {X : Type 0} {Is : X → Type 0} (Has : Kind → Type 0) (moment : ℤ)
   module _ (new : Session) (now : Trace X Is) (event : Happening) (later : Seen)
       (is_moment : IsMoment moment)
       (due : is_due old.folder.refused old.folder.checked (plain_core old.core) moment ≡ true)
-      (looks : LooksAgain Has false moment mid new was.archive.items now.archive.items event before later)
+      (looks : LooksAgain Has false moment mid new was.archive.items now.archive.items event before
+      later)
       (put : events_in now ≡ events_in was ++ event ∷ []) (notes : now.notes ≡ was.notes) where
     met_is : met_after old.folder.met event ≡ length (letters_in now)
     met_is = ap (λ (f : OpenFolder). met_after f.met event) (sym folder) ∙ sym looks.met
@@ -217,8 +224,12 @@ module _ {X : Type 0} {Is : X → Type 0} (Has : Kind → Type 0) (moment : ℤ)
         → Tells Has (standing_of s) given.mails event before later
     tells given is =
         tells_more (letters_in now) given.mails is.first (omega (arith, met_is))
-        (subst (λ (f : OpenFolder). Tells Has (standing_over (kind_in s) (purges_in s) f)
-        (letters_in now) event before later) folder (looks.tells (kind_in s) (purges_in s)))
+        (subst (λ (f : OpenFolder). Tells Has (standing_over (kind_in s) s.owner (purges_in s) f)
+        (letters_in now) event before later) folder
+        (subst (λ (o : List ℕ). Tells Has (standing_over (kind_in s) o (purges_in s) mid.folder)
+        (letters_in now) event before later)
+        (ap (λ (t : State). t.owner) (taken_is was.notes) ∙ taken_owner s.turn.stage s)
+        (looks.tells (kind_in s) (purges_in s))))
 
     next_is : AreNext (length (letters_in was)) event
     next_is = subst (λ (n : ℕ). AreNext n event)

@@ -324,4 +324,5 @@ less_is wanted map menu zero replaced begun keys =
 less_is wanted map menu (suc left) replaced begun keys =
     less_next wanted left replaced keys (reached map menu begun keys)
     (pressed map menu left (replaced + 1) [])
-    (shorter wanted map menu begun keys) (λ more. less_is wanted map menu left (replaced + 1) [] more)
+    (shorter wanted map menu begun keys)
+    (λ more. less_is wanted map menu left (replaced + 1) [] more)

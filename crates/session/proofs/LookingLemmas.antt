@@ -1,7 +1,7 @@
 -- What a look at the folder leaves of a session.
 use Rattle.std.proofs.Common.{◌≡◌, ◌≤◌, ◌<◌, ◌+◌, ◌++◌, ◌∷◌, ◌∙◌, ℕ, ℤ, Bool, true, false, not}
 use Rattle.std.proofs.Common.{List, [], Option, Result, Ok, Err, ap, arith, inl, inr, length, map}
-use Rattle.std.proofs.Common.{nat_lt, refl, subst, sym, take, if◌then◌else◌}
+use Rattle.std.proofs.Common.{length-append, nat_lt, refl, subst, sym, take, if◌then◌else◌}
 use Rattle.std.specs.List.{All}
 use Rattle.std.specs.Prelude.{IsErrOf, OnErr}
 use Rattle.std.proofs.Math.Seq.{take-append_seam}
@@ -30,7 +30,7 @@ use Rattle.listing_laws.proofs.IdLemmas.{lists_at}
 use Rattle.listing_laws.proofs.LawLemmas.{behind_is}
 use Rattle.listing_laws.proofs.ListingLemmas.{ids_high}
 use Rattle.listing_laws.proofs.MemberLemmas.{filter_in}
-use Rattle.session_events.specs.Checking.{IsOpen, ScansFolder, standing_over}
+use Rattle.session_events.specs.Checking.{IsOpen, VisitsFolder, standing_over}
 use Rattle.session_events.specs.Events.{Happening, CheckRefused, FolderChecked, PlainFound}
 use Rattle.session_events.specs.Events.{held_found}
 use Rattle.session_events.specs.Events.{plain_found}
@@ -39,8 +39,9 @@ use Rattle.session_events.specs.Telling.{Tells}
 use Rattle.session_events.specs.declared.checking.Scanned.{Scanned}
 use Rattle.session_events.specs.declared.event.Marks.{Marks}
 use Rattle.session_events.specs.declared.open_folder.OpenFolder.{OpenFolder}
-use Rattle.session_events.proofs.CheckLemmas.{letters_count, open_on, scan_lists, tells_found}
-use Rattle.session_events.proofs.CheckLemmas.{tells_refused, tells_starved}
+use Rattle.session_events.proofs.CheckLemmas.{letters_count, open_unvisited, tells_found}
+use Rattle.session_events.proofs.CheckLemmas.{tells_refused, tells_starved, unvisited_known}
+use Rattle.session_events.proofs.CheckLemmas.{unvisited_letters, visit_lists}
 use Rattle.session.specs.Checking.{IsIndexShown, forgot_by, found_again, refused_again}
 use Rattle.session.specs.Core.{CoreState, plain_core}
 use Rattle.session.specs.Fitting.{Fits}
@@ -58,25 +59,47 @@ letters_of archive = map plain_letter archive
 abbrev with_known : KnownFolder → OpenFolder → OpenFolder
 with_known known folder = record folder { known = known }
 
--- what a scan found of it is news
-pub finds : (archive archive' : List Letter) (folder mid : OpenFolder) (known : KnownFolder)
-    (scanned : Scanned) (theirs : Found) (before after : Seen)
+-- a visit for the owner of the session
+pub visits_by : {owner was : List ℕ} {archive archive' : List Letter}
+    {known new_known : KnownFolder} {scanned : Scanned} {before after : Seen} → owner ≡ was
+    → VisitsFolder owner archive archive' known new_known scanned before after
+    → VisitsFolder was archive archive' known new_known scanned before after
+visits_by {owner} {was} {archive} {archive'} {known} {new_known} {scanned} {before} {after} is
+    visits = subst (λ (o : List ℕ). VisitsFolder o archive archive' known new_known scanned before
+    after) is visits
+
+-- no letter goes where a visit found something
+pub met_still : (met : ℕ) (archive archive' : List Letter) (added : List Mail)
+    → met ≡ length (letters_of archive)
+    → letters_of archive' ≡ letters_of archive ++ added → met ≤ length archive'
+met_still met archive archive' added is grown =
+    omega (
+      arith,
+      is,
+      ap length grown,
+      length-append (letters_of archive) added,
+      length-map archive' plain_letter,
+    )
+
+-- what a visit found of it is news
+pub finds : (owner : List ℕ) (archive archive' : List Letter) (folder mid : OpenFolder)
+    (known : KnownFolder) (scanned : Scanned) (theirs : Found) (before after : Seen)
     → IsOpen (letters_of archive) before.told folder
-    → ScansFolder archive archive' folder.known known scanned before after
+    → VisitsFolder owner archive archive' folder.known known scanned before after
     → scanned.answer ≡ Ok theirs → mid ≡ with_known known folder
     → FindsNews (letters_of archive) (letters_of archive') mid theirs
-finds archive archive' folder mid known scanned theirs before after knows scans is same =
+finds owner archive archive' folder mid known scanned theirs before after knows visits is same =
     subst (λ (f : OpenFolder). FindsNews (letters_of archive) (letters_of archive') f theirs)
     (sym same)
-    (let found = scan_lists archive archive' folder.known known scanned theirs before after scans is
-    in record {
+    (let found = visit_lists owner archive archive' folder.known known scanned theirs before after
+    visits is in record {
       met = knows.met;
       added = found.added;
       grown = found.archived;
       within = knows.within;
       once = knows.once;
-      below = scans.scans.right.within;
-      ordered = scans.scans.right.ordered;
+      below = visits.visits.right.within;
+      ordered = visits.visits.right.ordered;
       was = folder.known.listing;
       known = knows.known;
       difference = found.difference;
@@ -85,20 +108,23 @@ finds archive archive' folder mid known scanned theirs before after knows scans 
 
 -- What it found was taken in.
 module _ (Has : Kind → Type 0) (quiet : Bool) (moment : ℤ) (old mid new : Session)
-    (archive archive' : List Letter) (known : KnownFolder) (scanned : Scanned) (theirs found : Found) (before after : Seen)
+    (archive archive' : List Letter) (known : KnownFolder) (scanned : Scanned)
+    (theirs found : Found) (before after : Seen)
     (knows : IsOpen (letters_of archive) before.told old.folder)
-    (scans : ScansFolder archive archive' old.folder.known known scanned before after)
+    (visits : VisitsFolder old.owner.items archive archive' old.folder.known known scanned before
+    after)
     (is : scanned.answer ≡ Ok theirs)
     (same : mid ≡ record old { folder = with_known known old.folder })
     (takes : TakesIt quiet (letters_of archive') moment mid new found) where
-  found_listed : ListsFound theirs (letters_of archive) (letters_of archive') old.folder.known known
-  found_listed = scan_lists archive archive' old.folder.known known scanned theirs before after
-      scans is
+  found_listed : ListsFound theirs (letters_of archive) (letters_of archive')
+      (record old.folder.known { held = known.held }) known
+  found_listed = visit_lists old.owner.items archive archive' old.folder.known known scanned theirs
+      before after visits is
 
   found_news : FindsNews (letters_of archive) (letters_of archive') (with_known known old.folder)
       theirs
-  found_news = finds archive archive' old.folder (with_known known old.folder) known scanned theirs
-      before after knows scans is refl
+  found_news = finds old.owner.items archive archive' old.folder (with_known known old.folder) known
+      scanned theirs before after knows visits is refl
 
   change : IsDifference old.folder.listing.items known.listing found
   change =
@@ -113,8 +139,9 @@ module _ (Has : Kind → Type 0) (quiet : Bool) (moment : ℤ) (old mid new : Se
       found found_news change
 
   letters_are : length (letters_of archive') ≡ old.folder.met + length found.came.items
-  letters_are = letters_count Has old.folder.known.kind false old.folder archive archive' known scanned
-      moment before after knows scans theirs is (plain_found found) difference (ap length came)
+  letters_are = letters_count Has old.folder.known.kind old.owner.items false old.folder archive
+      archive' known scanned moment before after knows visits theirs is (plain_found found)
+      difference (ap length came)
 
   known_is : new.folder.known ≡ known
   known_is = takes.known ∙ ap (λ (s : Session). s.folder.known) same
@@ -147,7 +174,7 @@ module _ (Has : Kind → Type 0) (quiet : Bool) (moment : ℤ) (old mid new : Se
   found_arrives notes =
       let s : State = plain_session old notes in
       let behind = behind_is (letters_of archive') old.folder.listing.items known.listing
-      (held_found (plain_found found)) knows.once scans.scans.right.ordered difference in
+      (held_found (plain_found found)) knows.once visits.visits.right.ordered difference in
       ap (λ (n : Session). plain_session n notes) found_rest
       ∙ (λ i. record s {
         turn = record s.turn { core = found_core i };
@@ -167,14 +194,14 @@ module _ (Has : Kind → Type 0) (quiet : Bool) (moment : ℤ) (old mid new : Se
     right = subst (λ (k : KnownFolder). Right k.kind (letters_of archive') k after.told)
         (sym known_is)
         (subst (λ (k : Kind). Right k (letters_of archive') known after.told)
-        (sym (ap (λ (k : KnownFolder). k.kind) found_listed.kept)) scans.scans.right);
+        (sym (ap (λ (k : KnownFolder). k.kind) found_listed.kept)) visits.visits.right);
     known = subst (λ (f : Bool). IsKnownOf f new.folder.listing.items new.folder.known.listing)
         (sym takes.forgot)
         (ap (λ (k : KnownFolder). k.listing) known_is ∙ sym listing_is);
     within = subst (All (λ l. l.id.0 < length (letters_of archive'))) (sym listing_is)
-        scans.scans.right.within;
+        visits.visits.right.within;
     once = ap ids_differ listing_is
-        ∙ rise_differ (letters_of archive') known.listing scans.scans.right.ordered;
+        ∙ rise_differ (letters_of archive') known.listing visits.visits.right.ordered;
     met = takes.met;
   }
 
@@ -184,8 +211,9 @@ module _ (Has : Kind → Type 0) (quiet : Bool) (moment : ℤ) (old mid new : Se
   look_found shown fits = record {
     check = tt;
     answers = refl;
-    tells = λ empty purges. tells_found Has empty purges old.folder archive archive' known scanned moment before
-        after knows scans theirs is (plain_found found) difference (ap length came);
+    tells = λ empty purges. tells_found Has empty old.owner.items purges old.folder archive archive'
+        known scanned moment before after knows visits theirs is (plain_found found) difference
+        (ap length came);
     arrives = found_arrives;
     next = ap (map (λ (l : Listed). l.id)) came ∙ found_listed.ids
         ∙ ap (λ (n : ℕ). ids_from n theirs.came.items) (sym knows.met)
@@ -236,87 +264,88 @@ module _ (Has : Kind → Type 0) (quiet : Bool) (moment : ℤ) (why : ScanError)
     (late : folder.refused ≡ old.folder.refused)
     (refuses : RefusesCheck quiet why moment marks mid new event)
     (forgot : forgot_by refuses.told folder.forgot ≡ forgot_by refuses.told old.folder.forgot)
-    (tells : (empty : Kind) → (purges : Bool) → Tells Has (standing_over empty purges old.folder)
-    (letters_of archive') (CheckRefused moment refuses.told marks) before after) where
-  abbrev cause_told : ScanError
-  cause_told = refuses.told
+    (tells : (empty : Kind) → (purges : Bool) → Tells Has (standing_over empty old.owner.items
+    purges old.folder) (letters_of archive') (CheckRefused moment refuses.told marks) before after)
+  where
+    abbrev cause_told : ScanError
+    cause_told = refuses.told
 
-  folder_is : new.folder ≡ record folder {
-    forgot = forgot_by cause_told folder.forgot;
-    checked = moment;
-  }
-  folder_is = refuses.folder
-      ∙ ap (λ (s : Session). record s.folder {
-        forgot = forgot_by cause_told s.folder.forgot;
-        checked = moment;
-      }) same
+    folder_is : new.folder ≡ record folder {
+      forgot = forgot_by cause_told folder.forgot;
+      checked = moment;
+    }
+    folder_is = refuses.folder
+        ∙ ap (λ (s : Session). record s.folder {
+          forgot = forgot_by cause_told s.folder.forgot;
+          checked = moment;
+        }) same
 
-  refused_rest : new ≡ record old { core = new.core; folder = new.folder }
-  refused_rest = refuses.same
-      ∙ ap (λ (s : Session). record s { core = new.core; folder = new.folder }) same
+    refused_rest : new ≡ record old { core = new.core; folder = new.folder }
+    refused_rest = refuses.same
+        ∙ ap (λ (s : Session). record s { core = new.core; folder = new.folder }) same
 
-  refused_core : plain_core new.core ≡ refused_again quiet cause_told (plain_core old.core)
-  refused_core = refuses.core
-      ∙ ap (λ (s : Session). refused_again quiet cause_told (plain_core s.core)) same
+    refused_core : plain_core new.core ≡ refused_again quiet cause_told (plain_core old.core)
+    refused_core = refuses.core
+        ∙ ap (λ (s : Session). refused_again quiet cause_told (plain_core s.core)) same
 
-  refused_arrives : (notes : Held (Held ℕ)) → plain_session new notes ≡ looked_by quiet
-      (letters_of archive') (plain_session old notes) (CheckRefused moment cause_told marks)
-  refused_arrives notes =
-      let s : State = plain_session old notes in
-      ap (λ (n : Session). plain_session n notes) refused_rest
-      ∙ ap (λ (f : OpenFolder). plain_session (record old { core = new.core; folder = f }) notes)
-      folder_is
-      ∙ (λ i. record s {
-        turn = record s.turn { core = refused_core i };
-        folder = record { path = path i; kind = kind i };
-        listing = (listing i).items;
-        forgot = forgot i;
-        met = met i;
-        checked = moment;
-        refused = late i;
-      })
+    refused_arrives : (notes : Held (Held ℕ)) → plain_session new notes ≡ looked_by quiet
+        (letters_of archive') (plain_session old notes) (CheckRefused moment cause_told marks)
+    refused_arrives notes =
+        let s : State = plain_session old notes in
+        ap (λ (n : Session). plain_session n notes) refused_rest
+        ∙ ap (λ (f : OpenFolder). plain_session (record old { core = new.core; folder = f }) notes)
+        folder_is
+        ∙ (λ i. record s {
+          turn = record s.turn { core = refused_core i };
+          folder = record { path = path i; kind = kind i };
+          listing = (listing i).items;
+          forgot = forgot i;
+          met = met i;
+          checked = moment;
+          refused = late i;
+        })
 
-  refused_open : IsOpen (letters_of archive') after.told new.folder
-  refused_open =
-      subst (λ (f : OpenFolder). IsOpen (letters_of archive') after.told f) (sym folder_is)
-      (subst (λ (l : List Mail). IsOpen l after.told
-      (record folder { forgot = forgot_by cause_told folder.forgot; checked = moment }))
-      (sym letters)
-      (record {
-        right = open_is.right;
-        known = known_by cause_told folder.forgot folder.listing.items folder.known.listing
-            open_is.known;
-        within = open_is.within;
-        once = open_is.once;
-        met = open_is.met;
-      }))
+    refused_open : IsOpen (letters_of archive') after.told new.folder
+    refused_open =
+        subst (λ (f : OpenFolder). IsOpen (letters_of archive') after.told f) (sym folder_is)
+        (subst (λ (l : List Mail). IsOpen l after.told
+        (record folder { forgot = forgot_by cause_told folder.forgot; checked = moment }))
+        (sym letters)
+        (record {
+          right = open_is.right;
+          known = known_by cause_told folder.forgot folder.listing.items folder.known.listing
+              open_is.known;
+          within = open_is.within;
+          once = open_is.once;
+          met = open_is.met;
+        }))
 
-  pub look_refused : IsIndexShown (plain_core old.core)
-      → Fits (letters_of archive) old → old.folder.met ≡ length (letters_of archive)
-      → ((w : ScanError) → w ≡ cause_told → AreNext old.folder.met (CheckRefused moment w marks))
-      → LooksAgain Has quiet moment old new archive archive' event before after
-  look_refused shown fits here next =
-      subst (λ (e : Happening). LooksAgain Has quiet moment old new archive archive' e before after)
-      (sym refuses.event_is) (record {
-        check = tt;
-        answers = refl;
-        tells = tells;
-        arrives = refused_arrives;
-        next = next cause_told refl;
-        met = ap length letters ∙ sym here;
-        added = [];
-        letters = letters ∙ sym (append-nil (letters_of archive));
-        known = refused_open;
-        kind = ap (λ (f : OpenFolder). f.known.kind) folder_is ∙ kind;
-        checked = ap (λ (f : OpenFolder). f.checked) folder_is;
-        fits = index_fits (letters_of archive') old new refused_rest
-            (subst (λ (v : PlainView). IsOf (letters_of archive') v)
-            (sym (refuses.view ∙ ap (λ (s : Session). s.core.desk.view) same))
-            (subst (λ (l : List Mail). IsOf l old.core.desk.view) (sym letters) fits.is_of))
-            (ap (λ (c : CoreState). c.reader) refused_core) shown fits.can;
-        stage = ap (λ (s : Session). s.stage) refused_rest;
-        window = ap (λ (s : Session). s.window) refused_rest;
-      })
+    pub look_refused : IsIndexShown (plain_core old.core)
+        → Fits (letters_of archive) old → old.folder.met ≡ length (letters_of archive)
+        → ((w : ScanError) → w ≡ cause_told → AreNext old.folder.met (CheckRefused moment w marks))
+        → LooksAgain Has quiet moment old new archive archive' event before after
+    look_refused shown fits here next =
+        subst (λ (e : Happening). LooksAgain Has quiet moment old new archive archive' e before after)
+        (sym refuses.event_is) (record {
+          check = tt;
+          answers = refl;
+          tells = tells;
+          arrives = refused_arrives;
+          next = next cause_told refl;
+          met = ap length letters ∙ sym here;
+          added = [];
+          letters = letters ∙ sym (append-nil (letters_of archive));
+          known = refused_open;
+          kind = ap (λ (f : OpenFolder). f.known.kind) folder_is ∙ kind;
+          checked = ap (λ (f : OpenFolder). f.checked) folder_is;
+          fits = index_fits (letters_of archive') old new refused_rest
+              (subst (λ (v : PlainView). IsOf (letters_of archive') v)
+              (sym (refuses.view ∙ ap (λ (s : Session). s.core.desk.view) same))
+              (subst (λ (l : List Mail). IsOf l old.core.desk.view) (sym letters) fits.is_of))
+              (ap (λ (c : CoreState). c.reader) refused_core) shown fits.can;
+          stage = ap (λ (s : Session). s.stage) refused_rest;
+          window = ap (λ (s : Session). s.window) refused_rest;
+        })
 
 -- What is left of what is known where new letters are forgotten.
 
@@ -359,45 +388,45 @@ forgot_known mails letters folder theirs news =
     (was_listed folder.listing.items news.was folder.known.listing theirs folder.met folder.forgot
     news.known news.difference news.ids)
 
--- A scan was refused.
+-- A visit was refused.
 module _ (Has : Kind → Type 0) (quiet : Bool) (moment : ℤ) (old mid new : Session)
-    (archive archive' : List Letter) (scanned : Scanned) (why : ScanError) (event : Happening) (before after : Seen)
+    (archive archive' : List Letter) (scanned : Scanned) (why : ScanError) (event : Happening)
+    (before after : Seen)
     (knows : IsOpen (letters_of archive) before.told old.folder) (folder : OpenFolder)
-    (scans : ScansFolder archive archive' old.folder.known folder.known scanned before after)
+    (visits : VisitsFolder old.owner.items archive archive' old.folder.known folder.known scanned
+    before after)
     (folder_same : folder ≡ with_known folder.known old.folder)
     (is : scanned.answer ≡ Err why)
     (same : mid ≡ record old { folder = folder })
     (refuses : RefusesCheck quiet why moment scanned.marks mid new event) where
-  on_err : {P : Type 0} → OnErr scanned.answer P → P
-  on_err {P} h = subst (λ (r : Result Found ScanError). OnErr r P) is h
-
-  kept : folder ≡ old.folder
-  kept = folder_same
-      ∙ ap (λ (k : KnownFolder). with_known k old.folder) (on_err scans.scans.err_known)
+  known_kept : folder.known ≡ record old.folder.known { held = folder.known.held }
+  known_kept = unvisited_known old.owner.items archive archive' old.folder.known folder.known
+      scanned why before after visits is
 
   letters_same : letters_of archive' ≡ letters_of archive
-  letters_same = ap (map plain_letter) (on_err scans.scans.err_archive)
+  letters_same = unvisited_letters old.owner.items archive archive' old.folder.known folder.known
+      scanned why before after visits is
 
   tells_by : (empty : Kind) → (purges : Bool) → (told : ScanError) → IsToldAs why told
-      → Tells Has (standing_over empty purges old.folder) (letters_of archive')
+      → Tells Has (standing_over empty old.owner.items purges old.folder) (letters_of archive')
       (CheckRefused moment told scanned.marks) before after
   tells_by empty purges told (inl same_cause) =
-      subst (λ (w : ScanError). Tells Has (standing_over empty purges old.folder) (letters_of archive')
-      (CheckRefused moment w scanned.marks) before after) (sym same_cause)
-      (subst (λ (l : List Mail). Tells Has (standing_over empty purges old.folder) l
+      subst (λ (w : ScanError). Tells Has (standing_over empty old.owner.items purges old.folder)
+      (letters_of archive') (CheckRefused moment w scanned.marks) before after) (sym same_cause)
+      (subst (λ (l : List Mail). Tells Has (standing_over empty old.owner.items purges old.folder) l
       (CheckRefused moment why scanned.marks) before after) (sym letters_same)
-      (tells_refused Has empty purges old.folder archive archive' folder.known scanned moment before after
-      knows scans why is))
+      (tells_refused Has empty old.owner.items purges old.folder archive archive' folder.known
+      scanned moment before after knows visits why is))
   tells_by empty purges told (inr starved) =
-      subst (λ (w : ScanError). Tells Has (standing_over empty purges old.folder) (letters_of archive')
-      (CheckRefused moment w scanned.marks) before after) (sym starved)
-      (tells_starved Has empty purges old.folder archive archive' folder.known scanned moment before after
-      knows scans (letters_of archive'))
+      subst (λ (w : ScanError). Tells Has (standing_over empty old.owner.items purges old.folder)
+      (letters_of archive') (CheckRefused moment w scanned.marks) before after) (sym starved)
+      (tells_starved Has empty old.owner.items purges old.folder archive archive' folder.known
+      scanned moment before after knows visits (letters_of archive'))
 
   next_by : (w : ScanError) → IsToldAs why w
       → AreNext old.folder.met (CheckRefused moment w scanned.marks)
   next_by scan.ArchiveFull (inl same_cause) =
-      let full = scans.scans.full
+      let full = visits.visits.full
       (subst (λ (r : Result Found ScanError). IsErrOf r scan.ArchiveFull)
       (sym (is ∙ ap Err (sym same_cause))) refl) in
       omega (arith, full, knows.met, length-map archive plain_letter)
@@ -409,12 +438,13 @@ module _ (Has : Kind → Type 0) (quiet : Bool) (moment : ℤ) (old mid new : Se
       → LooksAgain Has quiet moment old new archive archive' event before after
   look_off shown fits = look_refused Has quiet moment why scanned.marks old mid new event archive
       archive' before after folder same letters_same
-      (subst (IsOpen (letters_of archive) after.told) (sym kept)
-      (open_on (letters_of archive) before.told after.told old.folder scans.scans.only.looks knows))
-      (ap (λ (f : OpenFolder). f.known.path) kept) (ap (λ (f : OpenFolder). f.known.kind) kept)
-      (ap (λ (f : OpenFolder). f.listing) kept) (ap (λ (f : OpenFolder). f.met) kept)
-      (ap (λ (f : OpenFolder). f.refused) kept) refuses
-      (ap (λ (f : OpenFolder). forgot_by refuses.told f.forgot) kept)
+      (subst (IsOpen (letters_of archive) after.told) (sym folder_same)
+      (open_unvisited old.owner.items archive archive' old.folder folder.known scanned why before
+      after knows visits is))
+      (ap (λ (k : KnownFolder). k.path) known_kept) (ap (λ (k : KnownFolder). k.kind) known_kept)
+      (ap (λ (f : OpenFolder). f.listing) folder_same) (ap (λ (f : OpenFolder). f.met) folder_same)
+      (ap (λ (f : OpenFolder). f.refused) folder_same) refuses
+      (ap (λ (f : OpenFolder). forgot_by refuses.told f.forgot) folder_same)
       (λ empty purges. tells_by empty purges refuses.told refuses.told_as)
       shown fits knows.met
       (λ w same_told. next_by w (subst (IsToldAs why) (sym same_told) refuses.told_as))
@@ -430,12 +460,13 @@ left_right mails letters folder left gone told same keeps right =
     (keeps told (subst (λ (f : OpenFolder). Right f.known.kind mails f.known told) (sym same)
     right))
 
--- What a scan found was forgotten.
+-- What a visit found was forgotten.
 module _ (Has : Kind → Type 0) (quiet : Bool) (moment : ℤ) (old mid new : Session)
     (archive archive' archive'' : List Letter) (scanned : Scanned) (theirs : Found)
     (event : Happening) (before after : Seen)
     (knows : IsOpen (letters_of archive) before.told old.folder) (folder gone : OpenFolder)
-    (scans : ScansFolder archive archive' old.folder.known folder.known scanned before after)
+    (visits : VisitsFolder old.owner.items archive archive' old.folder.known folder.known scanned
+    before after)
     (folder_same : folder ≡ with_known folder.known old.folder)
     (is : scanned.answer ≡ Ok theirs)
     (letters_gone : archive'' ≡ take folder.met archive')
@@ -444,14 +475,14 @@ module _ (Has : Kind → Type 0) (quiet : Bool) (moment : ℤ) (old mid new : Se
     → Right folder.known.kind (letters_of archive'') gone.known after.told)
     (same : mid ≡ record old { folder = gone })
     (refuses : RefusesCheck quiet scan.NoMemory moment scanned.marks mid new event) where
-  gone_listed : ListsFound theirs (letters_of archive) (letters_of archive') old.folder.known
-      folder.known
-  gone_listed = scan_lists archive archive' old.folder.known folder.known scanned theirs before
-      after scans is
+  gone_listed : ListsFound theirs (letters_of archive) (letters_of archive')
+      (record old.folder.known { held = folder.known.held }) folder.known
+  gone_listed = visit_lists old.owner.items archive archive' old.folder.known folder.known scanned
+      theirs before after visits is
 
   gone_news : FindsNews (letters_of archive) (letters_of archive') folder theirs
-  gone_news = finds archive archive' old.folder folder folder.known scanned theirs before after
-      knows scans is folder_same
+  gone_news = finds old.owner.items archive archive' old.folder folder folder.known scanned theirs
+      before after knows visits is folder_same
 
   met_is : folder.met ≡ length (letters_of archive)
   met_is = gone_news.met
@@ -475,7 +506,7 @@ module _ (Has : Kind → Type 0) (quiet : Bool) (moment : ℤ) (old mid new : Se
         right = subst (λ (k : Kind). Right k (letters_of archive'') gone.known after.told)
             (sym gone_kind)
             (right (subst (λ (k : Kind). Right k (letters_of archive') folder.known after.told)
-            (sym was_kind) scans.scans.right));
+            (sym was_kind) visits.visits.right));
         known = subst (λ (f : OpenFolder). IsKnownOf f.forgot f.listing.items f.known.listing)
             (sym gone_is)
             (forgot_known (letters_of archive) (letters_of archive') folder theirs gone_news);
@@ -504,10 +535,11 @@ module _ (Has : Kind → Type 0) (quiet : Bool) (moment : ℤ) (old mid new : Se
       refuses
       (ap (λ (w : ScanError). forgot_by w gone.forgot) told_is
       ∙ sym (ap (λ (w : ScanError). forgot_by w old.folder.forgot) told_is))
-      (λ empty purges. subst (λ (w : ScanError). Tells Has (standing_over empty purges old.folder)
-      (letters_of archive'') (CheckRefused moment w scanned.marks) before after) (sym told_is)
-      (tells_starved Has empty purges old.folder archive archive' folder.known scanned moment before after
-      knows scans (letters_of archive'')))
+      (λ empty purges. subst (λ (w : ScanError). Tells Has (standing_over empty old.owner.items
+      purges old.folder) (letters_of archive'') (CheckRefused moment w scanned.marks) before after)
+      (sym told_is)
+      (tells_starved Has empty old.owner.items purges old.folder archive archive' folder.known
+      scanned moment before after knows visits (letters_of archive'')))
       shown fits knows.met
       (λ w same_told. subst (λ (v : ScanError). AreNext old.folder.met
       (CheckRefused moment v scanned.marks)) (sym (same_told ∙ told_is)) tt)

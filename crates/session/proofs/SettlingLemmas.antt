@@ -17,7 +17,8 @@ use Rattle.session_state.specs.declared.stage.Stage.TheVariants.{Idle}
 use Rattle.session_state.specs.declared.stage.Stage.TheVariants.{Opening, Over, Reading, Syncing}
 use Rattle.session.specs.Acting.{acted, prompted}
 use Rattle.session.specs.Core.{CoreState, Ground, shown_menu}
-use Rattle.session.specs.Keys.{TurnState, drop_all, keys_by, put_or, run_keys, stage_after, stage_wanted, step}
+use Rattle.session.specs.Keys.{TurnState, drop_all, keys_by, put_or, run_keys, stage_after}
+use Rattle.session.specs.Keys.{stage_wanted, step}
 use Rattle.session.specs.Keys.{once_read, read_first, run_on, step_at, stop_by, stopped, with_begun}
 use Rattle.session.specs.Keys.{with_put}
 use Rattle.session.specs.Steps.{IsDone, IsNext, IsSettled, next_of}

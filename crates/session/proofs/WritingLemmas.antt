@@ -76,8 +76,8 @@ module _ (Has : Kind → Type 0) (purges : Bool) (letters : List Mail) (changes 
 
     -- by what was answered
     tried_arrives : (answer : Result (Unit {0}) SyncError)
-        → SyncsOpen Has purges letters (sync_event changes answer marks) old.folder folder before
-        after
+        → SyncsOpen Has old.owner.items purges letters (sync_event changes answer marks) old.folder
+        folder before after
         → TakesTried letters changes answer quits mid new → (notes : Held (Held ℕ))
         → plain_session new notes
         ≡ written_by quits letters (plain_session old notes) (sync_event changes answer marks)
@@ -116,7 +116,8 @@ module _ (Has : Kind → Type 0) (purges : Bool) (letters : List Mail) (changes 
         (synced_core letters changes (plain_core mid.core)) quits mid new takes refl
         (record { window = can.window; moment = can.moment; few = can.few })
     tried_fits (Err why) takes can = write_fits letters
-        (unsynced_core mid.folder.known.path (plain_refusal why) (plain_core mid.core)) false mid new
+        (unsynced_core mid.folder.known.path (plain_refusal why) (plain_core mid.core)) false mid
+        new
         takes refl (record { window = can.window; moment = can.moment; few = can.few })
 
     tried_index : (answer : Result (Unit {0}) SyncError)
@@ -124,13 +125,23 @@ module _ (Has : Kind → Type 0) (purges : Bool) (letters : List Mail) (changes 
     tried_index (Ok done) takes = write_index letters
         (synced_core letters changes (plain_core mid.core)) quits mid new takes refl
     tried_index (Err why) takes = write_index letters
-        (unsynced_core mid.folder.known.path (plain_refusal why) (plain_core mid.core)) false mid new
+        (unsynced_core mid.folder.known.path (plain_refusal why) (plain_core mid.core)) false mid
+        new
         takes refl
 
 -- what holds where a call was answered Ok, by what it took
 ok_by : {P Q : Type 0} (r : Result (Unit {0}) NoMemory) → OnOk r P → (P → Q) → OnOk r Q
 ok_by (Ok done) h f = f h
 ok_by (Err none) h f = tt
+
+-- a sync for the owner of the session
+pub syncs_by : {Has : Kind → Type 0} {owner was : List ℕ} {purges : Bool} {mails : List Mail}
+    {event : Happening} {folder new_folder : OpenFolder} {before after : Seen} → owner ≡ was
+    → SyncsOpen Has owner purges mails event folder new_folder before after
+    → SyncsOpen Has was purges mails event folder new_folder before after
+syncs_by {Has} {owner} {was} {purges} {mails} {event} {folder} {new_folder} {before} {after} is
+    syncs = subst (λ (o : List ℕ). SyncsOpen Has o purges mails event folder new_folder before
+    after) is syncs
 
 -- the folder was written, or was not
 pub writes : {Has : Kind → Type 0} {purges : Bool} (letters : List Mail) (changes : List Changed)
@@ -139,7 +150,8 @@ pub writes : {Has : Kind → Type 0} {purges : Bool} (letters : List Mail) (chan
     (before after : Seen) → mid ≡ with_folder folder old
     → event ≡ sync_event changes answer marks
     → purges ≡ is_set (plain_core old.core).rules.settings MhPurge
-    → SyncsOpen Has purges letters (sync_event changes answer marks) old.folder folder before after
+    → SyncsOpen Has old.owner.items purges letters (sync_event changes answer marks) old.folder
+    folder before after
     → OnOk taken (TakesTried letters changes answer quits mid new)
     → new ≡ record mid { core = new.core; stage = new.stage } → Fits letters old
     → WritesFolder Has changes quits old new letters event taken before after
@@ -154,8 +166,9 @@ writes {Has} {purges} letters changes quits marks answer old mid new folder even
     (sym is) (record {
       sync = tried_sync changes answer marks;
       answers = tried_answers changes answer marks;
-      tells = λ empty. subst (λ (p : Bool). Tells Has (standing_over empty p old.folder) letters
-          (sync_event changes answer marks) before after) wanted (syncs.tells empty);
+      tells = λ empty. subst (λ (p : Bool). Tells Has (standing_over empty old.owner.items p
+          old.folder) letters (sync_event changes answer marks) before after) wanted
+          (syncs.tells empty);
       arrives = ok_by taken there (tried_arrives Has purges letters changes quits marks old new
           folder before after answer syncs);
       known = subst (λ (f : OpenFolder). IsOpen letters after.told f) (sym folder_is)

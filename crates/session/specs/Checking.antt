@@ -21,8 +21,9 @@ abbrev pub is_free : Menu → Option PlainPrompt → List Key → Bool
 is_free menu.Index None begun = not (has_begun begun)
 is_free _ _ begun = false
 
--- a check is due before a key that is typed at a moment: the index takes keys, and the last sync was
--- refused, or the last check was as long ago as `$mail_check` says (Mutt's manual, "mail_check")
+-- a check is due before a key that is typed at a moment: the index takes keys, and the last sync
+-- was refused, or the last check was as long ago as `$mail_check` says (Mutt's manual,
+-- "mail_check")
 abbrev pub is_due : Bool → ℤ → CoreState → ℤ → Bool
 is_due refused checked c moment =
     is_free (shown_menu c) c.desk.prompt c.rules.keymap.begun

@@ -49,7 +49,8 @@ pub record FindsNews (mails letters : List Mail) (folder : OpenFolder) (found : 
   pub ids : map (λ listed. listed.id) found.came.items ≡ ids_from folder.met found.came.items
 
 -- The index took in what was found, which was told, and the folder its listing.
-pub record TakesIt (quiet : Bool) (letters : List Mail) (moment : ℤ) (old new : Session) (found : Found)
+pub record TakesIt (quiet : Bool) (letters : List Mail) (moment : ℤ) (old new : Session)
+    (found : Found)
     : Type 0 where
   pub difference : IsDifference old.folder.listing.items old.folder.known.listing found
   pub is_of : IsOf letters new.core.desk.view
@@ -79,7 +80,8 @@ pub record TellsRefusal (why told : ScanError) (old new : Session) : Type 0 wher
   pub same : new ≡ record old { core = new.core }
 
 -- A check was refused at a moment for a cause, as the event tells.
-pub record RefusesCheck (quiet : Bool) (why : ScanError) (moment : ℤ) (marks : Marks) (old new : Session)
+pub record RefusesCheck (quiet : Bool) (why : ScanError) (moment : ℤ) (marks : Marks)
+    (old new : Session)
     (event : Happening) : Type 0 where
   pub told : ScanError
   pub told_as : IsToldAs why told
@@ -91,13 +93,14 @@ pub record RefusesCheck (quiet : Bool) (why : ScanError) (moment : ℤ) (marks :
       ≡ record old.folder { forgot = forgot_by told old.folder.forgot; checked = moment }
   pub same : new ≡ record old { core = new.core; folder = new.folder }
 
--- The folder was scanned, and what was found was taken in, or the event tells why not.
+-- The folder was visited, and what was found was taken in, or the event tells why not.
 pub record LooksAgain (Has : Kind → Type 0) (quiet : Bool) (moment : ℤ) (old new : Session)
     (archive archive' : List Letter) (event : Happening) (before after : Seen) : Type 0 where
   pub check : IsCheck event
   pub answers : answered event ≡ Check moment
   pub tells : (empty : Kind) → (purges : Bool) → Tells Has
-      (standing_over empty purges old.folder) (map plain_letter archive') event before after
+      (standing_over empty old.owner.items purges old.folder) (map plain_letter archive') event
+      before after
   pub arrives : (notes : Held (Held ℕ)) → plain_session new notes
       ≡ looked_by quiet (map plain_letter archive') (plain_session old notes) event
   pub next : AreNext old.folder.met event

@@ -46,7 +46,8 @@ use Rattle.session.specs.declared.session_type.Session.{Session}
 -- what keys act on; what was told of files of commands; the screen's size; the open folder, its
 -- listing, and whether only a part of it is known still; how many letters were met; the moment of
 -- its last check, before its opening that of the start; whether its last sync was refused; the
--- moment at which commands run and keys act; and the folder that the words name
+-- moment at which commands run and keys act; the folder that the words name; and the word that our
+-- locks bear
 pub record State : Type 0 where
   pub turn : TurnState
   pub notes : List (List ℕ)
@@ -59,6 +60,7 @@ pub record State : Type 0 where
   pub refused : Bool
   pub moment : ℤ
   pub named : Option (List ℕ)
+  pub owner : List ℕ
 
 -- a session with its notes, as contracts see it
 abbrev pub plain_session : Session → Held (Held ℕ) → State
@@ -79,6 +81,7 @@ plain_session session notes = record {
   refused = session.folder.refused;
   moment = session.moment.0;
   named = option_map (λ path. path.items) session.named;
+  owner = session.owner.items;
 }
 
 -- Wishes.

@@ -18,6 +18,7 @@ pub record PlainSetup : Type 0 where
   pub kind : Option Kind
   pub read_only : Bool
   pub window : Window
+  pub owner : List ℕ
 
 -- what the words have chosen, as contracts see it
 abbrev pub plain_setup : Setup → PlainSetup
@@ -28,6 +29,7 @@ plain_setup setup = record {
   kind = setup.kind;
   read_only = setup.read_only;
   window = record { rows = setup.rows; cols = setup.cols; offset = setup.offset };
+  owner = setup.owner.items;
 }
 
 -- at this moment, over this core
@@ -44,6 +46,7 @@ state_over setup core moment = record {
   checked = moment;
   moment = moment;
   named = setup.path;
+  owner = setup.owner;
 }
 
 -- at this moment

@@ -143,8 +143,8 @@ abbrev pub IsDone : Stage → List PlainFrame → Type 0
 IsDone (Syncing purge quits) frames = ⊥
 IsDone stage frames = IsFileless stage frames
 
--- keys have acted, or hooks of a folder have: a key is wanted, or a file or a sync that they came to,
--- or the run is over
+-- keys have acted, or hooks of a folder have: a key is wanted, or a file or a sync that they came
+-- to, or the run is over
 abbrev pub IsSettled : Stage → List PlainFrame → Type 0
 IsSettled Idle frames = Unit {0}
 IsSettled Opening frames = frames ≢ []

@@ -30,6 +30,7 @@ purges_in s = is_set s.turn.core.rules.settings MhPurge
 abbrev pub standing_of : State → Standing
 standing_of s = record {
   empty = kind_in s;
+  owner = s.owner;
   purges = purges_in s;
   path = s.folder.path;
   kind = s.folder.kind;

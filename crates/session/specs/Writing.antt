@@ -43,7 +43,7 @@ pub record WritesFolder (Has : Kind → Type 0) (changes : List Changed) (quits 
     (taken : Result (Unit {0}) NoMemory) (before after : Seen) : Type 0 where
   pub sync : IsSync event
   pub answers : answered event ≡ Sync changes
-  pub tells : (empty : Kind) → Tells Has (standing_over empty
+  pub tells : (empty : Kind) → Tells Has (standing_over empty old.owner.items
       (is_set (plain_core old.core).rules.settings MhPurge) old.folder) letters event before after
   pub arrives : OnOk taken ((notes : Held (Held ℕ)) → plain_session new notes
       ≡ written_by quits letters (plain_session old notes) event)

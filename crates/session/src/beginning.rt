@@ -226,7 +226,8 @@ impl Session {
     ) -> Result<Opening, NoMemory>
         requires { archive.old.items ≡ [] }
         ensures ok { IfOk result (λ opening. (at : Standing)
-            → at.empty ≡ new_kind self.now.core.rules.settings → OpensPath
+            → at.empty ≡ new_kind self.now.core.rules.settings
+            → at.owner ≡ self.now.owner.items → OpensPath
             (λ kind. Any (λ d. sort (d.vtable, d.value) ≡ kind) drivers.now.list.items)
             at
             (folder_path self.now.core.rules.settings
@@ -245,7 +246,9 @@ impl Session {
         let path = path_in(self.alloc, settings, named)?;
         let name = Bytes::copy_of(self.alloc, path.as_slice())?;
         let empty = kind_in(settings);
-        let path = path.as_str();
-        Ok(open_event(self.alloc, dev, drivers, empty, path, name, moment, archive))
+        let (path, owner) = (path.as_str(), self.owner.as_slice());
+        Ok(open_event(
+            self.alloc, dev, drivers, owner, empty, path, name, moment, archive,
+        ))
     }
 }

@@ -91,8 +91,8 @@ impl Session {
         free && (self.folder.refused || over)
     }
 
-    /// Scans the folder and takes in what was found, which is told unless it is quiet; what cannot be
-    /// taken in is forgotten, and met by the next scan.
+    /// Visits the folder and takes in what was found, which is told unless it is quiet; what cannot
+    /// be taken in is forgotten, and met by the next scan.
     pub(crate) fn look_again(
         &mut self,
         dev: &mut Device,
@@ -109,11 +109,13 @@ impl Session {
         requires has { Any (λ d. sort (d.vtable, d.value) ≡ self.old.folder.known.kind)
             drivers.now.list.items }
         ensures { LooksAgain (λ kind. Any (λ d. sort (d.vtable, d.value) ≡ kind)
-            drivers.now.list.items) quiet moment self.old self.new archive.old.items archive.new.items
+            drivers.now.list.items) quiet moment self.old self.new archive.old.items
+            archive.new.items
             (plain_event result) (seen (dev.old.disk.vtable, dev.old.disk.value))
             (seen (dev.new.disk.vtable, dev.new.disk.value)) }
     {
-        let scanned = self.folder.scan(self.alloc, dev, drivers, archive);
+        let (alloc, owner) = (self.alloc, self.owner.as_slice());
+        let scanned = self.folder.visit(alloc, dev, drivers, owner, archive);
         let marks = scanned.marks;
         match scanned.answer {
             Ok(found) => match self.take_found(archive, found, quiet, moment) {

@@ -22,8 +22,8 @@ impl Session {
     ghost use Rattle.session.specs.Steps.{next_of};
     ghost use Rattle.session_state.specs.declared.stage.Stage.TheVariants.{Ready};
 
-    /// Lets the keys act that commands have put before the first screen, reads the files of commands
-    /// and makes the syncs that they come to.
+    /// Lets the keys act that commands have put before the first screen, reads the files of
+    /// commands and makes the syncs that they come to.
     pub fn pushed(
         &mut self,
         dev: &mut Device,

@@ -226,8 +226,8 @@ impl Session {
         self.settle(archive, verdicts)
     }
 
-    // Makes the sync that is wanted, if one is, and checks the folder behind it. Then the keys go on,
-    // or the run is over. Whether one was wanted.
+    // Makes the sync that is wanted, if one is, and checks the folder behind it. Then the keys go
+    // on, or the run is over. Whether one was wanted.
     fn sync_next(
         &mut self,
         dev: &mut Device,

@@ -4,7 +4,7 @@ use Rattle.std.proofs.Common.{Result, Ok, Err}
 use Rattle.std.proofs.Common.{refl, sym, ◌∙◌, ap, subst, arith, length, length-append, map, take}
 use Rattle.std.proofs.Math.Seq.{take-append_seam}
 use Rattle.std.proofs.lemmas.List.{take-take, take_all}
-use Rattle.std.specs.Prelude.{IfErr, IfOk, IsErrOf}
+use Rattle.std.specs.Prelude.{IfErr, IfOk, IsErrOf, OnErr}
 use Rattle.mail_base.specs.Faults.{Rose}
 use Rattle.mail_base.specs.declared.kind.Kind.{Kind}
 use Rattle.disk_model.specs.Journal.{Past}
@@ -15,9 +15,8 @@ use Rattle.folder_core.proofs.RightLemmas.{right_same}
 use Rattle.folder_core.proofs.SeenLemmas.{goes_as}
 use Rattle.folder_core.specs.Keeping.{IsDifference}
 use Rattle.folder_core.specs.Known.{KnownFolder}
-use Rattle.folder_core.specs.Reads.{format_of}
 use Rattle.folder_core.specs.Right.{Right}
-use Rattle.folder_core.specs.Scanned.{IsFound, ListsFound, Saw}
+use Rattle.folder_core.specs.Scanned.{ListsFound}
 use Rattle.folder_core.specs.declared.error.ScanError.{ScanError}
 use Rattle.folder_core.specs.declared.error.ScanError.TheVariants as scan
 use Rattle.folder_changes.specs.declared.sync_error.SyncError.{SyncError}
@@ -26,14 +25,16 @@ use Rattle.folder_drivers.specs.Synced.{sync_row}
 use Rattle.folder_letters.specs.Letters.{Mail, plain_letter}
 use Rattle.folder_letters.specs.declared.letter.Letter.{Letter}
 use Rattle.folder_letters.specs.declared.listing.Found.{Found}
+use Rattle.folder_letters.specs.declared.listing.Listed.{Listed}
 use Rattle.index_items.specs.Changes.{Changed}
-use Rattle.session_events.specs.Checking.{IsOpen, ScansFolder, standing_over}
+use Rattle.session_events.specs.Checking.{IsOpen, VisitsFolder, standing_over}
 use Rattle.session_events.specs.Events.{Happening, FileRead, FileRefused, KeyPressed, FolderOpened}
 use Rattle.session_events.specs.Events.{FolderRefused, FolderChecked, CheckRefused, PlainFound}
 use Rattle.session_events.specs.Events.{FolderSynced, SyncRefused, held_found}
-use Rattle.session_events.specs.Happened.{Counts, Happened, HasCause, IsKnown, Standing}
+use Rattle.session_events.specs.Happened.{Counts, Happened, HasCause, IsKnown, IsKnownOf, Standing}
 use Rattle.session_events.specs.Happened.{WasChecked, WasNotSynced, WasTried}
 use Rattle.session_events.specs.Happened.{CheckWasRefused, WasNotChecked, WasOpened, met_after}
+use Rattle.session_events.specs.Visits.{VisitSaw, WasNotVisited, WasVisited}
 use Rattle.session_events.specs.Telling.{Tells}
 use Rattle.session_events.specs.declared.checking.Scanned.{Scanned}
 use Rattle.session_events.specs.declared.open_folder.OpenFolder.{OpenFolder}
@@ -53,22 +54,70 @@ open_on mails a b folder looks is = record {
   met = is.met;
 }
 
--- what a scan that found something lists
-pub scan_lists : (archive archive' : List Letter) (known new_known : KnownFolder)
-    (scanned : Scanned) (theirs : Found) (old new : Seen)
-    → ScansFolder archive archive' known new_known scanned old new → scanned.answer ≡ Ok theirs
-    → ListsFound theirs (letters_of archive) (letters_of archive') known new_known
-scan_lists archive archive' known new_known scanned theirs old new scans is =
-    subst (λ (r : Result Found ScanError). IfOk r (λ f. ListsFound f (letters_of archive)
-    (letters_of archive') known new_known)) is scans.scans.lists
+-- what is known of a folder, with whether its lock is held
+abbrev with_held : KnownFolder → Bool → KnownFolder
+with_held known held = record known { held = held }
 
--- A scan of the open folder.
-module _ (Has : Kind → Type 0) (empty : Kind) (purges : Bool) (folder : OpenFolder)
-    (archive archive' : List Letter) (new_known : KnownFolder) (scanned : Scanned) (moment : ℤ) (old new : Seen)
+-- what a visit that found something lists
+pub visit_lists : (owner : List ℕ) (archive archive' : List Letter) (known new_known : KnownFolder)
+    (scanned : Scanned) (theirs : Found) (old new : Seen)
+    → VisitsFolder owner archive archive' known new_known scanned old new
+    → scanned.answer ≡ Ok theirs
+    → ListsFound theirs (letters_of archive) (letters_of archive')
+    (with_held known new_known.held) new_known
+visit_lists owner archive archive' known new_known scanned theirs old new visits is =
+    subst (λ (r : Result Found ScanError). IfOk r (λ f. ListsFound f (letters_of archive)
+    (letters_of archive') (with_held known new_known.held) new_known)) is visits.visits.lists
+
+-- what is known of the open folder behind a visit that was refused
+pub unvisited_known : (owner : List ℕ) (archive archive' : List Letter)
+    (known new_known : KnownFolder) (scanned : Scanned) (why : ScanError) (old new : Seen)
+    → VisitsFolder owner archive archive' known new_known scanned old new
+    → scanned.answer ≡ Err why → new_known ≡ with_held known new_known.held
+unvisited_known owner archive archive' known new_known scanned why old new visits is =
+    subst (λ (r : Result Found ScanError). OnErr r (new_known ≡ with_held known new_known.held)) is
+    visits.visits.err_known
+
+-- and its letters are those of before
+pub unvisited_letters : (owner : List ℕ) (archive archive' : List Letter)
+    (known new_known : KnownFolder) (scanned : Scanned) (why : ScanError) (old new : Seen)
+    → VisitsFolder owner archive archive' known new_known scanned old new
+    → scanned.answer ≡ Err why → letters_of archive' ≡ letters_of archive
+unvisited_letters owner archive archive' known new_known scanned why old new visits is =
+    ap letters_of (subst (λ (r : Result Found ScanError). OnErr r (archive' ≡ archive)) is
+    visits.visits.err_archive)
+
+-- so it stays open
+pub open_unvisited : (owner : List ℕ) (archive archive' : List Letter) (folder : OpenFolder)
+    (new_known : KnownFolder) (scanned : Scanned) (why : ScanError) (old new : Seen)
+    → IsOpen (letters_of archive) old.told folder
+    → VisitsFolder owner archive archive' folder.known new_known scanned old new
+    → scanned.answer ≡ Err why
+    → IsOpen (letters_of archive) new.told (record folder { known = new_known })
+open_unvisited owner archive archive' folder new_known scanned why old new open_is visits is =
+    let same = unvisited_known owner archive archive' folder.known new_known scanned why old new
+    visits is in
+    record {
+      right = subst (λ (l : List Mail). Right new_known.kind l new_known new.told)
+          (unvisited_letters owner archive archive' folder.known new_known scanned why old new
+          visits is)
+          (subst (λ (k : Kind). Right k (letters_of archive') new_known new.told)
+          (sym (ap (λ (k : KnownFolder). k.kind) same)) visits.visits.right);
+      known = subst (λ (l : List Listed). IsKnownOf folder.forgot folder.listing.items l)
+          (sym (ap (λ (k : KnownFolder). k.listing) same)) open_is.known;
+      within = open_is.within;
+      once = open_is.once;
+      met = open_is.met;
+    }
+
+-- A visit of the open folder.
+module _ (Has : Kind → Type 0) (empty : Kind) (owner : List ℕ) (purges : Bool)
+    (folder : OpenFolder) (archive archive' : List Letter) (new_known : KnownFolder)
+    (scanned : Scanned) (moment : ℤ) (old new : Seen)
     (known : IsOpen (letters_of archive) old.told folder)
-    (scans : ScansFolder archive archive' folder.known new_known scanned old new) where
+    (visits : VisitsFolder owner archive archive' folder.known new_known scanned old new) where
   abbrev at : Standing
-  at = standing_over empty purges folder
+  at = standing_over empty owner purges folder
 
   -- it was refused for want of memory, also of that to take in what it found
   pub tells_starved : (mails : List Mail)
@@ -76,15 +125,15 @@ module _ (Has : Kind → Type 0) (empty : Kind) (purges : Bool) (folder : OpenFo
   tells_starved mails = record {
     marks = scanned.marks;
     marked = refl;
-    before = scans.before;
-    after = scans.behind;
-    on = scans.scans.only.marks;
-    faults = scans.scans.only.faults;
+    before = visits.before;
+    after = visits.behind;
+    on = visits.visits.marks;
+    faults = visits.visits.faults;
     cause = tt;
-    happened = goes_as old.told new.told (λ p q saw. tt) scans.scans.saw;
-    touches = scans.scans.only.looks;
-    first = scans.first;
-    last = scans.last;
+    happened = goes_as old.told new.told (λ p q saw. tt) visits.visits.saw;
+    touches = visits.visits.here;
+    first = visits.first;
+    last = visits.last;
   }
 
   known_at : (mails : List Mail) (p : Past) → old.told ≡ Some p
@@ -103,15 +152,15 @@ module _ (Has : Kind → Type 0) (empty : Kind) (purges : Bool) (folder : OpenFo
     here = take_all folder.met (letters_of archive) (omega (arith, known.met))
 
     refused_at : (p q : Past) → old.told ≡ Some p
-        → Saw folder.known.kind (letters_of archive) (letters_of archive') folder.known new_known
-        scanned.answer p q → CheckWasRefused at (letters_of archive) why p q
+        → VisitSaw folder.known.kind owner (letters_of archive) (letters_of archive') folder.known
+        new_known scanned.answer p q → CheckWasRefused at (letters_of archive) why p q
     refused_at p q told saw = record {
       known = folder.known;
       is = known_at (letters_of archive) p told here;
-      refused = subst (λ (l : List Mail). (format_of folder.known.kind).Refused l folder.known why
-          (length p.journal) (length q.journal) q) (sym here)
-          (subst (λ (r : Result Found ScanError). Saw folder.known.kind (letters_of archive)
-          (letters_of archive') folder.known new_known r p q) is saw);
+      refused = subst (λ (l : List Mail). WasNotVisited folder.known.kind owner l folder.known why
+          p q) (sym here)
+          (subst (λ (r : Result Found ScanError). VisitSaw folder.known.kind owner
+          (letters_of archive) (letters_of archive') folder.known new_known r p q) is saw);
     }
 
     refused_by : (w : ScanError) → (p q : Past)
@@ -127,8 +176,8 @@ module _ (Has : Kind → Type 0) (empty : Kind) (purges : Bool) (folder : OpenFo
     refused_by scan.ArchiveFull p q was = was
 
     refused_told : (a b : Option Past) → old.told ≡ a
-        → GoesOn (Saw folder.known.kind (letters_of archive) (letters_of archive') folder.known
-        new_known scanned.answer) a b
+        → GoesOn (VisitSaw folder.known.kind owner (letters_of archive) (letters_of archive')
+        folder.known new_known scanned.answer) a b
         → GoesOn (λ (p q : Past). WasNotChecked at (letters_of archive) why p q) a b
     refused_told None b told goes = goes
     refused_told (Some p) None told goes = goes
@@ -138,9 +187,9 @@ module _ (Has : Kind → Type 0) (empty : Kind) (purges : Bool) (folder : OpenFo
         → HasCause Has (CheckRefused moment w scanned.marks) scanned.marks
     cause_of scan.Fault same =
         subst (λ (n : ℕ). Rose n scanned.marks.faults_after)
-        (ap (λ (c : Counts). c.faults) scans.before)
-        (subst (λ (n : ℕ). Rose old.faults n) (ap (λ (c : Counts). c.faults) scans.behind)
-        (scans.scans.cause (subst (λ (r : Result Found ScanError). IsErrOf r scan.Fault)
+        (ap (λ (c : Counts). c.faults) visits.before)
+        (subst (λ (n : ℕ). Rose old.faults n) (ap (λ (c : Counts). c.faults) visits.behind)
+        (visits.visits.cause (subst (λ (r : Result Found ScanError). IsErrOf r scan.Fault)
         (sym (is ∙ ap Err (sym same))) refl)))
     cause_of _ same = tt
 
@@ -149,23 +198,25 @@ module _ (Has : Kind → Type 0) (empty : Kind) (purges : Bool) (folder : OpenFo
     tells_refused = record {
       marks = scanned.marks;
       marked = refl;
-      before = scans.before;
-      after = scans.behind;
-      on = scans.scans.only.marks;
-      faults = scans.scans.only.faults;
+      before = visits.before;
+      after = visits.behind;
+      on = visits.visits.marks;
+      faults = visits.visits.faults;
       cause = cause_of why refl;
-      happened = refused_told old.told new.told refl scans.scans.saw;
-      touches = scans.scans.only.looks;
-      first = scans.first;
-      last = scans.last;
+      happened = refused_told old.told new.told refl visits.visits.saw;
+      touches = visits.visits.here;
+      first = visits.first;
+      last = visits.last;
     }
 
   -- It found something or nothing, and so did the session.
   module _ (theirs : Found) (is : scanned.answer ≡ Ok theirs) (found : PlainFound)
       (difference : IsDifference folder.listing.items new_known.listing (held_found found))
       (count : length found.came ≡ length theirs.came.items) where
-    lists : ListsFound theirs (letters_of archive) (letters_of archive') folder.known new_known
-    lists = scan_lists archive archive' folder.known new_known scanned theirs old new scans is
+    lists : ListsFound theirs (letters_of archive) (letters_of archive')
+        (with_held folder.known new_known.held) new_known
+    lists = visit_lists owner archive archive' folder.known new_known scanned theirs old new visits
+        is
 
     first_letters : take folder.met (letters_of archive') ≡ letters_of archive
     first_letters = ap (λ (n : ℕ). take n (letters_of archive')) known.met
@@ -187,25 +238,25 @@ module _ (Has : Kind → Type 0) (empty : Kind) (purges : Bool) (folder : OpenFo
     all_letters = take_all _ (letters_of archive') (omega (arith, letters_count))
 
     found_at : (p q : Past) → old.told ≡ Some p
-        → Saw folder.known.kind (letters_of archive) (letters_of archive') folder.known new_known
-        scanned.answer p q → WasChecked at (letters_of archive') found p q
+        → VisitSaw folder.known.kind owner (letters_of archive) (letters_of archive') folder.known
+        new_known scanned.answer p q → WasChecked at (letters_of archive') found p q
     found_at p q told saw = record {
       known = folder.known;
       new_known = new_known;
       is = known_at (letters_of archive') p told first_letters;
-      scanned = subst (λ (l : List Mail). IsFound (format_of folder.known.kind) l
-          (take (folder.met + length found.came) (letters_of archive')) folder.known new_known
-          (length p.journal) (length q.journal) q) (sym first_letters)
-          (subst (λ (l : List Mail). IsFound (format_of folder.known.kind) (letters_of archive) l
-          folder.known new_known (length p.journal) (length q.journal) q) (sym all_letters)
-          (subst (λ (r : Result Found ScanError). Saw folder.known.kind (letters_of archive)
-          (letters_of archive') folder.known new_known r p q) is saw));
+      visited = subst (λ (l : List Mail). WasVisited folder.known.kind owner l
+          (take (folder.met + length found.came) (letters_of archive')) folder.known new_known p q)
+          (sym first_letters)
+          (subst (λ (l : List Mail). WasVisited folder.known.kind owner (letters_of archive) l
+          folder.known new_known p q) (sym all_letters)
+          (subst (λ (r : Result Found ScanError). VisitSaw folder.known.kind owner
+          (letters_of archive) (letters_of archive') folder.known new_known r p q) is saw));
       difference = difference;
     }
 
     found_told : (a b : Option Past) → old.told ≡ a
-        → GoesOn (Saw folder.known.kind (letters_of archive) (letters_of archive') folder.known
-        new_known scanned.answer) a b
+        → GoesOn (VisitSaw folder.known.kind owner (letters_of archive) (letters_of archive')
+        folder.known new_known scanned.answer) a b
         → GoesOn (λ (p q : Past). WasChecked at (letters_of archive') found p q) a b
     found_told None b told goes = goes
     found_told (Some p) None told goes = goes
@@ -216,15 +267,15 @@ module _ (Has : Kind → Type 0) (empty : Kind) (purges : Bool) (folder : OpenFo
     tells_found = record {
       marks = scanned.marks;
       marked = refl;
-      before = scans.before;
-      after = scans.behind;
-      on = scans.scans.only.marks;
-      faults = scans.scans.only.faults;
+      before = visits.before;
+      after = visits.behind;
+      on = visits.visits.marks;
+      faults = visits.visits.faults;
       cause = tt;
-      happened = found_told old.told new.told refl scans.scans.saw;
-      touches = scans.scans.only.looks;
-      first = scans.first;
-      last = scans.last;
+      happened = found_told old.told new.told refl visits.visits.saw;
+      touches = visits.visits.here;
+      first = visits.first;
+      last = visits.last;
     }
 
 -- What an event says of letters that were met it says of more.
@@ -246,8 +297,8 @@ module _ (mails more : List Mail) (first : take (length mails) more ≡ mails) w
   refused_more at why p q low was = record {
     known = was.known;
     is = known_more at was.known p low was.is;
-    refused = subst (λ (l : List Mail). (format_of at.kind).Refused l was.known why
-        (length p.journal) (length q.journal) q) (sym (takes_same at.met low)) was.refused;
+    refused = subst (λ (l : List Mail). WasNotVisited at.kind at.owner l was.known why p q)
+        (sym (takes_same at.met low)) was.refused;
   }
 
   -- a sync was tried with the same letters
@@ -260,8 +311,8 @@ module _ (mails more : List Mail) (first : take (length mails) more ≡ mails) w
     all_known = was.all_known;
     listed = was.listed;
     once = was.once;
-    works = subst (λ (l : List Mail). (sync_row at.kind).Works at.purges was.known l changes result
-        (Some p) (Some q)) (sym (takes_same at.met low)) was.works;
+    works = subst (λ (l : List Mail). (sync_row at.kind).Works at.owner at.purges was.known l
+        changes result (Some p) (Some q)) (sym (takes_same at.met low)) was.works;
     keeps = subst (λ (l : List Mail). (sync_row at.kind).Keeps was.known l changes (Some p)
         (Some q)) (sym (takes_same at.met low)) was.keeps;
     may_be = subst (λ (l : List Mail). IfErr result ((sync_row at.kind).MayBe was.known l changes))
@@ -301,19 +352,18 @@ module _ (mails more : List Mail) (first : take (length mails) more ≡ mails) w
   happened_more Has at (FileRefused path why marks) p q low was = was
   happened_more Has at (KeyPressed key moment) p q low was = was
   happened_more Has at (FolderOpened path kind moment came marks) p q low was =
-      subst (λ (l : List Mail). WasOpened at.empty l path kind came (length p.journal)
-      (length q.journal) q) (sym (takes_same (length came) (omega (arith, low)))) was
+      subst (λ (l : List Mail). WasOpened at.empty at.owner l path kind came p q)
+      (sym (takes_same (length came) (omega (arith, low)))) was
   happened_more Has at (FolderRefused path why marks) p q low was = was
   happened_more Has at (FolderChecked moment found marks) p q low was = record {
     known = was.known;
     new_known = was.new_known;
     is = known_more at was.known p (omega (arith, low)) was.is;
-    scanned = subst (λ (l : List Mail). IsFound (format_of at.kind) l
-        (take (at.met + length found.came) more) was.known was.new_known (length p.journal)
-        (length q.journal) q) (sym (takes_same at.met (omega (arith, low))))
-        (subst (λ (l : List Mail). IsFound (format_of at.kind) (take at.met mails) l was.known
-        was.new_known (length p.journal) (length q.journal) q)
-        (sym (takes_same (at.met + length found.came) low)) was.scanned);
+    visited = subst (λ (l : List Mail). WasVisited at.kind at.owner l
+        (take (at.met + length found.came) more) was.known was.new_known p q)
+        (sym (takes_same at.met (omega (arith, low))))
+        (subst (λ (l : List Mail). WasVisited at.kind at.owner (take at.met mails) l was.known
+        was.new_known p q) (sym (takes_same (at.met + length found.came) low)) was.visited);
     difference = was.difference;
   }
   happened_more Has at (CheckRefused moment scan.Fault marks) p q low was = tt

@@ -1,3 +1,4 @@
+mod VisitLemmas
 mod Looked
 mod FileLemmas
 pub mod OrderLemmas

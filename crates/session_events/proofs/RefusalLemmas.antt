@@ -27,38 +27,32 @@ unchanged_plain path known changes bytes (IsChanged (Name name)) is = is
 unchanged_plain path known changes bytes _ is = is
 
 -- what was done
-pub works_plain : (kind : Kind) (purge : Bool) (known : KnownFolder) (mails : List Mail)
-    (changes : List Changed) (why : SyncError) (a b : Option Past)
-    → (sync_row kind).Works purge known mails changes (Err why) a b
-    → (sync_row kind).Works purge known mails changes (Err (plain_refusal why)) a b
-works_plain Mbox purge known mails changes why a b (owner, inl unread) = (
-  owner,
-  inl (record {
-    not_done = tt;
-    keeps = unread.keeps;
-    why = unread_plain known.path why a b unread.why;
-  }),
-)
-works_plain Mbox purge known mails changes why a b (owner, inr read) = (
-  owner,
-  inr (record {
-    bytes = read.bytes;
-    before = read.before;
-    behind = read.behind;
-    locks = read.locks;
-    reads = read.reads;
-    held_so = read.held_so;
-    keeps = read.keeps;
-    puts = tt;
-    as_known = tt;
-    small = tt;
-    why = unchanged_plain known.path known changes read.bytes why read.why;
-  }),
-)
-works_plain Maildir purge known mails changes why a b works =
+pub works_plain : (kind : Kind) (owner : List ℕ) (purge : Bool) (known : KnownFolder)
+    (mails : List Mail) (changes : List Changed) (why : SyncError) (a b : Option Past)
+    → (sync_row kind).Works owner purge known mails changes (Err why) a b
+    → (sync_row kind).Works owner purge known mails changes (Err (plain_refusal why)) a b
+works_plain Mbox owner purge known mails changes why a b (inl unread) = inl (record {
+  not_done = tt;
+  keeps = unread.keeps;
+  why = unread_plain known.path why a b unread.why;
+})
+works_plain Mbox owner purge known mails changes why a b (inr read) = inr (record {
+  bytes = read.bytes;
+  before = read.before;
+  behind = read.behind;
+  locks = read.locks;
+  reads = read.reads;
+  held_so = read.held_so;
+  keeps = read.keeps;
+  puts = tt;
+  as_known = tt;
+  small = tt;
+  why = unchanged_plain known.path known changes read.bytes why read.why;
+})
+works_plain Maildir owner purge known mails changes why a b works =
     record { does = works.does; names = tt }
-works_plain Mh purge known mails changes why a b works = works
-works_plain Mmdf purge known mails changes why a b works = works
+works_plain Mh owner purge known mails changes why a b works = works
+works_plain Mmdf owner purge known mails changes why a b works = works
 
 -- how it may be refused
 pub may_be_plain : (kind : Kind) (known : KnownFolder) (mails : List Mail)
@@ -86,24 +80,25 @@ cause_plain Mmdf known mails changes why m n past is = tt
 
 -- What a sync leaves known.
 
-module _ (changes : List Changed) (known new_known : KnownFolder) (a b : Option Past) where
-  pub synced_path : (kind : Kind) → (sync_row kind).IsSynced changes known new_known a b
+module _ (owner : List ℕ) (changes : List Changed) (known new_known : KnownFolder)
+    (a b : Option Past) where
+  pub synced_path : (kind : Kind) → (sync_row kind).IsSynced owner changes known new_known a b
       → new_known.path ≡ known.path
-  synced_path Mbox (owner, was) = ap (λ (k : KnownFolder). k.path) was.known_so
+  synced_path Mbox was = ap (λ (k : KnownFolder). k.path) was.known_so
   synced_path Maildir is = ap (λ (k : KnownFolder). k.path) is
   synced_path Mh is = ap (λ (k : KnownFolder). k.path) is
   synced_path Mmdf is = absurd is
 
-  pub synced_kind : (kind : Kind) → (sync_row kind).IsSynced changes known new_known a b
+  pub synced_kind : (kind : Kind) → (sync_row kind).IsSynced owner changes known new_known a b
       → new_known.kind ≡ known.kind
-  synced_kind Mbox (owner, was) = ap (λ (k : KnownFolder). k.kind) was.known_so
+  synced_kind Mbox was = ap (λ (k : KnownFolder). k.kind) was.known_so
   synced_kind Maildir is = ap (λ (k : KnownFolder). k.kind) is
   synced_kind Mh is = ap (λ (k : KnownFolder). k.kind) is
   synced_kind Mmdf is = absurd is
 
-  pub synced_listing : (kind : Kind) → (sync_row kind).IsSynced changes known new_known a b
+  pub synced_listing : (kind : Kind) → (sync_row kind).IsSynced owner changes known new_known a b
       → new_known.listing ≡ listing_synced kind changes known.listing
-  synced_listing Mbox (owner, was) = ap (λ (k : KnownFolder). k.listing) was.known_so
+  synced_listing Mbox was = ap (λ (k : KnownFolder). k.listing) was.known_so
   synced_listing Maildir is = ap (λ (k : KnownFolder). k.listing) is
   synced_listing Mh is = ap (λ (k : KnownFolder). k.listing) is
   synced_listing Mmdf is = absurd is

@@ -30,7 +30,8 @@ use Rattle.session_events.specs.Happened.{WasNotSynced, WasTried, counts_of}
 use Rattle.session_events.specs.Syncing.{MaySync, PreparesSync, SyncsOpen, TriesNothing, TriesSync}
 use Rattle.session_events.specs.Syncing.{is_refused}
 use Rattle.session_events.specs.Syncing.{sync_event}
-use Rattle.session_events.specs.Telling.{IsMarked, Tells, TouchesFolder}
+use Rattle.session_events.specs.Telling.{IsMarked, Tells}
+use Rattle.session_events.specs.Visits.{TouchesAlone}
 use Rattle.session_events.specs.declared.event.Marks.{Marks}
 use Rattle.session_events.specs.declared.open_folder.OpenFolder.{OpenFolder}
 use Rattle.session_events.proofs.LeftLemmas.{synced_differ}
@@ -57,13 +58,13 @@ module _ (mails : List Mail) (told : Option Past) (folder : OpenFolder) (changes
 
 -- What was done.
 
-module _ (Has : Kind → Type 0) (purges : Bool) (mails : List Mail) (changes : List Changed)
-    (folder mid : OpenFolder) (marks : Marks) (old new : Seen)
+module _ (Has : Kind → Type 0) (owner : List ℕ) (purges : Bool) (mails : List Mail)
+    (changes : List Changed) (folder mid : OpenFolder) (marks : Marks) (old new : Seen)
     (is_open : IsOpen mails old.told folder) (before : counts_of old ≡ counts_before marks)
     (behind : counts_of new ≡ counts_behind marks) (first : IsMarked old) (last : IsMarked new)
   where
     abbrev at : Kind → Standing
-    at empty = standing_over empty purges folder
+    at empty = standing_over empty owner purges folder
 
     here : take folder.met mails ≡ mails
     here = take_all folder.met mails (omega (arith, is_open.met))
@@ -88,7 +89,7 @@ module _ (Has : Kind → Type 0) (purges : Bool) (mails : List Mail) (changes : 
         (subst (λ (o : Option Past). P mails old.told o) to is))
 
     -- It was answered Ok.
-    module _ (tries : TriesSync purges mails changes (Ok tt) folder mid old new) where
+    module _ (tries : TriesSync owner purges mails changes (Ok tt) folder mid old new) where
       all_known : folder.known.listing ≡ folder.listing.items
       all_known =
           subst (λ (b : Bool). IsKnownOf b folder.listing.items folder.known.listing)
@@ -96,7 +97,7 @@ module _ (Has : Kind → Type 0) (purges : Bool) (mails : List Mail) (changes : 
 
       left_known : mid.known.listing ≡ listing_synced folder.known.kind changes folder.listing.items
       left_known =
-          synced_listing changes folder.known mid.known old.told new.told folder.known.kind
+          synced_listing owner changes folder.known mid.known old.told new.told folder.known.kind
           tries.syncs.syncs.ok_known
           ∙ ap (listing_synced folder.known.kind changes) all_known
 
@@ -109,7 +110,7 @@ module _ (Has : Kind → Type 0) (purges : Bool) (mails : List Mail) (changes : 
           all_known = tries.all_known;
           listed = in_order_listed folder.listing.items changes tries.in_order;
           once = in_order_once folder.listing.items changes is_open.once tries.in_order;
-          works = met_here (λ l a b. (sync_row folder.known.kind).Works purges folder.known l
+          works = met_here (λ l a b. (sync_row folder.known.kind).Works owner purges folder.known l
               changes (Ok tt) a b) p q from to tries.syncs.syncs.works;
           keeps = met_here (λ l a b. (sync_row folder.known.kind).Keeps folder.known l changes a b)
               p q from to tries.syncs.syncs.keeps;
@@ -117,7 +118,7 @@ module _ (Has : Kind → Type 0) (purges : Bool) (mails : List Mail) (changes : 
           cause = tt;
         };
         left = mid.known;
-        synced = met_here (λ l a b. (sync_row folder.known.kind).IsSynced changes folder.known
+        synced = met_here (λ l a b. (sync_row folder.known.kind).IsSynced owner changes folder.known
             mid.known a b) p q from to tries.syncs.syncs.ok_known;
         listing = left_known;
         right = met_here (λ l a b. Right folder.known.kind l mid.known b) p q from to
@@ -148,7 +149,7 @@ module _ (Has : Kind → Type 0) (purges : Bool) (mails : List Mail) (changes : 
 
       kind_synced : mid.known.kind ≡ folder.known.kind
       kind_synced =
-          synced_kind changes folder.known mid.known old.told new.told folder.known.kind
+          synced_kind owner changes folder.known mid.known old.told new.told folder.known.kind
           tries.syncs.syncs.ok_known
 
       open_synced : IsOpen mails new.told mid
@@ -168,7 +169,7 @@ module _ (Has : Kind → Type 0) (purges : Bool) (mails : List Mail) (changes : 
 
     -- It was refused.
     module _ (why : SyncError)
-        (tries : TriesSync purges mails changes (Err why) folder mid old new) where
+        (tries : TriesSync owner purges mails changes (Err why) folder mid old new) where
       refused_at : (empty : Kind) (p q : Past) → old.told ≡ Some p → new.told ≡ Some q
           → WasTried (at empty) mails changes (Err (plain_refusal why)) p q
       refused_at empty p q from to = record {
@@ -177,10 +178,10 @@ module _ (Has : Kind → Type 0) (purges : Bool) (mails : List Mail) (changes : 
         all_known = tries.all_known;
         listed = in_order_listed folder.listing.items changes tries.in_order;
         once = in_order_once folder.listing.items changes is_open.once tries.in_order;
-        works = met_here (λ l a b. (sync_row folder.known.kind).Works purges folder.known l changes
-            (Err (plain_refusal why)) a b) p q from to
-            (works_plain folder.known.kind purges folder.known mails changes why old.told new.told
-            tries.syncs.syncs.works);
+        works = met_here (λ l a b. (sync_row folder.known.kind).Works owner purges folder.known l
+            changes (Err (plain_refusal why)) a b) p q from to
+            (works_plain folder.known.kind owner purges folder.known mails changes why old.told
+            new.told tries.syncs.syncs.works);
         keeps = met_here (λ l a b. (sync_row folder.known.kind).Keeps folder.known l changes a b)
             p q from to tries.syncs.syncs.keeps;
         may_be = met_here (λ l a b. (sync_row folder.known.kind).MayBe folder.known l changes
@@ -267,8 +268,8 @@ module _ (Has : Kind → Type 0) (purges : Bool) (mails : List Mail) (changes : 
         faults = omega (arith, ap (λ (s : Seen). s.faults) same);
         cause = tt;
         happened = none_told empty old.told new.told (ap (λ (s : Seen). s.told) same);
-        touches = subst (λ (o : Option Past). TouchesFolder (at empty) old.told o)
-            (sym (ap (λ (s : Seen). s.told) same))
+        touches = subst (λ (o : Option Past). TouchesAlone folder.known.kind folder.known.path
+            old.told o) (sym (ap (λ (s : Seen). s.told) same))
             (does_none ((sync_row folder.known.kind).home folder.known.path)
             ((sync_row folder.known.kind).making folder.known.path) None old.told);
         first = first;
@@ -281,8 +282,8 @@ module _ (Has : Kind → Type 0) (purges : Bool) (mails : List Mail) (changes : 
 
     pub syncs_open : (answer : Result (Unit {0}) SyncError) (refused : Bool)
         → refused ≡ is_refused (sync_event changes answer marks)
-        → MaySync purges mails changes answer folder mid old new
-        → SyncsOpen Has purges mails (sync_event changes answer marks) folder
+        → MaySync owner purges mails changes answer folder mid old new
+        → SyncsOpen Has owner purges mails (sync_event changes answer marks) folder
         (told_refused mid refused) old new
     syncs_open (Ok done) refused said may =
         elim may.went [ inl none ↦ absurd (no_error none.why) | inr tries ↦ synced tries ]
@@ -290,8 +291,8 @@ module _ (Has : Kind → Type 0) (purges : Bool) (mails : List Mail) (changes : 
         no_error : ◌≡◌ {A = Result (Unit {0}) SyncError} (Ok done) (Err sync.NoMemory) → ⊥
         no_error is = cc
 
-        synced : TriesSync purges mails changes (Ok done) folder mid old new
-            → SyncsOpen Has purges mails (FolderSynced changes marks) folder
+        synced : TriesSync owner purges mails changes (Ok done) folder mid old new
+            → SyncsOpen Has owner purges mails (FolderSynced changes marks) folder
             (told_refused mid refused) old new
         synced tries = record {
           tells = tells_synced tries;
@@ -302,8 +303,8 @@ module _ (Has : Kind → Type 0) (purges : Bool) (mails : List Mail) (changes : 
             once = (open_synced tries).once;
             met = (open_synced tries).met;
           };
-          path = synced_path changes folder.known mid.known old.told new.told folder.known.kind
-              tries.syncs.syncs.ok_known;
+          path = synced_path owner changes folder.known mid.known old.told new.told
+              folder.known.kind tries.syncs.syncs.ok_known;
           kind = kind_synced tries;
           listing = tries.done;
           met = ap (λ (f : OpenFolder). f.met) tries.rest;
@@ -315,8 +316,8 @@ module _ (Has : Kind → Type 0) (purges : Bool) (mails : List Mail) (changes : 
         elim may.went [ inl none ↦ starved none | inr tries ↦ not_done tries ]
       where
         starved : TriesNothing (Err why) folder mid old new
-            → SyncsOpen Has purges mails (SyncRefused changes (plain_refusal why) marks) folder
-            (told_refused mid refused) old new
+            → SyncsOpen Has owner purges mails (SyncRefused changes (plain_refusal why) marks)
+            folder (told_refused mid refused) old new
         starved none =
             let starves : why ≡ sync.NoMemory = cc in
             record {
@@ -343,9 +344,9 @@ module _ (Has : Kind → Type 0) (purges : Bool) (mails : List Mail) (changes : 
               refused = said;
             }
 
-        not_done : TriesSync purges mails changes (Err why) folder mid old new
-            → SyncsOpen Has purges mails (SyncRefused changes (plain_refusal why) marks) folder
-            (told_refused mid refused) old new
+        not_done : TriesSync owner purges mails changes (Err why) folder mid old new
+            → SyncsOpen Has owner purges mails (SyncRefused changes (plain_refusal why) marks)
+            folder (told_refused mid refused) old new
         not_done tries = record {
           tells = tells_refused why tries;
           is_open = record {

@@ -1,36 +1,55 @@
 -- What our calls changed in an event.
-use Rattle.std.proofs.Common.{Option, Some, None, List}
+use Rattle.std.proofs.Common.{Option, Some, None, List, ℕ, ◌≡◌, subst, sym}
 use Rattle.mail_base.specs.declared.kind.Kind.{Kind}
+use Rattle.mail_base.specs.declared.kind.Kind.TheVariants.{Mbox}
 use Rattle.disk_model.specs.Journal.{Past}
 use Rattle.disk_model.specs.Judge.{Grows}
 use Rattle.disk_model.specs.Looking.{LooksOnly}
 use Rattle.disk_model.specs.Seen.{Seen}
 use Rattle.disk_model.proofs.Looking.{looks_grows}
+use Rattle.folder_drivers.specs.Synced.{sync_row}
 use Rattle.folder_letters.specs.Letters.{Mail}
-use Rattle.session_events.specs.Events.{Happening}
-use Rattle.session_events.specs.Events.{FolderSynced}
-use Rattle.session_events.specs.Events.{SyncRefused, IsSync}
+use Rattle.folder_stops.proofs.Does.{does_looked}
+use Rattle.session_events.specs.Events.{Happening, FileRead, FileRefused, FolderOpened}
+use Rattle.session_events.specs.Events.{FolderRefused, FolderChecked, CheckRefused, FolderSynced}
+use Rattle.session_events.specs.Events.{SyncRefused, IsFile}
 use Rattle.session_events.specs.Happened.{Standing}
-use Rattle.session_events.specs.Telling.{Tells, Touches, TouchesFolder}
+use Rattle.session_events.specs.Telling.{MayTouch, Tells, Touches}
+use Rattle.session_events.specs.Visits.{TouchesAlone}
 
--- an event that is not that of a sync only looks
-pub looks_touch : (at : Standing) (event : Happening) (a b : Option Past) → (IsSync event → ⊥)
+-- looks touch nothing
+pub looks_alone : (kind : Kind) (path : List ℕ) (a b : Option Past) → LooksOnly a b
+    → TouchesAlone kind path a b
+looks_alone kind path a b looks =
+    does_looked ((sync_row kind).home path) ((sync_row kind).making path) None looks
+
+pub looks_may : (path : List ℕ) (a b : Option Past) → LooksOnly a b → MayTouch path a b
+looks_may path a b looks = (Mbox, looks_alone Mbox path a b looks)
+
+-- a folder by the name of its path
+pub alone_named : (kind : Kind) (path name : List ℕ) (a b : Option Past) → name ≡ path
+    → TouchesAlone kind path a b → TouchesAlone kind name a b
+alone_named kind path name a b named touches =
+    subst (λ (n : List ℕ). TouchesAlone kind n a b) (sym named) touches
+
+pub may_named : (path name : List ℕ) (a b : Option Past) → name ≡ path → MayTouch path a b
+    → MayTouch name a b
+may_named path name a b named touches =
+    subst (λ (n : List ℕ). MayTouch n a b) (sym named) touches
+
+-- the event of a file only looks
+pub file_touch : (at : Standing) (event : Happening) (a b : Option Past) → IsFile event
     → LooksOnly a b → Touches at event a b
-looks_touch at (FolderSynced changes marks) a b other looks = absurd (other tt)
-looks_touch at (SyncRefused changes why marks) a b other looks = absurd (other tt)
-looks_touch at _ a b other looks = looks
-
-pub touch_looks : (at : Standing) (event : Happening) (a b : Option Past) → (IsSync event → ⊥)
-    → Touches at event a b → LooksOnly a b
-touch_looks at (FolderSynced changes marks) a b other touches = absurd (other tt)
-touch_looks at (SyncRefused changes why marks) a b other touches = absurd (other tt)
-touch_looks at _ a b other touches = touches
+file_touch at (FileRead path text marks) a b file looks = looks
+file_touch at (FileRefused path why marks) a b file looks = looks
+file_touch at _ a b file looks = absurd file
 
 -- what is told of the past only grows
-folder_grows : (at : Standing) (a b : Option Past) → TouchesFolder at a b → Grows a b
-folder_grows at None b touches = touches.grown
-folder_grows at (Some old) None touches = absurd touches.grown
-folder_grows at (Some old) (Some new) touches = record {
+alone_grows : (kind : Kind) (path : List ℕ) (a b : Option Past) → TouchesAlone kind path a b
+    → Grows a b
+alone_grows kind path None b touches = touches.grown
+alone_grows kind path (Some old) None touches = absurd touches.grown
+alone_grows kind path (Some old) (Some new) touches = record {
   same_first = touches.grown.same_first;
   more = touches.grown.more;
   journal = touches.grown.journal;
@@ -38,8 +57,16 @@ folder_grows at (Some old) (Some new) touches = record {
 
 pub touch_grows : (at : Standing) (event : Happening) (a b : Option Past) → Touches at event a b
     → Grows a b
-touch_grows at (FolderSynced changes marks) a b touches = folder_grows at a b touches
-touch_grows at (SyncRefused changes why marks) a b touches = folder_grows at a b touches
+touch_grows at (FolderOpened path kind moment came marks) a b touches =
+    alone_grows kind path a b touches
+touch_grows at (FolderRefused path why marks) a b touches = alone_grows touches.0 path a b touches.1
+touch_grows at (FolderChecked moment found marks) a b touches =
+    alone_grows at.kind at.path a b touches
+touch_grows at (CheckRefused moment why marks) a b touches =
+    alone_grows at.kind at.path a b touches
+touch_grows at (FolderSynced changes marks) a b touches = alone_grows at.kind at.path a b touches
+touch_grows at (SyncRefused changes why marks) a b touches =
+    alone_grows at.kind at.path a b touches
 touch_grows at _ a b touches = looks_grows a b touches
 
 pub tells_grow : {Has : Kind → Type 0} {at : Standing} {mails : List Mail} {event : Happening}

@@ -1,5 +1,5 @@
--- What the scan of an open folder comes to.
-use Rattle.std.specs.Prelude.{◌≡◌, ◌<◌, Bool, true, List, Option, length}
+-- What a visit of an open folder comes to.
+use Rattle.std.specs.Prelude.{◌≡◌, ◌<◌, ℕ, Bool, true, List, Option, length}
 use Rattle.std.specs.List.{All}
 use Rattle.mail_base.specs.declared.kind.Kind.{Kind}
 use Rattle.disk_model.specs.Journal.{Past}
@@ -7,11 +7,11 @@ use Rattle.disk_model.specs.Seen.{Seen}
 use Rattle.folder_core.specs.Keeping.{ids_differ}
 use Rattle.folder_core.specs.Known.{KnownFolder}
 use Rattle.folder_core.specs.Right.{Right}
-use Rattle.folder_core.specs.Scanned.{Scans}
 use Rattle.folder_letters.specs.Letters.{Mail}
 use Rattle.folder_letters.specs.declared.letter.Letter.{Letter}
 use Rattle.session_events.specs.Happened.{Counts, IsKnownOf, Standing, counts_of}
 use Rattle.session_events.specs.Telling.{IsMarked}
+use Rattle.session_events.specs.Visits.{Visits}
 use Rattle.session_events.specs.declared.checking.Scanned.{Scanned}
 use Rattle.session_events.specs.declared.event.Marks.{Marks}
 use Rattle.session_events.specs.declared.open_folder.OpenFolder.{OpenFolder}
@@ -24,10 +24,10 @@ counts_before marks = record { mark = marks.mark_before; faults = marks.faults_b
 abbrev pub counts_behind : Marks → Counts
 counts_behind marks = record { mark = marks.mark_after; faults = marks.faults_after }
 
--- The driver of a known folder scanned it, and these are the marks around that.
-pub record ScansFolder (archive new_archive : List Letter) (known new_known : KnownFolder)
-    (scanned : Scanned) (old new : Seen) : Type 0 where
-  pub scans : Scans known.kind archive new_archive known new_known scanned.answer old new
+-- A known folder was visited for an owner of its lock, and these are the marks around that.
+pub record VisitsFolder (owner : List ℕ) (archive new_archive : List Letter)
+    (known new_known : KnownFolder) (scanned : Scanned) (old new : Seen) : Type 0 where
+  pub visits : Visits known.kind owner archive new_archive known new_known scanned.answer old new
   pub before : counts_of old ≡ counts_before scanned.marks
   pub behind : counts_of new ≡ counts_behind scanned.marks
   pub first : IsMarked old
@@ -42,11 +42,12 @@ pub record IsOpen (mails : List Mail) (told : Option Past) (folder : OpenFolder)
   pub once : ids_differ folder.listing.items ≡ true
   pub met : folder.met ≡ length mails
 
--- what a run stands on whose open folder this is, where an empty file is of this kind, and where
--- the files of discarded messages are removed or not
-abbrev pub standing_over : Kind → Bool → OpenFolder → Standing
-standing_over empty purges folder = record {
+-- what a run stands on whose open folder this is, where an empty file is of this kind, where our
+-- locks bear this word, and where the files of discarded messages are removed or not
+abbrev pub standing_over : Kind → List ℕ → Bool → OpenFolder → Standing
+standing_over empty owner purges folder = record {
   empty = empty;
+  owner = owner;
   path = folder.known.path;
   kind = folder.known.kind;
   listing = folder.listing.items;

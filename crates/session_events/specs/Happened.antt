@@ -5,7 +5,7 @@ use Rattle.std.specs.List.{All}
 use Rattle.mail_base.specs.Faults.{Rose}
 use Rattle.mail_base.specs.declared.kind.Kind.{Kind}
 use Rattle.disk_model.specs.Journal.{Past, ReadAll}
-use Rattle.disk_model.specs.Judge.{StepBy, read_of}
+use Rattle.disk_model.specs.Judge.{IsLonger, StepBy, read_of}
 use Rattle.disk_model.specs.Seen.{Seen}
 use Rattle.disk_model.specs.declared.answers.DiskError.{DiskError}
 use Rattle.disk_model.specs.declared.answers.DiskError.TheVariants as disk
@@ -14,14 +14,12 @@ use Rattle.folder_changes.specs.Asked.{AreListed, AreOnce}
 use Rattle.folder_changes.specs.Left.{listing_synced}
 use Rattle.folder_changes.specs.declared.sync_error.SyncError.{SyncError}
 use Rattle.folder_changes.specs.declared.sync_error.SyncError.TheVariants as sync
-use Rattle.folder_core.specs.Kinds.{IsKindSeen, WasKind}
+use Rattle.folder_core.specs.Kinds.{KindSeen}
 use Rattle.folder_core.specs.Keeping.{IsDifference, lists_id}
 use Rattle.folder_core.specs.Known.{KnownFolder, nothing_known}
 use Rattle.folder_core.specs.Limits.{most_letters, most_messages}
 use Rattle.folder_letters.specs.Letters.{Mail}
-use Rattle.folder_core.specs.Reads.{format_of}
 use Rattle.folder_core.specs.Right.{Right}
-use Rattle.folder_core.specs.Scanned.{IsFound}
 use Rattle.folder_letters.specs.Listings.{ids_from}
 use Rattle.folder_core.specs.declared.error.ScanError.{ScanError}
 use Rattle.folder_core.specs.declared.error.ScanError.TheVariants.{ArchiveFull, Fault, NoMemory}
@@ -32,6 +30,7 @@ use Rattle.session_events.specs.Events.{Happening, FileRead, FileRefused, KeyPre
 use Rattle.session_events.specs.Events.{FolderRefused, FolderChecked, CheckRefused, FolderSynced}
 use Rattle.session_events.specs.Events.{SyncRefused}
 use Rattle.session_events.specs.Events.{PlainFound, held_found}
+use Rattle.session_events.specs.Visits.{WasNotVisited, WasVisited}
 use Rattle.session_events.specs.declared.event.Marks.{Marks}
 use Rattle.session_events.specs.declared.event.OpenFault.{OpenFault}
 use Rattle.session_events.specs.declared.event.OpenFault.TheVariants.{Taken, NoDriver, Folder}
@@ -45,49 +44,44 @@ abbrev pub WasRead : Result (Stat × List ℕ) DiskError → List ℕ → Past �
 WasRead answer path old new =
     StepBy answer (ReadAll path most_commands) (λ tree. read_of tree path most_commands) old new
 
--- The path was looked at from one mark to another and was of this kind, and then a scan of which
--- nothing was known saw the folder up to a third: what came is listed, and its letters are the
--- archive.
-pub record WasOpened (empty : Kind) (archive : List Mail) (path : List ℕ) (kind : Kind)
-    (came : List Listed) (before after : ℕ) (past : Past) : Type 0 where
-  pub scan : ℕ
-  pub from : before ≤ scan
-  pub to : scan ≤ after
-  pub kind_is : WasKind (Ok kind) empty path before scan past
+-- The path was looked at and was of this kind, and then the folder, of which nothing was known, was
+-- visited: what came is listed, and its letters are the archive.
+pub record WasOpened (empty : Kind) (owner : List ℕ) (archive : List Mail) (path : List ℕ)
+    (kind : Kind) (came : List Listed) (old new : Past) : Type 0 where
+  pub looked : Past
+  pub kind_is : KindSeen (Ok kind) empty path old looked
+  pub on : IsLonger old looked
   pub known : KnownFolder
   pub at : known.path ≡ path
   pub listed : known.listing ≡ came
-  pub found : IsFound (format_of kind) [] archive (nothing_known path kind false) known scan after
-      past
+  pub visited : WasVisited kind owner [] archive (nothing_known path kind false) known looked new
 
--- the folder was of a kind that has a driver, and then was not listed for this cause
-pub record WasNotListed (Has : Kind → Type 0) (empty : Kind) (path : List ℕ) (why : ScanError)
-    (before after : ℕ) (past : Past) : Type 0 where
+-- the folder was of a kind that has a driver, and then was not visited for this cause
+pub record WasNotListed (Has : Kind → Type 0) (empty : Kind) (owner path : List ℕ)
+    (why : ScanError) (old new : Past) : Type 0 where
   pub kind : Kind
-  pub scan : ℕ
-  pub from : before ≤ scan
-  pub to : scan ≤ after
-  pub kind_is : WasKind (Ok kind) empty path before scan past
+  pub looked : Past
+  pub kind_is : KindSeen (Ok kind) empty path old looked
+  pub on : IsLonger old looked
   pub driver : Has kind
-  pub refused : (format_of kind).Refused [] (nothing_known path kind false) why scan after past
+  pub refused : WasNotVisited kind owner [] (nothing_known path kind false) why looked new
 
 -- why the folder was not opened, as the tree shows it
-abbrev pub WasRefused : (Kind → Type 0) → Kind → List ℕ → OpenFault → ℕ → ℕ → Past → Type 0
-WasRefused Has empty path Taken before after new = ⊥
-WasRefused Has empty path (NoDriver kind) before after new =
-    WasKind (Ok kind) empty path before after new
-WasRefused Has empty path (Folder Fault) before after new = Unit {0}
-WasRefused Has empty path (Folder NoMemory) before after new = Unit {0}
-WasRefused Has empty path (Folder why) before after new =
-    IsKindSeen (Err why) empty path before after new
-    ⊎ WasNotListed Has empty path why before after new
+abbrev pub WasRefused : (Kind → Type 0) → Kind → List ℕ → List ℕ → OpenFault → Past → Past → Type 0
+WasRefused Has empty owner path Taken old new = ⊥
+WasRefused Has empty owner path (NoDriver kind) old new = KindSeen (Ok kind) empty path old new
+WasRefused Has empty owner path (Folder Fault) old new = Unit {0}
+WasRefused Has empty owner path (Folder NoMemory) old new = Unit {0}
+WasRefused Has empty owner path (Folder why) old new =
+    KindSeen (Err why) empty path old new ⊎ WasNotListed Has empty owner path why old new
 
 -- What a run stands on before an event, as far as the event speaks of it: the kind of an empty
--- file; the open folder with its listing; how many letters were met; whether a part of what was
--- known was forgotten, since memory ran out in a check; and whether the files of discarded messages
--- are removed from an MH folder.
+-- file; the word that our locks bear; the open folder with its listing; how many letters were met;
+-- whether a part of what was known was forgotten, since memory ran out in a check; and whether the
+-- files of discarded messages are removed from an MH folder.
 pub record Standing : Type 0 where
   pub empty : Kind
+  pub owner : List ℕ
   pub path : List ℕ
   pub kind : Kind
   pub listing : List Listed
@@ -108,25 +102,23 @@ pub record IsKnown (at : Standing) (mails : List Mail) (known : KnownFolder) (ol
   pub listed : IsKnownOf at.forgot at.listing known.listing
   pub right : Right at.kind (take at.met mails) known (Some old)
 
--- The open folder was scanned between two pasts from what was known of it; the letters of what came
+-- The open folder was visited between two pasts from what was known of it; the letters of what came
 -- are the next ones, and what was found is how its listing changed.
 pub record WasChecked (at : Standing) (mails : List Mail) (found : PlainFound) (old new : Past)
     : Type 0 where
   pub known : KnownFolder
   pub new_known : KnownFolder
   pub is : IsKnown at mails known old
-  pub scanned : IsFound (format_of at.kind) (take at.met mails)
-      (take (at.met + length found.came) mails) known new_known (length old.journal)
-      (length new.journal) new
+  pub visited : WasVisited at.kind at.owner (take at.met mails)
+      (take (at.met + length found.came) mails) known new_known old new
   pub difference : IsDifference at.listing new_known.listing (held_found found)
 
--- A scan of the open folder from what was known of it was refused for this cause.
+-- A visit of the open folder from what was known of it was refused for this cause.
 pub record CheckWasRefused (at : Standing) (mails : List Mail) (why : ScanError)
     (old new : Past) : Type 0 where
   pub known : KnownFolder
   pub is : IsKnown at mails known old
-  pub refused : (format_of at.kind).Refused (take at.met mails) known why (length old.journal)
-      (length new.journal) new
+  pub refused : WasNotVisited at.kind at.owner (take at.met mails) known why old new
 
 -- why the open folder was not checked, as the tree shows it
 abbrev pub WasNotChecked : Standing → List Mail → ScanError → Past → Past → Type 0
@@ -144,7 +136,7 @@ pub record WasTried (at : Standing) (mails : List Mail) (changes : List Changed)
   pub all_known : at.forgot ≡ false
   pub listed : AreListed at.listing changes
   pub once : AreOnce changes
-  pub works : (sync_row at.kind).Works at.purges known (take at.met mails) changes result
+  pub works : (sync_row at.kind).Works at.owner at.purges known (take at.met mails) changes result
       (Some old) (Some new)
   pub keeps : (sync_row at.kind).Keeps known (take at.met mails) changes (Some old) (Some new)
   pub may_be : IfErr result ((sync_row at.kind).MayBe known (take at.met mails) changes)
@@ -157,7 +149,8 @@ pub record WasSynced (at : Standing) (mails : List Mail) (changes : List Changed
     : Type 0 where
   pub tried : WasTried at mails changes (Ok tt) old new
   pub left : KnownFolder
-  pub synced : (sync_row at.kind).IsSynced changes tried.known left (Some old) (Some new)
+  pub synced : (sync_row at.kind).IsSynced at.owner changes tried.known left (Some old)
+      (Some new)
   pub listing : left.listing ≡ listing_synced at.kind changes at.listing
   pub right : Right at.kind (take at.met mails) left (Some new)
 
@@ -174,10 +167,9 @@ Happened Has at mails (FileRead path text marks) old new =
 Happened Has at mails (FileRefused path why marks) old new = WasRead (Err why) path old new
 Happened Has at mails (KeyPressed key moment) old new = Unit {0}
 Happened Has at mails (FolderOpened path kind moment came marks) old new =
-    WasOpened at.empty (take (length came) mails) path kind came (length old.journal)
-    (length new.journal) new
+    WasOpened at.empty at.owner (take (length came) mails) path kind came old new
 Happened Has at mails (FolderRefused path why marks) old new =
-    WasRefused Has at.empty path why (length old.journal) (length new.journal) new
+    WasRefused Has at.empty at.owner path why old new
 Happened Has at mails (FolderChecked moment found marks) old new =
     WasChecked at mails found old new
 Happened Has at mails (CheckRefused moment why marks) old new = WasNotChecked at mails why old new

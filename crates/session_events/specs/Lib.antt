@@ -1,5 +1,6 @@
 pub mod Events
 pub mod Wishes
+pub mod Visits
 pub mod Happened
 pub mod Telling
 pub mod Opening

@@ -1,11 +1,10 @@
 -- What the opening of a folder has seen, and what it leaves.
-use Rattle.std.specs.Prelude.{◌≡◌, ℕ, ℤ, false, List, [], length, Option, Some, None, Result, Ok}
-use Rattle.std.specs.Prelude.{Err}
+use Rattle.std.specs.Prelude.{◌≡◌, ◌≤◌, ℕ, ℤ, false, List, [], length, Option, Some, None, Result}
+use Rattle.std.specs.Prelude.{Ok, Err}
 use Rattle.std.specs.Prelude.{IfOk, IfErr, OnErr}
 use Rattle.mail_base.specs.declared.kind.Kind.{Kind}
 use Rattle.disk_model.specs.Journal.{Past}
 use Rattle.disk_model.specs.Judge.{GoesOn}
-use Rattle.disk_model.specs.Looking.{OnlyLooks}
 use Rattle.disk_model.specs.Seen.{Seen}
 use Rattle.folder_core.specs.Right.{Right}
 use Rattle.folder_letters.specs.Letters.{Mail}
@@ -15,7 +14,8 @@ use Rattle.session_events.specs.Events.{FolderRefused}
 use Rattle.session_events.specs.Happened.{IsCause, IsFresh, IsListed, Standing, WasOpened}
 use Rattle.session_events.specs.Happened.{WasRefused}
 use Rattle.session_events.specs.Wishes.{Open, answered}
-use Rattle.session_events.specs.Telling.{Tells}
+use Rattle.session_events.specs.Telling.{MayTouch, Tells}
+use Rattle.session_events.specs.Visits.{TouchesAlone}
 use Rattle.folder_core.specs.declared.error.ScanError.TheVariants.{Fault, NoMemory}
 use Rattle.session_events.specs.declared.event.OpenFault.{OpenFault}
 use Rattle.session_events.specs.declared.event.OpenFault.TheVariants.{Folder}
@@ -25,13 +25,17 @@ use Rattle.session_events.specs.declared.open_folder.OpenFolder.{OpenFolder}
 use Rattle.session_events.specs.declared.opening.Opened.{Opened}
 
 -- what was read at a path, or why not, as the journal shows it
-abbrev pub WasLooked : (Kind → Type 0) → Kind → List Mail → List ℕ → Result Opened OpenFault
-    → Past → Past → Type 0
-WasLooked Has empty archive path (Ok opened) old new =
-    WasOpened empty archive path opened.kind opened.came.items (length old.journal)
-    (length new.journal) new
-WasLooked Has empty archive path (Err why) old new =
-    WasRefused Has empty path why (length old.journal) (length new.journal) new
+abbrev pub WasLooked : (Kind → Type 0) → Kind → List ℕ → List Mail → List ℕ
+    → Result Opened OpenFault → Past → Past → Type 0
+WasLooked Has empty owner archive path (Ok opened) old new =
+    WasOpened empty owner archive path opened.kind opened.came.items old new
+WasLooked Has empty owner archive path (Err why) old new =
+    WasRefused Has empty owner path why old new
+
+-- our calls changed the folder that is looked for alone
+abbrev pub TouchesRead : List ℕ → Result Opened OpenFault → Option Past → Option Past → Type 0
+TouchesRead path (Ok opened) old new = TouchesAlone opened.kind path old new
+TouchesRead path (Err why) old new = MayTouch path old new
 
 -- A folder that was opened: where it is, its kind and its messages; what is known of it is right.
 pub record OpensFolder (letters : List Mail) (told : Option Past) (path : List ℕ) (kind : Kind)
@@ -47,16 +51,19 @@ pub record OpensFolder (letters : List Mail) (told : Option Past) (path : List �
   pub checked : folder.checked ≡ moment
 
 -- What the reading of a folder into an empty archive has seen, and what it leaves.
-pub record ReadsFolder (Has : Kind → Type 0) (empty : Kind) (moment : ℤ) (archive : List Mail)
-    (path : List ℕ) (result : Result Opened OpenFault) (old new : Seen) : Type 0 where
-  pub looked : GoesOn (WasLooked Has empty archive path result) old.told new.told
+pub record ReadsFolder (Has : Kind → Type 0) (empty : Kind) (owner : List ℕ) (moment : ℤ)
+    (archive : List Mail) (path : List ℕ) (result : Result Opened OpenFault) (old new : Seen)
+    : Type 0 where
+  pub looked : GoesOn (WasLooked Has empty owner archive path result) old.told new.told
+  pub here : TouchesRead path result old.told new.told
   pub cause : IfErr result (λ why. IsCause Has why old.faults new.faults)
   pub driver : IfOk result (λ opened. Has opened.kind)
   pub folder : IfOk result (λ opened. OpensFolder archive new.told path opened.kind moment
       opened.came.items opened.folder)
   pub fresh : IfOk result (λ opened. IsFresh archive opened.came.items)
   pub none : OnErr result (archive ≡ [])
-  pub only : OnlyLooks old new
+  pub marks : old.marks ≤ new.marks
+  pub faults : old.faults ≤ new.faults
 
 -- the event is that of a folder which was to be opened at a moment
 abbrev pub IsOpening : ℤ → Happening → Type 0

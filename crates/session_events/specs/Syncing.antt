@@ -32,10 +32,10 @@ is_refused (SyncRefused changes why marks) = true
 is_refused _ = false
 
 -- A sync of the open folder, as its event tells it; what is known of the folder stays right.
-pub record SyncsOpen (Has : Kind → Type 0) (purges : Bool) (mails : List Mail) (event : Happening)
-    (folder new_folder : OpenFolder) (old new : Seen) : Type 0 where
+pub record SyncsOpen (Has : Kind → Type 0) (owner : List ℕ) (purges : Bool) (mails : List Mail)
+    (event : Happening) (folder new_folder : OpenFolder) (old new : Seen) : Type 0 where
   pub tells : (empty : Kind)
-      → Tells Has (standing_over empty purges folder) mails event old new
+      → Tells Has (standing_over empty owner purges folder) mails event old new
   pub is_open : IsOpen mails new.told new_folder
   pub path : new_folder.known.path ≡ folder.known.path
   pub kind : new_folder.known.kind ≡ folder.known.kind
@@ -74,13 +74,13 @@ pub record PreparesSync (folder : OpenFolder) (changes : List Changed) (synced :
 
 -- The driver of the open folder, of which all was known, synced it with changes of listed messages,
 -- in their order; its listing is what a sync leaves where that was done, and else what it was.
-pub record TriesSync (purges : Bool) (mails : List Mail) (changes : List Changed)
+pub record TriesSync (owner : List ℕ) (purges : Bool) (mails : List Mail) (changes : List Changed)
     (result : Result (Unit {0}) SyncError) (folder new_folder : OpenFolder) (old new : Seen)
     : Type 0 where
   pub all_known : folder.forgot ≡ false
   pub in_order : are_in_order folder.listing.items changes ≡ true
-  pub syncs : Syncs folder.known.kind purges mails changes folder.known new_folder.known result old
-      new
+  pub syncs : Syncs folder.known.kind owner purges mails changes folder.known new_folder.known
+      result old new
   pub done : OnOk result (new_folder.listing.items
       ≡ listing_synced folder.known.kind changes folder.listing.items)
   pub kept : OnErr result (new_folder.listing.items ≡ folder.listing.items)
@@ -95,8 +95,8 @@ pub record TriesNothing (result : Result (Unit {0}) SyncError) (folder new_folde
   pub seen_is : new ≡ old
 
 -- A sync of the open folder was tried, or nothing was.
-pub record MaySync (purges : Bool) (mails : List Mail) (changes : List Changed)
+pub record MaySync (owner : List ℕ) (purges : Bool) (mails : List Mail) (changes : List Changed)
     (result : Result (Unit {0}) SyncError) (folder new_folder : OpenFolder) (old new : Seen)
     : Type 0 where
   pub went : TriesNothing result folder new_folder old new
-      ⊎ TriesSync purges mails changes result folder new_folder old new
+      ⊎ TriesSync owner purges mails changes result folder new_folder old new

@@ -1,33 +1,37 @@
 -- How an event tells of the disk.
-use Rattle.std.specs.Prelude.{◌≡◌, ◌≤◌, List, Option, Some, None, Ok, Err, IfSome, length}
+use Rattle.std.specs.Prelude.{◌≡◌, ◌≤◌, ℕ, List, Option, Some, Ok, Err, IfSome, length}
 use Rattle.mail_base.specs.declared.kind.Kind.{Kind}
 use Rattle.disk_model.specs.Journal.{Past}
 use Rattle.disk_model.specs.Judge.{GoesOn}
 use Rattle.disk_model.specs.Looking.{LooksOnly}
 use Rattle.disk_model.specs.Seen.{Seen}
-use Rattle.folder_drivers.specs.Synced.{sync_row}
 use Rattle.folder_letters.specs.Letters.{Mail}
-use Rattle.folder_stops.specs.Does.{Does}
 use Rattle.disk_model.specs.declared.answers.Stat.{Stat}
-use Rattle.session_events.specs.Events.{Happening, FileRead, FileRefused, FolderSynced}
+use Rattle.session_events.specs.Events.{Happening, FileRead, FileRefused, FolderOpened}
+use Rattle.session_events.specs.Events.{FolderRefused, FolderChecked, CheckRefused, FolderSynced}
 use Rattle.session_events.specs.Events.{SyncRefused}
 use Rattle.session_events.specs.Happened.{Happened, HasCause, IsReadCause, Standing, WasRead}
 use Rattle.session_events.specs.Happened.{counts_of, marks_of}
+use Rattle.session_events.specs.Visits.{TouchesAlone}
 use Rattle.session_events.specs.declared.event.Marks.{Marks}
 
 -- the counts and their place in the journal, where that is told
 abbrev pub IsMarked : Seen → Type 0
 IsMarked seen = IfSome seen.told (λ past. seen.marks ≡ length past.journal)
 
--- our calls changed the open folder alone, and no message of it began with a file that they made
-abbrev pub TouchesFolder : Standing → Option Past → Option Past → Type 0
-TouchesFolder at old new =
-    Does ((sync_row at.kind).home at.path) ((sync_row at.kind).making at.path) None old new
+-- our calls changed the folder of some kind at a path alone
+abbrev pub MayTouch : List ℕ → Option Past → Option Past → Type 0
+MayTouch path old new = (kind : Kind) × TouchesAlone kind path old new
 
--- what our calls changed in an event: a sync the open folder alone, and every other event nothing
+-- what our calls changed in an event: an opening the folder that is looked for, a check or a sync
+-- the open folder, and every other event nothing
 abbrev pub Touches : Standing → Happening → Option Past → Option Past → Type 0
-Touches at (FolderSynced changes marks) old new = TouchesFolder at old new
-Touches at (SyncRefused changes why marks) old new = TouchesFolder at old new
+Touches at (FolderOpened path kind moment came marks) old new = TouchesAlone kind path old new
+Touches at (FolderRefused path why marks) old new = MayTouch path old new
+Touches at (FolderChecked moment found marks) old new = TouchesAlone at.kind at.path old new
+Touches at (CheckRefused moment why marks) old new = TouchesAlone at.kind at.path old new
+Touches at (FolderSynced changes marks) old new = TouchesAlone at.kind at.path old new
+Touches at (SyncRefused changes why marks) old new = TouchesAlone at.kind at.path old new
 Touches at _ old new = LooksOnly old new
 
 -- One event, in which the device went from one view to the next.

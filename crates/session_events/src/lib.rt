@@ -11,6 +11,7 @@ mod opening;
 mod setup;
 mod source;
 mod syncing;
+mod visit;
 
 pub use cause::{append_cause, refusal_line, sync_refusal_line};
 pub use checking::Scanned;

@@ -3,6 +3,7 @@
 use crate::checking::Scanned;
 use crate::event::Marks;
 use crate::syncing::{Tried, are_in_order};
+use crate::visit::visit;
 use disk_model::Device;
 use folder_changes::{SyncError, listing_synced};
 use folder_core::{Archive, Found, Known, Listing, difference_of};
@@ -45,7 +46,7 @@ impl OpenFolder {
     ghost use Rattle.folder_letters.specs.Letters.{Mail, plain_letter};
     ghost use Rattle.mail_base.specs.declared.kind.Kind.TheVariants as kind;
     ghost use Rattle.index_items.specs.Changes.{plain_changes};
-    ghost use Rattle.session_events.specs.Checking.{IsOpen, ScansFolder};
+    ghost use Rattle.session_events.specs.Checking.{IsOpen, VisitsFolder};
     ghost use Rattle.session_events.specs.Syncing.{MaySync, PreparesSync, SyncsOpen, sync_event};
 
     /// No folder, before one is open.
@@ -67,27 +68,28 @@ impl OpenFolder {
         })
     }
 
-    /// Scans the folder, by the driver of its kind.
-    pub fn scan(
+    /// Visits the folder: what an earlier call left over in it is finished or taken away for an
+    /// owner of its lock, and then it is scanned.
+    pub fn visit(
         &mut self,
         alloc: Global,
         dev: &mut Device,
         drivers: &Drivers,
+        owner: &[u8],
         archive: &mut Archive,
     ) -> Scanned
         requires has { Any (λ d. sort (d.vtable, d.value) ≡ self.old.known.kind)
             drivers.now.list.items }
         requires right { Right self.old.known.kind (map plain_letter archive.old.items)
             self.old.known (seen (dev.old.disk.vtable, dev.old.disk.value)).told }
-        ensures scans { ScansFolder archive.old.items archive.new.items self.old.known
+        ensures visits { VisitsFolder owner.now archive.old.items archive.new.items self.old.known
             self.new.known result (seen (dev.old.disk.vtable, dev.old.disk.value))
             (seen (dev.new.disk.vtable, dev.new.disk.value)) }
         ensures rest { self.new ≡ record self.old { known = self.new.known } }
     {
         let mark_before = dev.mark();
         let faults_before = dev.faults();
-        let kind = self.known.kind();
-        let answer = drivers.scan(alloc, kind, dev, &mut self.known, archive);
+        let answer = visit(alloc, dev, drivers, owner, &mut self.known, archive);
         Scanned {
             answer,
             marks: Marks {
@@ -168,7 +170,7 @@ impl OpenFolder {
         requires open { IsOpen (map plain_letter archive.now.items)
             (seen (dev.old.disk.vtable, dev.old.disk.value)).told self.old }
         ensures { SyncsOpen (λ kind. Any (λ d. sort (d.vtable, d.value) ≡ kind)
-            drivers.now.list.items) purge_files (map plain_letter archive.now.items)
+            drivers.now.list.items) owner.now purge_files (map plain_letter archive.now.items)
             (sync_event (plain_changes changes.now.items) result.answer result.marks) self.old
             self.new (seen (dev.old.disk.vtable, dev.old.disk.value))
             (seen (dev.new.disk.vtable, dev.new.disk.value)) }
@@ -203,7 +205,7 @@ impl OpenFolder {
             drivers.now.list.items }
         requires open { IsOpen (map plain_letter archive.now.items)
             (seen (dev.old.disk.vtable, dev.old.disk.value)).told self.old }
-        ensures { MaySync purge_files (map plain_letter archive.now.items)
+        ensures { MaySync owner.now purge_files (map plain_letter archive.now.items)
             (plain_changes changes.now.items) result self.old self.new
             (seen (dev.old.disk.vtable, dev.old.disk.value))
             (seen (dev.new.disk.vtable, dev.new.disk.value)) }

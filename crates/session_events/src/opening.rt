@@ -10,6 +10,7 @@ ghost use Rattle.session_events.specs.Telling.{Tells};
 
 use crate::event::{Event, Marks, OpenFault};
 use crate::open_folder::OpenFolder;
+use crate::visit::visit;
 use disk_model::Device;
 use folder_core::{Archive, Known, Listing, ScanError, kind_of};
 use folder_drivers::Drivers;
@@ -31,12 +32,14 @@ pub struct Opening {
     pub answer: Result<OpenFolder, OpenFault>,
 }
 
-/// Opens the folder, where an empty file is of this kind, and tells what happened. The name is that
-/// of the path.
+/// Opens the folder, where an empty file is of this kind, and tells what happened: what an earlier
+/// call left over there is finished or taken away for an owner of its lock, and then it is read.
+/// The name is that of the path.
 pub fn open_event(
     alloc: Global,
     dev: &mut Device,
     drivers: &Drivers,
+    owner: &[u8],
     empty: Kind,
     path: &str,
     name: Bytes,
@@ -45,7 +48,7 @@ pub fn open_event(
 ) -> Opening
     requires archive { archive.old.items ≡ [] }
     requires name { name.items ≡ path.now }
-    ensures tells { (at : Standing) → at.empty ≡ empty
+    ensures tells { (at : Standing) → at.empty ≡ empty → at.owner ≡ owner.now
         → Tells (λ kind. Any (λ d. sort (d.vtable, d.value) ≡ kind)
         drivers.now.list.items) at (map plain_letter archive.new.items) (plain_event result.event)
         (seen (dev.old.disk.vtable, dev.old.disk.value))
@@ -59,7 +62,7 @@ pub fn open_event(
 {
     let mark_before = dev.mark();
     let faults_before = dev.faults();
-    let answer = read_folder(alloc, path, empty, moment, dev, drivers, archive);
+    let answer = read_folder(alloc, path, empty, moment, dev, drivers, owner, archive);
     let marks = Marks {
         mark_before,
         mark_after: dev.mark(),
@@ -96,11 +99,13 @@ fn read_folder(
     moment: i64,
     dev: &mut Device,
     drivers: &Drivers,
+    owner: &[u8],
     archive: &mut Archive,
 ) -> Result<Opened, OpenFault>
     requires { archive.old.items ≡ [] }
     ensures { ReadsFolder (λ kind. Any (λ d. sort (d.vtable, d.value) ≡ kind)
-        drivers.now.list.items) empty moment (map plain_letter archive.new.items) path.now result
+        drivers.now.list.items) empty owner.now moment (map plain_letter archive.new.items) path.now
+        result
         (seen (dev.old.disk.vtable, dev.old.disk.value))
         (seen (dev.new.disk.vtable, dev.new.disk.value)) }
 {
@@ -114,7 +119,7 @@ fn read_folder(
     let Ok(mut known) = Known::new(alloc, path, kind) else {
         return Err(OpenFault::Folder(ScanError::NoMemory));
     };
-    match drivers.scan(alloc, kind, dev, &mut known, archive) {
+    match visit(alloc, dev, drivers, owner, &mut known, archive) {
         Ok(found) => {
             let Ok(listing) = found.came.as_slice().to_vec(alloc) else {
                 archive.shorten(0);

@@ -22,7 +22,8 @@ returns-then-are_asked-clause-reads g c = λ given h.
     ((rw (to_z-of_z (offset_fits c.args.options.offset c.requires.usable.offset))
     at c.answer.ensures.reads) (plain_options c.args.options) (setup_is c.args.options)
     (task_tells c.args.options c.if-options.false
-    (λ none. c.are_asked.ensures.some c.if-are_asked.true (c.as_slice.ensures ∙ none))) _ _ given h))
+    (λ none. c.are_asked.ensures.some c.if-are_asked.true (c.as_slice.ensures ∙ none))) _ _ given
+    h))
 
 pub returns-then-are_asked-clause-faults : goal.returns-then-are_asked-clause-faults
 returns-then-are_asked-clause-faults g c = c.answer.ensures.faults _ _

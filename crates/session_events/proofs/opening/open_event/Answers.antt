@@ -1,9 +1,10 @@
 use Rattle.std.proofs.Common.{refl, rules}
 use Rattle.session_events.proofs.Looked.{opened_told, unopened_told}
+use Rattle.session_events.proofs.TouchLemmas.{alone_named, may_named}
 use Rattle.session_events.proofs.opening.open_event.Goals as goal
 
 pub returns-in-Ok-clause-tells : goal.returns-in-Ok-clause-tells
-returns-in-Ok-clause-tells g c at empty = record {
+returns-in-Ok-clause-tells g c at empty owner = record {
   marks = record {
     mark_before = c.mark-mark_before.result;
     mark_after = c.mark.result;
@@ -13,18 +14,19 @@ returns-in-Ok-clause-tells g c at empty = record {
   marked = refl;
   before = search rules;
   after = search rules;
-  on = c.in-Ok.ensures.only.marks;
-  faults = c.in-Ok.ensures.only.faults;
+  on = c.in-Ok.ensures.marks;
+  faults = c.in-Ok.ensures.faults;
   cause = c.in-Ok.ensures.driver;
-  happened = opened_told at c.args.empty _ c.args.path.now _ _ _ _ _ empty c.requires.name
-      c.in-Ok.ensures.fresh.1 c.in-Ok.ensures.looked;
-  touches = c.in-Ok.ensures.only.looks;
+  happened = opened_told at c.args.empty c.args.owner.now _ c.args.path.now _ _ _ _ _ empty owner
+      c.requires.name c.in-Ok.ensures.fresh.1 c.in-Ok.ensures.looked;
+  touches = alone_named c.in-Ok.opened.kind c.args.path.now _ _ _ c.requires.name
+      c.in-Ok.ensures.here;
   first = search rules;
   last = search rules;
 }
 
 pub returns-in-Err-clause-tells : goal.returns-in-Err-clause-tells
-returns-in-Err-clause-tells g c at empty = record {
+returns-in-Err-clause-tells g c at empty owner = record {
   marks = record {
     mark_before = c.mark-mark_before.result;
     mark_after = c.mark.result;
@@ -34,12 +36,12 @@ returns-in-Err-clause-tells g c at empty = record {
   marked = refl;
   before = search rules;
   after = search rules;
-  on = c.in-Err.ensures.only.marks;
-  faults = c.in-Err.ensures.only.faults;
+  on = c.in-Err.ensures.marks;
+  faults = c.in-Err.ensures.faults;
   cause = rw (c.faults-faults_before.ensures, c.faults.ensures) c.in-Err.ensures.cause;
-  happened = unopened_told _ at c.args.empty c.args.path.now _ _ _ _ empty c.requires.name
-      c.in-Err.ensures.looked;
-  touches = c.in-Err.ensures.only.looks;
+  happened = unopened_told _ at c.args.empty c.args.owner.now c.args.path.now _ _ _ _ empty owner
+      c.requires.name c.in-Err.ensures.looked;
+  touches = may_named c.args.path.now _ _ _ c.requires.name c.in-Err.ensures.here;
   first = search rules;
   last = search rules;
 }

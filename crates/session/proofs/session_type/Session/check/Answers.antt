@@ -10,7 +10,8 @@ pub look_again-event-requires-clause-index : goal.look_again-event-requires-clau
 look_again-event-requires-clause-index g c =
     taken_index c.args.self.now c.take_key.new.self c.args.moment c.args.trace.now.notes
     (c.take_key.ensures.taken c.args.trace.now.notes)
-    (due_at c.args.self.now.folder.refused c.args.self.now.folder.checked (plain_core c.args.self.now.core) _ c.args.moment _
+    (due_at c.args.self.now.folder.refused c.args.self.now.folder.checked
+    (plain_core c.args.self.now.core) _ c.args.moment _
     (to_z-of_z c.ranges.moment) c.if-due.ensures)
 
 pub look_again-event-requires-clause-has : goal.look_again-event-requires-clause-has
@@ -24,7 +25,8 @@ returns-then-due-clause-checks g c =
     c.requires.idle c.requires.fits c.requires.known c.take_key.ensures.taken
     c.take_key.ensures.fits c.take_key.ensures.folder (c.take_key.ensures.stage c.requires.idle)
     c.look_again-event.new.self _ _ _ c.requires.moment
-    (due_at c.args.self.now.folder.refused c.args.self.now.folder.checked (plain_core c.args.self.now.core) _ c.args.moment _
+    (due_at c.args.self.now.folder.refused c.args.self.now.folder.checked
+    (plain_core c.args.self.now.core) _ c.args.moment _
     (to_z-of_z c.ranges.moment) c.if-due.ensures)
     (looks_at (to_z-of_z c.ranges.moment) c.look_again-event.ensures)
     (put_plain _ _ _ _ (ok_given _ c.push.result
@@ -38,5 +40,6 @@ returns-else-due-clause-checks g c =
     c.requires.idle c.requires.fits c.requires.known c.take_key.ensures.taken
     c.take_key.ensures.fits c.take_key.ensures.folder (c.take_key.ensures.stage c.requires.idle)
     c.requires.room
-    (due_at c.args.self.now.folder.refused c.args.self.now.folder.checked (plain_core c.args.self.now.core) _ c.args.moment _
+    (due_at c.args.self.now.folder.refused c.args.self.now.folder.checked
+    (plain_core c.args.self.now.core) _ c.args.moment _
     (to_z-of_z c.ranges.moment) c.if-due.ensures)

@@ -11,7 +11,8 @@ use Rattle.session.proofs.session_type.Session.key.Goals as goal
 
 pub returns-in_err-push-clause-presses : goal.returns-in_err-push-clause-presses
 returns-in_err-push-clause-presses g c =
-    presses_none _ c.args.key c.args.moment c.args.self.now c.take-taken.new.self _ _ _ c.requires.known refl
+    presses_none _ c.args.key c.args.moment c.args.self.now c.take-taken.new.self _ _ _
+    c.requires.known refl
     c.take-taken.ensures.kept c.take-taken.ensures.folder
     (λ room. false≢true (c.in_err-push.ensures.has_room room))
     (ap plain_events c.in_err-push.ensures.err)
@@ -21,7 +22,8 @@ returns-in_err-taken-clause-presses g c =
     let is = c.pressed-event.ensures
     ∙ ap (λ (m : ℤ). KeyPressed c.args.key m) (to_z-of_z c.ranges.moment) in
     let put = put_plain _ _ _ _ c.in_ok-push.ensures.ok is in
-    presses_off _ c.args.key c.args.moment c.args.self.now c.take-taken.new.self _ _ _ c.requires.known refl
+    presses_off _ c.args.key c.args.moment c.args.self.now c.take-taken.new.self _ _ _
+    c.requires.known refl
     c.take-taken.ensures.kept c.take-taken.ensures.folder c.requires.ready put
 
 pub returns-in_err-work_all-clause-presses : goal.returns-in_err-work_all-clause-presses
@@ -29,7 +31,8 @@ returns-in_err-work_all-clause-presses g c =
     let is = c.pressed-event.ensures
     ∙ ap (λ (m : ℤ). KeyPressed c.args.key m) (to_z-of_z c.ranges.moment) in
     let put = put_plain _ _ _ _ c.in_ok-push.ensures.ok is in
-    presses _ c.args.key c.args.moment c.args.self.now c.take-taken.new.self _ _ _ c.requires.known refl
+    presses _ c.args.key c.args.moment c.args.self.now c.take-taken.new.self _ _ _ c.requires.known
+    refl
     c.take-taken.ensures.kept c.take-taken.ensures.folder c.requires.ready put
     c.work_all.new.self _ _
     (arrives_on (plain_session c.args.self.now c.args.trace.now.notes) _
@@ -43,7 +46,8 @@ returns-clause-presses g c =
     let is = c.pressed-event.ensures
     ∙ ap (λ (m : ℤ). KeyPressed c.args.key m) (to_z-of_z c.ranges.moment) in
     let put = put_plain _ _ _ _ c.in_ok-push.ensures.ok is in
-    presses _ c.args.key c.args.moment c.args.self.now c.take-taken.new.self _ _ _ c.requires.known refl
+    presses _ c.args.key c.args.moment c.args.self.now c.take-taken.new.self _ _ _ c.requires.known
+    refl
     c.take-taken.ensures.kept c.take-taken.ensures.folder c.requires.ready put
     c.work_all.new.self _ _
     (arrives_on (plain_session c.args.self.now c.args.trace.now.notes) _
@@ -68,5 +72,6 @@ returns-clause-whole g c =
     c.in_ok-work_all.ensures.settled c.in_ok-work_all.ensures.done
 
 pub work_all-requires-clause-known : goal.work_all-requires-clause-known
-work_all-requires-clause-known g c = known_on _ c.args.self.now c.take-taken.new.self c.args.trace.now _
+work_all-requires-clause-known g c = known_on _ c.args.self.now c.take-taken.new.self
+    c.args.trace.now _
     _ _ c.take-taken.ensures.folder refl (looks_same _) c.requires.known

@@ -7,7 +7,7 @@ use Rattle.session.proofs.session_type.Session.look.Goals as goal
 use Rattle.session.proofs.session_type.Session.look.Goals.{in-Some, in-None}
 
 pub returns-clause-ok : goal.returns-clause-ok
-returns-clause-ok g c at empty =
+returns-clause-ok g c at empty owner =
     let named_is : option_map (λ (b : Bor (List ℕ)). b.now) c.match-self.named
     ≡ option_map (λ (p : Held ℕ). p.items) c.args.self.now.named =
     elim c.match-self.branch [
@@ -18,7 +18,8 @@ returns-clause-ok g c at empty =
           ∙ sym (ap (option_map (λ (p : Held ℕ). p.items)) w.in-None.is)
     ] in record {
       tells = c.open_event.ensures.tells at (empty
-          ∙ sym (c.new_kind-empty.ensures ∙ ap new_kind c.settings-settings.ensures));
+          ∙ sym (c.new_kind-empty.ensures ∙ ap new_kind c.settings-settings.ensures))
+          (owner ∙ sym c.as_slice-owner.ensures);
       answers = c.open_event.ensures.answers
           ∙ ap Open (c.in_ok-name.ensures ∙ c.as_slice-2.ensures.bytes ∙ c.in_ok-path.ensures
           ∙ (λ i. folder_path (c.settings-settings.ensures i) (named_is i)));

@@ -48,37 +48,37 @@ returns-in_err-opening-clause-met g c are =
 pub open-requires-clause-fresh : goal.open-requires-clause-fresh
 open-requires-clause-fresh g c =
     let at = standing_of (plain_session c.args.self.now c.args.trace.now.notes) in
-    let looked = opens_at (to_z-of_z c.ranges.moment) (c.in_ok-opening.ensures.ok at refl) in
+    let looked = opens_at (to_z-of_z c.ranges.moment) (c.in_ok-opening.ensures.ok at refl refl) in
     (opens_it looked c.in-Ok.is c.in-Ok.folder-is).fresh
 
 pub open-requires-clause-met : goal.open-requires-clause-met
 open-requires-clause-met g c =
     let at = standing_of (plain_session c.args.self.now c.args.trace.now.notes) in
-    let looked = opens_at (to_z-of_z c.ranges.moment) (c.in_ok-opening.ensures.ok at refl) in
+    let looked = opens_at (to_z-of_z c.ranges.moment) (c.in_ok-opening.ensures.ok at refl refl) in
     let opened = opens_it looked c.in-Ok.is c.in-Ok.folder-is in
     omega (arith, opened.known.met, opened.fresh.1, c.requires.ready.none)
 
 pub open-requires-clause-forgot : goal.open-requires-clause-forgot
 open-requires-clause-forgot g c =
     let at = standing_of (plain_session c.args.self.now c.args.trace.now.notes) in
-    let looked = opens_at (to_z-of_z c.ranges.moment) (c.in_ok-opening.ensures.ok at refl) in
+    let looked = opens_at (to_z-of_z c.ranges.moment) (c.in_ok-opening.ensures.ok at refl refl) in
     (opens_it looked c.in-Ok.is c.in-Ok.folder-is).forgot
 
 pub open-requires-clause-refused : goal.open-requires-clause-refused
 open-requires-clause-refused g c =
     let at = standing_of (plain_session c.args.self.now c.args.trace.now.notes) in
-    let looked = opens_at (to_z-of_z c.ranges.moment) (c.in_ok-opening.ensures.ok at refl) in
+    let looked = opens_at (to_z-of_z c.ranges.moment) (c.in_ok-opening.ensures.ok at refl refl) in
     (opens_it looked c.in-Ok.is c.in-Ok.folder-is).refused
 
 pub open-requires-clause-checked : goal.open-requires-clause-checked
 open-requires-clause-checked g c =
     let at = standing_of (plain_session c.args.self.now c.args.trace.now.notes) in
-    (opens_it (c.in_ok-opening.ensures.ok at refl) c.in-Ok.is c.in-Ok.folder-is).checked
+    (opens_it (c.in_ok-opening.ensures.ok at refl refl) c.in-Ok.is c.in-Ok.folder-is).checked
 
 pub returns-in_err-open-in-Ok-clause-met : goal.returns-in_err-open-in-Ok-clause-met
 returns-in_err-open-in-Ok-clause-met g c =
     let at = standing_of (plain_session c.args.self.now c.args.trace.now.notes) in
-    let looked = opens_at (to_z-of_z c.ranges.moment) (c.in_ok-opening.ensures.ok at refl) in
+    let looked = opens_at (to_z-of_z c.ranges.moment) (c.in_ok-opening.ensures.ok at refl refl) in
     let put = put_opening _ _ _ _ c.push.result c.in_ok-reserve.ensures.items
     (c.push.ensures.has_room c.in_ok-reserve.ensures.room) c.push.ensures.ok in
     opens_met _ _ looked put
@@ -87,7 +87,7 @@ pub returns-in_err-open-in-Ok-clause-err : goal.returns-in_err-open-in-Ok-clause
 returns-in_err-open-in-Ok-clause-err g c =
     no_memory _ _ c.from_residual-in_err-open-in-Ok.ensures.1 (λ first before sources given is.
     let at = standing_of (plain_session c.args.self.now c.args.trace.now.notes) in
-    let looked = opens_at (to_z-of_z c.ranges.moment) (c.in_ok-opening.ensures.ok at refl) in
+    let looked = opens_at (to_z-of_z c.ranges.moment) (c.in_ok-opening.ensures.ok at refl refl) in
     let put = put_opening _ _ _ _ c.push.result c.in_ok-reserve.ensures.items
     (c.push.ensures.has_room c.in_ok-reserve.ensures.room) c.push.ensures.ok in
     fails_late _ given _ is.first (keeps_then c.open.ensures.kept is.keeps) first
@@ -98,7 +98,7 @@ returns-in_err-open-in-Ok-clause-err g c =
 pub returns-in_ok-open-in-Ok-clause-fits : goal.returns-in_ok-open-in-Ok-clause-fits
 returns-in_ok-open-in-Ok-clause-fits g c =
     let at = standing_of (plain_session c.args.self.now c.args.trace.now.notes) in
-    let looked = opens_at (to_z-of_z c.ranges.moment) (c.in_ok-opening.ensures.ok at refl) in
+    let looked = opens_at (to_z-of_z c.ranges.moment) (c.in_ok-opening.ensures.ok at refl refl) in
     record {
       fits = c.in_ok-open-in-Ok.ensures.fits;
       met = ap (λ (f : OpenFolder). f.met) c.in_ok-open-in-Ok.ensures.folder
@@ -108,7 +108,7 @@ returns-in_ok-open-in-Ok-clause-fits g c =
 pub returns-in_ok-open-in-Ok-clause-known : goal.returns-in_ok-open-in-Ok-clause-known
 returns-in_ok-open-in-Ok-clause-known g c =
     let at = standing_of (plain_session c.args.self.now c.args.trace.now.notes) in
-    let looked = opens_at (to_z-of_z c.ranges.moment) (c.in_ok-opening.ensures.ok at refl) in
+    let looked = opens_at (to_z-of_z c.ranges.moment) (c.in_ok-opening.ensures.ok at refl refl) in
     let opened = opens_it looked c.in-Ok.is c.in-Ok.folder-is in
     open_in _ c.open.new.self _ _ _ c.in_ok-open-in-Ok.ensures.folder opened.known opened.has
     opened.checked refl c.requires.moment
@@ -116,7 +116,7 @@ returns-in_ok-open-in-Ok-clause-known g c =
 pub returns-in_ok-open-in-Ok-clause-met : goal.returns-in_ok-open-in-Ok-clause-met
 returns-in_ok-open-in-Ok-clause-met g c =
     let at = standing_of (plain_session c.args.self.now c.args.trace.now.notes) in
-    let looked = opens_at (to_z-of_z c.ranges.moment) (c.in_ok-opening.ensures.ok at refl) in
+    let looked = opens_at (to_z-of_z c.ranges.moment) (c.in_ok-opening.ensures.ok at refl refl) in
     let put = put_opening _ _ _ _ c.push.result c.in_ok-reserve.ensures.items
     (c.push.ensures.has_room c.in_ok-reserve.ensures.room) c.push.ensures.ok in
     opens_met _ _ looked put
@@ -124,7 +124,7 @@ returns-in_ok-open-in-Ok-clause-met g c =
 pub returns-in_ok-open-in-Ok-clause-ok : goal.returns-in_ok-open-in-Ok-clause-ok
 returns-in_ok-open-in-Ok-clause-ok g c first before sources given is =
     let at = standing_of (plain_session c.args.self.now c.args.trace.now.notes) in
-    let looked = opens_at (to_z-of_z c.ranges.moment) (c.in_ok-opening.ensures.ok at refl) in
+    let looked = opens_at (to_z-of_z c.ranges.moment) (c.in_ok-opening.ensures.ok at refl refl) in
     let opened = opens_it looked c.in-Ok.is c.in-Ok.folder-is in
     let put = put_opening _ _ _ _ c.push.result c.in_ok-reserve.ensures.items
     (c.push.ensures.has_room c.in_ok-reserve.ensures.room) c.push.ensures.ok in
@@ -138,7 +138,7 @@ returns-in_ok-open-in-Ok-clause-ok g c first before sources given is =
 pub returns-in-Err-clause-met : goal.returns-in-Err-clause-met
 returns-in-Err-clause-met g c =
     let at = standing_of (plain_session c.args.self.now c.args.trace.now.notes) in
-    let looked = opens_at (to_z-of_z c.ranges.moment) (c.in_ok-opening.ensures.ok at refl) in
+    let looked = opens_at (to_z-of_z c.ranges.moment) (c.in_ok-opening.ensures.ok at refl refl) in
     let put = put_opening _ _ _ _ c.push.result c.in_ok-reserve.ensures.items
     (c.push.ensures.has_room c.in_ok-reserve.ensures.room) c.push.ensures.ok in
     opens_met _ _ looked put
@@ -146,7 +146,7 @@ returns-in-Err-clause-met g c =
 pub returns-in-Err-clause-err : goal.returns-in-Err-clause-err
 returns-in-Err-clause-err g c first before sources given is =
     let at = standing_of (plain_session c.args.self.now c.args.trace.now.notes) in
-    let looked = opens_at (to_z-of_z c.ranges.moment) (c.in_ok-opening.ensures.ok at refl) in
+    let looked = opens_at (to_z-of_z c.ranges.moment) (c.in_ok-opening.ensures.ok at refl refl) in
     let put = put_opening _ _ _ _ c.push.result c.in_ok-reserve.ensures.items
     (c.push.ensures.has_room c.in_ok-reserve.ensures.room) c.push.ensures.ok in
     rw c.of.ensures

@@ -5,7 +5,7 @@ use Rattle.rc_lang.specs.declared.variable.Variable.TheVariants.{MhPurge}
 use Rattle.session_screen.specs.Tuning.{is_set}
 use Rattle.index_items.specs.Changes.{plain_changes}
 use Rattle.session.specs.declared.session_type.Session.{Session}
-use Rattle.session.proofs.WritingLemmas.{writes}
+use Rattle.session.proofs.WritingLemmas.{syncs_by, writes}
 use Rattle.session.proofs.session_type.Session.write.Goals as goal
 
 pub returns : goal.returns
@@ -17,5 +17,6 @@ returns g c =
     c.take_tried-taken.new.self c.sync-tried.new.self _ c.take_tried-taken.result _ _ refl
     c.event.ensures
     (c.is_set-purges.ensures ∙ ap (λ (values : List PlainValue). is_set values MhPurge)
-    c.settings.ensures) c.sync-tried.ensures c.take_tried-taken.ensures.takes
+    c.settings.ensures) (syncs_by c.as_slice-owner.ensures c.sync-tried.ensures)
+    c.take_tried-taken.ensures.takes
     c.take_tried-taken.ensures.rest c.requires.fits
